@@ -1,0 +1,6 @@
+pub mod Capabilities
+pub mod Classes
+pub mod CpuList
+pub mod Digest
+pub mod Names
+pub mod Refused
