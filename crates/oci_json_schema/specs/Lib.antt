@@ -1,0 +1,12 @@
+pub mod Erased
+pub mod Fits
+pub mod Means
+pub mod Norm
+pub mod Plain
+pub mod Refused
+pub mod Same
+pub mod Shape
+pub mod Types
+pub mod Value
+pub mod WellFormed
+pub mod Writable

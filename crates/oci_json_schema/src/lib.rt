@@ -1,0 +1,4 @@
+//! The model of documents, and what a document type can do.
+#![tactic(auto)]
+
+mod start;
