@@ -1,5 +1,6 @@
 pub mod Erased
 pub mod Fits
+pub mod Found
 pub mod Means
 pub mod Norm
 pub mod Plain

@@ -1,0 +1,6 @@
+pub mod FoundAll
+pub mod Lists
+pub mod Maps
+pub mod Readers
+pub mod Removed
+pub mod Writers
