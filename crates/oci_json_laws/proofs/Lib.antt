@@ -1,0 +1,15 @@
+pub mod Canonical
+pub mod Capabilities
+pub mod Erasing
+pub mod MeaningFits
+pub mod NoFloat
+pub mod NoNullDetail
+pub mod NotNull
+pub mod OneMeaning
+pub mod ReadAgain
+pub mod ReadIsWritable
+pub mod ReadsBack
+pub mod Sorting
+pub mod Stable
+pub mod Unlisted
+pub mod Written
