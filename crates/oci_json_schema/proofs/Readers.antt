@@ -1,17 +1,18 @@
 -- A record's reading, from those of its members.
-use Rattle.std.proofs.Common.{◌≡◌, List, ℕ, Option, Some, None, is_some, Bool, cond, bytes_eq, refl, ◌∙◌, sym, subst, true, false, true≢false}
-use Rattle.std.specs.Prelude.{⊤, if◌then◌else◌, ℤ, ◌≤ℤ◌}
+use Rattle.std.proofs.Common.{◌≡◌, List, ℕ, ℤ, pos, arith, Option, Some, None, is_some, Bool, cond, bytes_eq, refl, ◌∙◌, sym, subst, true, false, true≢false}
+use Rattle.std.specs.Prelude.{⊤, if◌then◌else◌, ◌≤ℤ◌, ◌<ℤ◌, ◌+ℤ◌}
+use Rattle.std.proofs.lemmas.Int.{ints}
 use Rattle.std.proofs.Common.{Result, Ok, Err}
 use Rattle.std.specs.Result.{IfErr, IsErrAnd}
 use Rattle.oci_text_base.specs.Refused.{IsSchema, IsMemoryOrSchema}
 use Rattle.oci_text_base.specs.declared.error.OciSpecError.{OciSpecError}
 use Rattle.std.proofs.lemmas.Slice.Eq.{bytes_eq-Decides}
 use Rattle.serde_json.specs.Data.{Data, null, boolean, number, string, array, object}
-use Rattle.serde_json.specs.Find.{get, as_str, as_null}
+use Rattle.serde_json.specs.Find.{get, as_bool, as_str, as_null}
 use Rattle.oci_text_base.specs.Digest.{IsDigestText}
 use Rattle.oci_json_schema.specs.Plain as plain
 use Rattle.oci_json_schema.specs.Plain.{Plain, Slot, empty, filled, Slots, no_slots, slot}
-use Rattle.oci_json_schema.specs.Shape.{Presence, required, optional, Shape, text, whole, open_name, digest_text, rows, Rows, no_rows, row}
+use Rattle.oci_json_schema.specs.Shape.{Presence, required, optional, Shape, text, truth, whole, open_name, digest_text, rows, Rows, no_rows, row}
 use Rattle.oci_json_schema.specs.Means.{is_object, as_whole, get_second, Means, MeansMember, MeansEither, MeansRows}
 use Rattle.oci_json_schema.specs.Fits.{Fits, FitsRows}
 use Rattle.oci_json_schema.specs.Refused.{IsRefused, IsMemberRefused, Listing, listing, RefusesRecords}
@@ -168,15 +169,22 @@ pub not_text : (d : Data) → None ≡ as_str d → IsRefused text d
 unfolding IsRefused
 not_text d e p m = let k = e ∙ m.1 in cc
 
+pub not_truth : (d : Data) → None ≡ as_bool d → IsRefused truth d
+unfolding IsRefused
+not_truth d e p m = let k = e ∙ m.1 in cc
+
 pub not_whole : (low high : ℤ) (d : Data) → None ≡ as_whole d → IsRefused (whole low high) d
 unfolding IsRefused
 not_whole low high d e p m = let k = e ∙ m.1 in cc
 
-pub not_in_range : (low high z : ℤ) (d : Data) → Some z ≡ as_whole d → (low ≤ℤ z → z ≤ℤ high → ⊥) → IsRefused (whole low high) d
+-- a whole number outside of the range
+pub out_of_range : (low high top z : ℤ) (d : Data) → ((low ≤ℤ z) × (z <ℤ top) → ⊥) → Some z ≡ as_whole d → top ≡ high +ℤ pos 1 → IsRefused (whole low high) d
 unfolding IsRefused
-not_in_range low high z d e out p m =
+out_of_range low high top z d out e next p m =
     let same : z ≡ m.0 = (let k = e ∙ m.1 in cc) in
-    out (subst (λ y. low ≤ℤ y) (sym same) m.3) (subst (λ y. y ≤ℤ high) (sym same) m.4)
+    let l : low ≤ℤ z = subst (λ y. low ≤ℤ y) (sym same) m.3 in
+    let h : z ≤ℤ high = subst (λ y. y ≤ℤ high) (sym same) m.4 in
+    out (l, omega (arith, ints))
 
 pub no_name : (table : List (List ℕ)) (d : Data) → None ≡ as_str d → IsRefused (open_name table) d
 unfolding IsRefused

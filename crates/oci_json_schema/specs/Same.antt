@@ -1,14 +1,17 @@
 -- Values are equal exactly if their plain trees are.
-use Rattle.std.proofs.Common.{◌≡◌, ℕ, List, [], ◌∷◌, Bool, true, false, Option, Some, None, String, Vec, Global, bytes_eq, string_bytes, refl, sym, ap, ◌∙◌, eqb-true, eq-eqb}
+use Rattle.std.proofs.Common.{◌≡◌, ℕ, ℤ, List, [], ◌∷◌, Bool, true, false, Option, Some, None, String, Vec, Global, bytes_eq, string_bytes, refl, sym, ap, ◌∙◌, eqb-true, eq-eqb}
 use Rattle.std.specs.Prelude.{◌↔◌, ◌==◌, ◌&&◌, pos, map, option_map}
+use Rattle.std.specs.Bool.{beq}
+use Rattle.std.specs.Ordering.{int_eq}
 use Rattle.std.specs.BTreeMap.{BTreeMap}
 use Rattle.std.specs.Cmp.Lexicographic.{pointwise}
 use Rattle.std.specs.Option.{option_eq}
+use Rattle.std.proofs.lemmas.Bool.Decides.{Decides-int_eq}
 use Rattle.std.proofs.lemmas.Slice.Eq.{bytes_eq-Decides}
 use Rattle.oci_text_base.specs.Names.{Name, variant, other, name_eq, name_eq-Decides}
 use Rattle.oci_json_schema.specs.Plain as plain
 use Rattle.oci_json_schema.specs.Plain.{Plain, Slot, filled, Slots, no_slots, slot, plains, entries}
-use Rattle.oci_json_schema.specs.Types.{text_plain, number_plain, name_plain, list_plain, map_plain, given, perhaps}
+use Rattle.oci_json_schema.specs.Types.{truth_plain, integer_plain, variant_plain, text_plain, number_plain, name_plain, list_plain, map_plain, given, perhaps}
 
 -- the test is true exactly where the plain trees are equal
 abbrev pub Agrees : {T : Type 0} → (T → T → Bool) → (T → Plain) → Type 0
@@ -22,6 +25,20 @@ same_bytes x y = (λ e. ap plain.text ((bytes_eq-Decides x y).0 e), λ e. (bytes
 
 pub same_numbers : (x y : ℕ) → ((x == y) ≡ true) ↔ (number_plain x ≡ number_plain y)
 same_numbers x y = (λ e. ap number_plain (eqb-true x y e), λ e. eq-eqb x y (cc))
+
+pub same_integers : (x y : ℤ) → (int_eq x y ≡ true) ↔ (integer_plain x ≡ integer_plain y)
+same_integers x y = (λ e. ap integer_plain ((Decides-int_eq x y).0 e), λ e. (Decides-int_eq x y).1 (cc))
+
+pub same_truths : (x y : Bool) → (beq x y ≡ true) ↔ (truth_plain x ≡ truth_plain y)
+same_truths true true = (λ e. refl, λ e. refl)
+same_truths true false = (λ e. cc, λ e. cc)
+same_truths false true = (λ e. cc, λ e. cc)
+same_truths false false = (λ e. refl, λ e. refl)
+
+-- of a closed name, whose variants are equal exactly if their texts are
+pub same_variants : {T : Type 0} {eq : T → T → Bool} {name : T → List ℕ} → ((x y : T) → (eq x y ≡ true) ↔ (name x ≡ name y))
+    → (x y : T) → (eq x y ≡ true) ↔ (variant_plain name x ≡ variant_plain name y)
+same_variants same x y = (λ e. ap plain.variant ((same x y).0 e), λ e. (same x y).1 (cc))
 
 same_name : (n m : Name) → name_plain n ≡ name_plain m → n ≡ m
 same_name (variant s) (variant t) e = ap variant (cc)

@@ -10,6 +10,7 @@ pub mod owned;
 pub mod record;
 pub mod split;
 pub mod text;
+pub mod truth;
 
 pub use member::copy_optional;
 pub use member::optional;
