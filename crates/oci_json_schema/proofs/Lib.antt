@@ -1,6 +1,7 @@
 pub mod FoundAll
 pub mod Lists
 pub mod Maps
+pub mod NoFloat
 pub mod Readers
 pub mod Removed
 pub mod Writers

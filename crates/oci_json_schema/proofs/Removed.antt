@@ -107,6 +107,6 @@ taken_more all now later ts i d found r below distinct h here rest =
     record {
       taken = rw (more, map-append, map-append, h.taken, here, h.others x.now (first_time ts i d below distinct)) refl;
       others = λ q k.
-        let b = before (take i ts) x q (subst (λ us. is_listed (texts us) q ≡ false) more k) in
-        rest q b.1 ∙ h.others q b.0
+          let b = before (take i ts) x q (subst (λ us. is_listed (texts us) q ≡ false) more k) in
+          rest q b.1 ∙ h.others q b.0;
     }

@@ -12,19 +12,9 @@ pub mod split;
 pub mod text;
 pub mod truth;
 
-pub use member::copy_optional;
-pub use member::optional;
-pub use member::optional_either;
-pub use member::required;
-pub use member::write_optional;
-pub use member::write_required;
-pub use owned::Found;
-pub use owned::optional_either_owned;
-pub use owned::optional_owned;
-pub use owned::required_owned;
-pub use owned::taken;
-pub use record::OciMember;
-pub use record::OciRecord;
-pub use split::split_2;
-pub use split::split_7;
-pub use split::split_8;
+pub use member::{
+    copy_optional, optional, optional_either, required, write_optional, write_required,
+};
+pub use owned::{Found, optional_either_owned, optional_owned, required_owned, taken};
+pub use record::{OciMember, OciRecord};
+pub use split::{split_2, split_7, split_8};

@@ -33,7 +33,7 @@ loop-item-preserved g c =
     record {
       written = rw (pushed, more) (values_more (value s) f c.loop-item.written.items done w x i.written told.ok);
       fits = rw more (all_more (Fits s) f done x i.fits told.fits);
-      writable = rw more (all_more (Writable s) f done x i.writable told.writable)
+      writable = rw more (all_more (Writable s) f done x i.writable told.writable);
     }
 
 pub returns-clause-ok : goal.returns-clause-ok

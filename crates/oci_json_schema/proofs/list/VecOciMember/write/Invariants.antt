@@ -12,5 +12,5 @@ invariant-loop-item g l =
     record {
       written : items_view l.written.items ≡ each_value (value g.T.OciMember.shape) done;
       fits : Each (Fits g.T.OciMember.shape) done;
-      writable : Each (Writable g.T.OciMember.shape) done
+      writable : Each (Writable g.T.OciMember.shape) done;
     }

@@ -1,0 +1,28 @@
+-- The texts of a document's value.
+use Rattle.std.proofs.Common.{◌≡◌, ◌≤◌, List, ℕ, Some, false, subst, sym}
+use Rattle.json.specs.Layout.{pretty}
+use Rattle.json.specs.Lex.{tokens}
+use Rattle.serde_json.specs.Data.{Data, depth}
+use Rattle.serde_json.specs.Read.{read, max_depth}
+use Rattle.serde_json.specs.Written.{has_float, compact_text, IsInOrder}
+use Rattle.oci_json_schema.specs.Plain.{Plain}
+use Rattle.oci_json_schema.specs.Shape.{Shape}
+use Rattle.oci_json_schema.specs.Value.{value}
+use Rattle.oci_json_schema.specs.Writable.{Writable}
+use Rattle.oci_json_schema.proofs.NoFloat.{none_written}
+use Rattle.oci_json_engines.specs.Engines.{IsPretty, ReadsBack}
+
+-- the value of a writable document holds 64-bit whole numbers alone
+pub none_in : (s : Shape) (p : Plain) (d : Data) → d ≡ value s p → Writable s p → has_float d ≡ false
+none_in s p d e h = subst (λ c. has_float c ≡ false) (sym e) (none_written s p h)
+
+-- its compact text is read as it again
+pub read_back : (s : Shape) (p : Plain) (d : Data) (t : List ℕ) → d ≡ value s p → Writable s p → (has_float d ≡ false → t ≡ compact_text d)
+    → (depth d ≤ max_depth → read t ≡ Some d) → ReadsBack (value s p)
+read_back s p d t e h text back =
+    let same = text (none_in s p d e h) in
+    subst ReadsBack e (λ shallow. subst (λ u. read u ≡ Some d) same (back shallow))
+
+-- its pretty text
+pub is_pretty : (c d : Data) (t : List ℕ) → d ≡ c → t ≡ pretty (tokens t) → IsInOrder t d → (depth d ≤ max_depth → read t ≡ Some d) → IsPretty c t
+is_pretty c d t e layout order back = subst (λ b. IsPretty b t) e (record { layout = layout; order = order; reads_back = back })

@@ -1,0 +1,12 @@
+//! From bytes to documents and back: readers, writers and files.
+#![tactic(auto)]
+
+pub mod file;
+pub mod normal;
+pub mod reading;
+pub mod writing;
+
+pub use file::{from_file, to_file, to_file_pretty};
+pub use normal::normalize;
+pub use reading::{from_reader, from_slice};
+pub use writing::{to_string, to_string_pretty, to_writer, to_writer_pretty, write_text};
