@@ -12,24 +12,27 @@ use Rattle.oci_json_schema.specs.Writable.{Writable}
 use Rattle.oci_json_schema.specs.WellFormed.{WellFormed}
 use Rattle.oci_json_laws.specs.Details.{HasNoNullDetail}
 use Rattle.oci_json_laws.proofs.OneMeaning as meaning
-use Rattle.oci_json_laws.proofs.MeaningFits.{allowed}
+use Rattle.oci_json_laws.proofs.Meanings.{allowed}
 use Rattle.oci_json_laws.proofs.ReadsBack.{read_back, never_null}
 use Rattle.oci_json_laws.proofs.Stable.{stable, same_value}
 use Rattle.oci_json_laws.proofs.NoNullDetail.{meaning_has_no_null}
 
 -- the written value means the normal form
-means_norm : (s : Shape) (p : Plain) → WellFormed s → Fits s p → Writable s p → Means s (value s p) (norm s p)
+pub means_norm : (s : Shape) (p : Plain) → WellFormed s → Fits s p → Writable s p → Means s (value s p) (norm s p)
 means_norm s p well fits writable = read_back s (allowed s well) p fits writable (never_null s p well)
 
+-- it means nothing else
 pub reads_back : (s : Shape) (p q : Plain) → WellFormed s → Fits s p → Writable s p → Means s (value s p) q ↔ (q ≡ norm s p)
 reads_back s p q well fits writable =
     let m = means_norm s p well fits writable in
     (λ h. meaning.one_meaning s (value s p) q (norm s p) h m, λ e. subst (Means s (value s p)) (sym e) m)
 
+-- the normal form is stable
 pub norm_stable : (s : Shape) (p : Plain) → WellFormed s → Fits s p → Writable s p
     → Fits s (norm s p) × Writable s (norm s p) × (norm s (norm s p) ≡ norm s p)
 norm_stable s p well fits writable = stable s (allowed s well) p fits writable
 
+-- equal values have one normal form, and equal normal forms one value
 pub values_apart : (s : Shape) (p q : Plain) → WellFormed s → Fits s p → Fits s q → Writable s p → Writable s q
     → HasNoNullDetail s p → HasNoNullDetail s q
     → (value s p ≡ value s q) ↔ (norm s p ≡ norm s q)
@@ -41,6 +44,7 @@ values_apart s p q well fits_p fits_q writable_p writable_q other_p other_q =
       λ e. sym (same_value s may p writable_p other_p) ∙ ap (value s) e ∙ same_value s may q writable_q other_q,
     )
 
+-- the normal form has the same value
 pub twice_is_once : (s : Shape) (v : Data) (p : Plain) → WellFormed s → Means s v p → Writable s p
     → value s (norm s p) ≡ value s p
 twice_is_once s v p well means writable =

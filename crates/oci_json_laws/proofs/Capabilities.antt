@@ -10,13 +10,16 @@ use Rattle.oci_text_base.specs.Names.{is_listed, no_text_twice}
 use Rattle.oci_json_schema.specs.Means.{IsCapability, AreCapabilities, SomeIs, IsSetOf}
 use Rattle.oci_json_schema.specs.Value.{capability_texts}
 
+-- the uppercase of a text and a text
 upper-append : (s t : List ℕ) → map ascii_upper (s ++ t) ≡ map ascii_upper s ++ map ascii_upper t
 upper-append [] t = refl
 upper-append (x ∷ s) t = ap (λ ys. ascii_upper x ∷ ys) (upper-append s t)
 
+-- what `CAP_` stands in front of begins with it
 begins : (t : List ℕ) → starts_with nat_eq (cap ++ t) cap ≡ true
 begins t = refl
 
+-- `CAP_` is taken off alike
 behind : (s t : List ℕ) → cap ++ s ≡ cap ++ t → s ≡ t
 behind s t e = cc
 
@@ -24,16 +27,19 @@ behind s t e = cc
 IsName : List ℕ → Type 0
 IsName name = (starts_with nat_eq name cap ≡ false) × (map ascii_upper name ≡ name)
 
+-- from the test of a table
 is_name : (name : List ℕ) → is_capability_name name ≡ true → IsName name
 unfolding IsName
 is_name name e =
     let b = and_parts (not (starts_with nat_eq name cap)) (bytes_eq (map ascii_upper name) name) e in
     (not-true (starts_with nat_eq name cap) b.0, (bytes_eq-Decides (map ascii_upper name) name).0 b.1)
 
+-- a name has no `CAP_` in front
 no_cap : (name t : List ℕ) → IsName name → name ≡ cap ++ t → ⊥
 unfolding IsName
 no_cap name t is e = true≢false (sym (begins t) ∙ sym (ap (λ n. starts_with nat_eq n cap) e) ∙ is.0)
 
+-- `CAP_` any number of times in front of a name gives the name back
 one_name : (m n : List ℕ) (k : ℕ) → IsName m → IsName n → cap ++ m ≡ repeated k cap ++ n → m ≡ n
 one_name m n zero is_m is_n e = absurd (no_cap n m is_n (sym e))
 one_name m n (suc zero) is_m is_n e = behind m n e
@@ -47,10 +53,12 @@ Chosen (t ∷ table) [] name = ⊥
 Chosen (t ∷ table) (true ∷ bs) name = (name ≡ t) ⊎ Chosen table bs name
 Chosen (t ∷ table) (false ∷ bs) name = Chosen table bs name
 
+-- the text of a name is of that name
 of_its_text : (t : List ℕ) → IsName t → IsCapability (string (cap ++ t)) t
 unfolding IsName
 of_its_text t is = (cap ++ t, refl, (1, upper-append cap t ∙ ap (λ u. cap ++ u) is.1))
 
+-- and of no other
 of_one_name : (t name : List ℕ) → IsName t → IsName name → IsCapability (string (cap ++ t)) name → name ≡ t
 unfolding IsName
 of_one_name t name is_t is_n c =
@@ -58,6 +66,7 @@ of_one_name t name is_t is_n c =
     let upper : map ascii_upper (cap ++ t) ≡ cap ++ t = upper-append cap t ∙ ap (λ u. cap ++ u) is_t.1 in
     sym (one_name t name c.2.0 is_t is_n (sym upper ∙ ap (map ascii_upper) same ∙ c.2.1))
 
+-- a name in the set has a text that is written
 some_if_chosen : (table : List (List ℕ)) (bs : List Bool) (name : List ℕ) → IsName name → Chosen table bs name → SomeIs (capability_texts table bs) name
 some_if_chosen [] bs name is h = absurd h
 some_if_chosen (t ∷ table) [] name is h = absurd h
@@ -65,6 +74,7 @@ some_if_chosen (t ∷ table) (true ∷ bs) name is (inl e) = inl (subst (λ n. I
 some_if_chosen (t ∷ table) (true ∷ bs) name is (inr h) = inr (some_if_chosen table bs name is h)
 some_if_chosen (t ∷ table) (false ∷ bs) name is h = some_if_chosen table bs name is h
 
+-- a name with a text that is written is in the set
 chosen_if_some : (table : List (List ℕ)) (bs : List Bool) (name : List ℕ) → list_all is_capability_name table ≡ true → IsName name
     → SomeIs (capability_texts table bs) name → Chosen table bs name
 chosen_if_some [] bs name all is h = absurd h
@@ -73,6 +83,7 @@ chosen_if_some (t ∷ table) (true ∷ bs) name all is (inl c) = inl (of_one_nam
 chosen_if_some (t ∷ table) (true ∷ bs) name all is (inr h) = inr (chosen_if_some table bs name (and_parts (is_capability_name t) _ all).1 is h)
 chosen_if_some (t ∷ table) (false ∷ bs) name all is h = chosen_if_some table bs name (and_parts (is_capability_name t) _ all).1 is h
 
+-- a name in the set is in the table
 chosen_is_listed : (table : List (List ℕ)) (bs : List Bool) (name : List ℕ) → Chosen table bs name → is_listed table name ≡ true
 chosen_is_listed [] bs name h = absurd h
 chosen_is_listed (t ∷ table) [] name h = absurd h
@@ -117,6 +128,7 @@ are_listed full (t ∷ table) (true ∷ bs) all h =
 are_listed full (t ∷ table) (false ∷ bs) all h =
     are_listed full table bs (and_parts (is_capability_name t) _ all).1 (λ name is. h name (or_right (bytes_eq name t) _ is))
 
+-- each name of the table passes its test
 all_hold : (table : List (List ℕ)) (name : List ℕ) → list_all is_capability_name table ≡ true → is_listed table name ≡ true → is_capability_name name ≡ true
 all_hold [] name all is = absurd (true≢false (sym is))
 all_hold (t ∷ table) name all is = here (bytes_eq name t) refl is (all_hold table name (and_parts (is_capability_name t) _ all).1)
@@ -125,6 +137,7 @@ all_hold (t ∷ table) name all is = here (bytes_eq name t) refl is (all_hold ta
     here true e k rest = subst (λ n. is_capability_name n ≡ true) (sym ((bytes_eq-Decides name t).0 e)) (and_parts (is_capability_name t) _ all).0
     here false e k rest = rest k
 
+-- the texts that are written are of the table, and of the set
 pub set_read : (table : List (List ℕ)) (bs : List Bool) → (no_text_twice table && list_all is_capability_name table) ≡ true → length bs ≡ length table
     → AreCapabilities table (capability_texts table bs) × IsSetOf table (capability_texts table bs) bs
 set_read table bs well e =

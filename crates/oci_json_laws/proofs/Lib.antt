@@ -1,9 +1,14 @@
 pub mod Canonical
 pub mod Capabilities
+pub mod Depths
 pub mod Erasing
+pub mod MeaningDepth
 pub mod MeaningFits
+pub mod MeaningTrees
+pub mod Meanings
 pub mod NoFloat
 pub mod NoNullDetail
+pub mod NormalText
 pub mod NotNull
 pub mod OneMeaning
 pub mod ReadAgain
@@ -11,5 +16,6 @@ pub mod ReadIsWritable
 pub mod ReadsBack
 pub mod Sorting
 pub mod Stable
+pub mod Trees
 pub mod Unlisted
 pub mod Written

@@ -14,29 +14,35 @@ use Rattle.oci_json_schema.specs.Fits.{Each, EachEntry, IfFilled}
 use Rattle.oci_json_schema.specs.Value.{value, capability_texts, sorted, empty_objects, each_value, each_entry_value, is_empty_array, member_value, with_member, with_rows}
 use Rattle.oci_json_schema.specs.Writable.{Writable, AreWritable}
 
+-- a whole number is none
 integer : (z : ℤ) → is_float (of_integer z) ≡ false
 integer (pos n) = refl
 integer (negsuc n) = refl
 
+-- texts hold none
 texts : (table : List (List ℕ)) (bs : List Bool) → items_have_float (capability_texts table bs) ≡ false
 texts [] bs = refl
 texts (t ∷ table) [] = refl
 texts (t ∷ table) (true ∷ bs) = texts table bs
 texts (t ∷ table) (false ∷ bs) = texts table bs
 
+-- empty objects hold none
 objects : (ks : List (List ℕ)) → members_have_float (empty_objects ks) ≡ false
 objects [] = refl
 objects (k ∷ ks) = objects ks
 
+-- a list of what holds none
 each : (W : Plain → Type 0) (v : Plain → Data) → ((p : Plain) → W p → has_float (v p) ≡ false) → (ps : Plains) → Each W ps → items_have_float (each_value v ps) ≡ false
 each W v f no_plains w = refl
 each W v f (plain.plain p ps) w = or_from _ _ (f p w.0) (each W v f ps w.1)
 
+-- a map of what holds none
 each_in_map : (W : Plain → Type 0) (v : Plain → Data) → ((p : Plain) → W p → has_float (v p) ≡ false) → (es : Entries) → EachEntry W es
     → members_have_float (each_entry_value v es) ≡ false
 each_in_map W v f no_entries w = refl
 each_in_map W v f (entry k p es) w = or_from _ _ (f p w.0) (each_in_map W v f es w.1)
 
+-- an object with one more member that holds none
 put_none : (k : List ℕ) (d : Data) (ms : Members) → has_float d ≡ false → members_have_float ms ≡ false → members_have_float (put k d ms) ≡ false
 put_none k d no_members e f = or_from _ _ e f
 put_none k d (member l c ms) e f = here (slice_cmp nat_cmp k l) (put_none k d ms e (or_parts (has_float c) (members_have_float ms) f).1)
@@ -46,18 +52,22 @@ put_none k d (member l c ms) e f = here (slice_cmp nat_cmp k l) (put_none k d ms
     here Equal rest = or_from _ _ e (or_parts (has_float c) (members_have_float ms) f).1
     here Greater rest = or_from _ _ (or_parts (has_float c) (members_have_float ms) f).0 rest
 
+-- what may be written holds none
 abbrev NoneIn : Option Data → Type 0
 NoneIn None = ⊤
 NoneIn (Some d) = has_float d ≡ false
 
+-- an object with what may be written
 put_member : (k : List ℕ) (o : Option Data) (ms : Members) → NoneIn o → members_have_float ms ≡ false → members_have_float (with_member k o ms) ≡ false
 put_member k None ms e f = f
 put_member k (Some d) ms e f = put_none k d ms e f
 
+-- written or omitted
 either : (b : Bool) (d : Data) → has_float d ≡ false → NoneIn (cond b None (Some d))
 either true d e = tt
 either false d e = e
 
+-- what is written for a listed member
 in_member : (presence : Presence) (W : Plain → Type 0) (v : Plain → Data) → ((p : Plain) → W p → has_float (v p) ≡ false) → (x : Slot) → IfFilled W x → NoneIn (member_value presence v x)
 in_member required W v f empty w = tt
 in_member required W v f (filled p) w = f p w
@@ -70,6 +80,7 @@ in_member nullable W v f (filled p) w = f p w
 in_member unless_empty W v f empty w = tt
 in_member unless_empty W v f (filled p) w = either (is_empty_array (v p)) (v p) (f p w)
 
+-- shape by shape
 mutual
   pub none_written : (s : Shape) (p : Plain) → Writable s p → has_float (value s p) ≡ false
   none_written text p w = refl

@@ -1,97 +1,69 @@
--- What JSON means has no `detail` that reads as null.
-use Rattle.std.proofs.Common.{ℕ, List, Option, Some, None, sym, subst}
-use Rattle.std.specs.Prelude.{◌≢◌, option_and_then}
-use Rattle.serde_json.specs.Data.{Data, null, Items, no_items, item, Members, no_members, member}
+-- What a tree means has no `detail` that reads as null.
+use Rattle.std.proofs.Common.{ℕ, List, Some, sym, subst}
+use Rattle.std.specs.Prelude.{◌≢◌}
+use Rattle.serde_json.specs.Data.{Data, null}
 use Rattle.serde_json.specs.Find.{get}
 use Rattle.serde_json.specs.Read.{read}
-use Rattle.oci_json_schema.specs.Plain as plain
-use Rattle.oci_json_schema.specs.Plain.{Plain, Plains, no_plains, Entries, no_entries, entry, Slot, empty, filled, Slots, no_slots, slot, text_of, list_of, map_of, document_of}
+use Rattle.oci_json_schema.specs.Plain.{Plain, Slots, no_slots, slot, text_of, list_of, map_of, document_of}
 use Rattle.oci_json_schema.specs.Shape.{Presence, required, defaulted, optional, nullable, unless_empty, Shape, text, truth, whole, named, open_name, digest_text, cpu_text, cap_set, list, map, key_set, detail, free_map, rows, Rows, no_rows, row}
-use Rattle.oci_json_schema.specs.Fits.{Each, EachEntry, IfFilled}
-use Rattle.oci_json_schema.specs.Means.{unless_null, EachMeans, EachEntryMeans, IsThere, IsThereOr, MeansMember, get_second, MeansEither, Means, MeansRows}
+use Rattle.oci_json_schema.specs.Fits.{Each, EachEntry}
+use Rattle.oci_json_schema.specs.Means.{get_second, Means, MeansRows}
 use Rattle.oci_json_schema.specs.Value.{value}
 use Rattle.oci_json_schema.specs.WellFormed.{WellFormed, AreWellFormed, MemberIsWellFormed}
 use Rattle.oci_json_laws.specs.Details.{EachDetailOf, HasNoNullDetail}
-use Rattle.oci_json_laws.proofs.MeaningFits.{MayBe, may_be, only_list}
+use Rattle.oci_json_laws.proofs.Meanings.{MayBe, may_be, allowed, of_member, any_items, any_members, IsAny, IfDefault, Gives, each_meant, each_entry_meant, either_meant, if_there, got_of, second_of}
 use Rattle.oci_json_laws.proofs.ReadsBack.{read_back, never_null}
 use Rattle.oci_json_laws.proofs.NotNull.{null_alone}
 
+-- the text does not read as null
 abbrev NotNullText : List ℕ → Type 0
 NotNullText t = read t ≢ Some null
 
--- ---- in what JSON means
+-- a default is what its own value means
+default_has_none : (presence : Presence) (s : Shape) → MemberIsWellFormed presence s (WellFormed s) → Gives IsAny (Means s) (HasNoNullDetail s) → IfDefault (HasNoNullDetail s) presence
+default_has_none required s w f = tt
+default_has_none (defaulted q) s w f =
+    f (value s q) q tt (subst (Means s (value s q)) w.3 (read_back s (allowed s w.0) q w.1 w.2 (never_null s q w.0)))
+default_has_none optional s w f = tt
+default_has_none nullable s w f = tt
+default_has_none unless_empty s w f = tt
 
-each_meant : (M : Data → Plain → Type 0) (D : Plain → Type 0) → ((d : Data) (p : Plain) → M d p → D p) → (ds : Items) (ps : Plains) → EachMeans M ds ps → Each D ps
-each_meant M D f no_items no_plains h = tt
-each_meant M D f no_items (plain.plain p ps) h = absurd h
-each_meant M D f (item d ds) no_plains h = absurd h
-each_meant M D f (item d ds) (plain.plain p ps) h = (f d p h.0, each_meant M D f ds ps h.1)
-
-each_entry_meant : (M : Data → Plain → Type 0) (D : Plain → Type 0) → ((d : Data) (p : Plain) → M d p → D p) → (ms : Members) (es : Entries) → EachEntryMeans M ms es → EachEntry D es
-each_entry_meant M D f no_members no_entries h = tt
-each_entry_meant M D f no_members (entry k p es) h = absurd h
-each_entry_meant M D f (member l d ms) no_entries h = absurd h
-each_entry_meant M D f (member l d ms) (entry k p es) h = (f d p h.1, each_entry_meant M D f ms es h.2)
-
-there_meant : (M : Data → Plain → Type 0) (D : Plain → Type 0) → ((d : Data) (p : Plain) → M d p → D p) → (found : Option Data) (x : Slot) → IsThere M found x → IfFilled D x
-there_meant M D f None x h = absurd h
-there_meant M D f (Some d) empty h = tt
-there_meant M D f (Some d) (filled p) h = f d p h
-
-there_or_meant : (M : Data → Plain → Type 0) (D : Plain → Type 0) → ((d : Data) (p : Plain) → M d p → D p) → (found : Option Data) (x : Slot) → IsThereOr empty M found x → IfFilled D x
-there_or_meant M D f None x h = subst (IfFilled D) (sym h) tt
-there_or_meant M D f (Some d) x h = there_meant M D f (Some d) x h
-
-member_meant : (presence : Presence) (s : Shape) → MemberIsWellFormed presence s (WellFormed s)
-    → (MayBe s → (d : Data) (p : Plain) → Means s d p → HasNoNullDetail s p)
-    → (found : Option Data) (x : Slot) → MeansMember presence (Means s) found x → IfFilled (HasNoNullDetail s) x
-unfolding MayBe
-member_meant required s w f found x h = there_meant (Means s) (HasNoNullDetail s) (f (may_be s (WellFormed s) w)) found x h
-member_meant (defaulted q) s w f None x h =
-    let read = read_back s (may_be s (WellFormed s) w.0) q w.1 w.2 (never_null s q w.0) in
-    subst (IfFilled (HasNoNullDetail s)) (sym h) (f (may_be s (WellFormed s) w.0) (value s q) q (subst (Means s (value s q)) w.3 read))
-member_meant (defaulted q) s w f (Some d) x h = there_meant (Means s) (HasNoNullDetail s) (f (may_be s (WellFormed s) w.0)) (Some d) x h
-member_meant optional s w f found x h = there_or_meant (Means s) (HasNoNullDetail s) (f w) (option_and_then unless_null found) x h
-member_meant nullable s w f found x h =
-    there_or_meant (Means s) (HasNoNullDetail s) (f (may_be s (WellFormed s) w)) (option_and_then unless_null found) x h
-member_meant unless_empty s w f found x h =
-    there_or_meant (Means s) (HasNoNullDetail s) (f (may_be s (WellFormed s) (only_list s (WellFormed s) w))) (option_and_then unless_null found) x h
-
-either_meant : (presence : Presence) (s : Shape) → MemberIsWellFormed presence s (WellFormed s)
-    → (MayBe s → (d : Data) (p : Plain) → Means s d p → HasNoNullDetail s p)
-    → (found second : Option Data) (x : Slot) → MeansEither presence (Means s) found second x → IfFilled (HasNoNullDetail s) x
-either_meant presence s w f found None x h = member_meant presence s w f found x h
-either_meant presence s w f None (Some d) x h = member_meant presence s w f (Some d) x h
-either_meant presence s w f (Some c) (Some d) x h = absurd h
-
+-- shape by shape
 mutual
   unfolding MayBe
 
-  meant : (s : Shape) → MayBe s → (d : Data) (p : Plain) → Means s d p → HasNoNullDetail s p
-  meant text may d p h = tt
-  meant truth may d p h = tt
-  meant (whole low high) may d p h = tt
-  meant (named table) may d p h = tt
-  meant (open_name table) may d p h = tt
-  meant digest_text may d p h = tt
-  meant cpu_text may d p h = tt
-  meant (cap_set table) may d p h = tt
-  meant (list s) may d p h =
-      subst (λ p. Each (HasNoNullDetail s) (list_of p)) (sym h.3) (each_meant (Means s) (HasNoNullDetail s) (λ d p. meant s (may_be s (WellFormed s) may) d p) h.0 h.1 h.4)
-  meant (map s) may d p h =
-      subst (λ p. EachEntry (HasNoNullDetail s) (map_of p)) (sym h.3) (each_entry_meant (Means s) (HasNoNullDetail s) (λ d p. meant s (may_be s (WellFormed s) may) d p) h.0 h.1 h.4)
-  meant key_set may d p h = tt
-  meant detail may d p h = subst (λ p. NotNullText (text_of p)) (sym h.2) (null_alone d h.1 h.0)
-  meant free_map may d p h = tt
-  meant (rows rs) may d p h = subst (λ p. EachDetailOf NotNullText rs (document_of p)) (sym h.2) (rows_meant rs may.1 d h.0 h.3)
+  has_none : (s : Shape) → MayBe s → (d : Data) (p : Plain) → IsAny d → Means s d p → HasNoNullDetail s p
+  has_none text may d p r h = tt
+  has_none truth may d p r h = tt
+  has_none (whole low high) may d p r h = tt
+  has_none (named table) may d p r h = tt
+  has_none (open_name table) may d p r h = tt
+  has_none digest_text may d p r h = tt
+  has_none cpu_text may d p r h = tt
+  has_none (cap_set table) may d p r h = tt
+  has_none (list s) may d p r h =
+      subst (λ p. Each (HasNoNullDetail s) (list_of p)) (sym h.3)
+      (each_meant IsAny (Means s) (HasNoNullDetail s) (λ d p. has_none s (may_be s (WellFormed s) may) d p) h.0 h.1 (any_items h.0) h.4)
+  has_none (map s) may d p r h =
+      subst (λ p. EachEntry (HasNoNullDetail s) (map_of p)) (sym h.3)
+      (each_entry_meant IsAny (Means s) (HasNoNullDetail s) (λ d p. has_none s (may_be s (WellFormed s) may) d p) h.0 h.1 (any_members h.0) h.4)
+  has_none key_set may d p r h = tt
+  has_none detail may d p r h = subst (λ p. NotNullText (text_of p)) (sym h.2) (null_alone d h.1 h.0)
+  has_none free_map may d p r h = tt
+  has_none (rows rs) may d p r h = subst (λ p. EachDetailOf NotNullText rs (document_of p)) (sym h.2) (rows_have_none rs may.1 d h.0 h.3)
 
-  rows_meant : (rs : Rows) → AreWellFormed rs → (d : Data) (xs : Slots) → MeansRows rs d xs → EachDetailOf NotNullText rs xs
-  rows_meant no_rows well d no_slots h = tt
-  rows_meant no_rows well d (slot x xs) h = absurd h
-  rows_meant (row name second presence s rs) well d no_slots h = absurd h
-  rows_meant (row name second presence s rs) well d (slot x xs) h =
-      (either_meant presence s well.0 (λ may d p. meant s may d p) (get name d) (get_second second d) x h.0, rows_meant rs well.1 d xs h.1)
+  rows_have_none : (rs : Rows) → AreWellFormed rs → (d : Data) (xs : Slots) → MeansRows rs d xs → EachDetailOf NotNullText rs xs
+  rows_have_none no_rows w d no_slots h = tt
+  rows_have_none no_rows w d (slot x xs) h = absurd h
+  rows_have_none (row name second presence s rs) w d no_slots h = absurd h
+  rows_have_none (row name second presence s rs) w d (slot x xs) h = (
+    let f : Gives IsAny (Means s) (HasNoNullDetail s) = λ d p. has_none s (of_member presence s w.0) d p in
+        if_there (HasNoNullDetail s) presence x
+        (either_meant IsAny (Means s) (HasNoNullDetail s) f presence (default_has_none presence s w.0 f) (get name d) (get_second second d) x
+        (got_of IsAny name d (λ ms e. any_members ms)) (second_of IsAny second d (λ ms e. any_members ms)) h.0),
+    rows_have_none rs w.1 d xs h.1,
+  )
 
+-- of a well-formed shape
 pub meaning_has_no_null : (s : Shape) (d : Data) (p : Plain) → WellFormed s → Means s d p → HasNoNullDetail s p
-unfolding MayBe
-meaning_has_no_null s d p w h = meant s (may_be s (WellFormed s) w) d p h
+meaning_has_no_null s d p w h = has_none s (allowed s w) d p tt h

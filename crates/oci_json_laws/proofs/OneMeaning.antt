@@ -12,15 +12,18 @@ use Rattle.oci_json_schema.specs.Means.{as_whole, opened, unless_null, SomeIs, I
 abbrev IsOne : (Data → Plain → Type 0) → Type 0
 IsOne M = (d : Data) (p q : Plain) → M d p → M d q → p ≡ q
 
+-- what is found is one thing
 one_some : {A : Type 0} (o : Option A) (x y : A) → o ≡ Some x → o ≡ Some y → x ≡ y
 one_some o x y e f = let k = sym e ∙ f in cc
 
+-- a flag that says whether a fact holds
 one_flag : (b c : Bool) (X : Type 0) → (IsTrue b ↔ X) → (IsTrue c ↔ X) → b ≡ c
 one_flag true true X h k = refl
 one_flag false false X h k = refl
 one_flag true false X h k = sym (k.1 (h.0 refl))
 one_flag false true X h k = h.1 (k.0 refl)
 
+-- the set of an array
 one_set : (table : List (List ℕ)) (ds : Items) (bs cs : List Bool) → IsSetOf table ds bs → IsSetOf table ds cs → bs ≡ cs
 one_set [] ds [] [] h k = refl
 one_set [] ds (b ∷ bs) cs h k = absurd h
@@ -32,6 +35,7 @@ one_set (name ∷ table) ds (b ∷ bs) (c ∷ cs) h k =
     let f = one_set table ds bs cs h.1 k.1 in
     cc
 
+-- the list of an array
 one_each : (M : Data → Plain → Type 0) → IsOne M → (ds : Items) (ps qs : Plains) → EachMeans M ds ps → EachMeans M ds qs → ps ≡ qs
 one_each M one no_items no_plains no_plains h k = refl
 one_each M one no_items (plain.plain p ps) qs h k = absurd h
@@ -43,6 +47,7 @@ one_each M one (item d ds) (plain.plain p ps) (plain.plain q qs) h k =
     let f = one_each M one ds ps qs h.1 k.1 in
     cc
 
+-- the map of an object
 one_each_entry : (M : Data → Plain → Type 0) → IsOne M → (ms : Members) (es fs : Entries) → EachEntryMeans M ms es → EachEntryMeans M ms fs → es ≡ fs
 one_each_entry M one no_members no_entries no_entries h k = refl
 one_each_entry M one no_members (entry l p es) fs h k = absurd h
@@ -56,17 +61,20 @@ one_each_entry M one (member l d ms) (entry a p es) (entry b q fs) h k =
     let f = one_each_entry M one ms es fs h.2 k.2 in
     cc
 
+-- a member that is there
 one_there : (M : Data → Plain → Type 0) → IsOne M → (found : Option Data) (x y : Slot) → IsThere M found x → IsThere M found y → x ≡ y
 one_there M one None x y h k = absurd h
 one_there M one (Some d) empty y h k = absurd h
 one_there M one (Some d) (filled p) empty h k = absurd k
 one_there M one (Some d) (filled p) (filled q) h k = ap filled (one d p q h k)
 
+-- a member that may be there
 one_there_or : (otherwise : Slot) (M : Data → Plain → Type 0) → IsOne M → (found : Option Data) (x y : Slot)
     → IsThereOr otherwise M found x → IsThereOr otherwise M found y → x ≡ y
 one_there_or otherwise M one None x y h k = h ∙ sym k
 one_there_or otherwise M one (Some d) x y h k = one_there M one (Some d) x y h k
 
+-- a listed member
 one_member : (presence : Presence) (M : Data → Plain → Type 0) → IsOne M → (found : Option Data) (x y : Slot)
     → MeansMember presence M found x → MeansMember presence M found y → x ≡ y
 one_member required M one found x y h k = one_there M one found x y h k
@@ -75,12 +83,14 @@ one_member optional M one found x y h k = one_there_or empty M one (option_and_t
 one_member nullable M one found x y h k = one_there_or empty M one (option_and_then unless_null found) x y h k
 one_member unless_empty M one found x y h k = one_there_or empty M one (option_and_then unless_null found) x y h k
 
+-- a listed member under either of its names
 one_either : (presence : Presence) (M : Data → Plain → Type 0) → IsOne M → (found second : Option Data) (x y : Slot)
     → MeansEither presence M found second x → MeansEither presence M found second y → x ≡ y
 one_either presence M one found None x y h k = one_member presence M one found x y h k
 one_either presence M one None (Some d) x y h k = one_member presence M one (Some d) x y h k
 one_either presence M one (Some c) (Some d) x y h k = absurd h
 
+-- shape by shape
 mutual
   pub one_meaning : (s : Shape) (d : Data) (p q : Plain) → Means s d p → Means s d q → p ≡ q
   one_meaning text d p q h k = h.2 ∙ ap plain.text (one_some (as_str d) h.0 k.0 h.1 k.1) ∙ sym k.2

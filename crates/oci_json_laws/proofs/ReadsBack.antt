@@ -16,30 +16,36 @@ use Rattle.oci_json_schema.specs.Norm.{norm, norm_free, each_plain, each_entry, 
 use Rattle.oci_json_schema.specs.Writable.{Writable, AreWritable}
 use Rattle.oci_json_schema.specs.WellFormed.{WellFormed, AreWellFormed, MemberIsWellFormed}
 use Rattle.oci_json_laws.proofs.Capabilities.{set_read}
-use Rattle.oci_json_laws.proofs.MeaningFits.{MayBe, may_be}
+use Rattle.oci_json_laws.proofs.Meanings.{MayBe, may_be}
 use Rattle.oci_json_laws.proofs.Written.{not_listed, not_later, kept, kept_one, first_written}
 
 -- ---- leaves
 
+-- a number is read as it was written
 whole_read : (z : ℤ) → as_whole (number (of_integer z)) ≡ Some z
 whole_read (pos n) = refl
 whole_read (negsuc n) = refl
 
+-- a listed text is its variant
 opened_listed : (table : List (List ℕ)) (t : List ℕ) → is_listed table t ≡ true → opened table t ≡ plain.variant t
 opened_listed table t e = rw e refl
 
+-- the names of a set of names
 names_of_empty_objects : (ks : List (List ℕ)) → member_names (empty_objects ks) ≡ ks
 names_of_empty_objects [] = refl
 names_of_empty_objects (k ∷ ks) = ap (λ us. k ∷ us) (names_of_empty_objects ks)
 
+-- its values are objects
 are_objects : (ks : List (List ℕ)) → AreObjects (empty_objects ks)
 are_objects [] = tt
 are_objects (k ∷ ks) = ((no_members, refl), are_objects ks)
 
+-- null is read as none
 value_as_none : (o : Option Data) → unless_null (unwrap_or o null) ≡ option_and_then unless_null o
 value_as_none None = refl
 value_as_none (Some d) = refl
 
+-- the values of a free map are read as the normal form has them
 free_values_read : (es : List (List ℕ × Option Data)) → free_values (free_members es) ≡ norm_free es
 free_values_read [] = refl
 free_values_read (e ∷ es) = let f = value_as_none e.1 in let g = free_values_read es in cc
@@ -68,11 +74,12 @@ never_null (rows rs) p w = refl
 -- ---- members
 
 -- under no name of the list stands anything
-abbrev pub NoneOf : List (List ℕ) → Members → Type 0
+abbrev NoneOf : List (List ℕ) → Members → Type 0
 NoneOf [] ms = ⊤
 NoneOf (t ∷ ts) ms = (get_member t ms ≡ None) × NoneOf ts ms
 
-pub none_at_first : (ts : List (List ℕ)) → NoneOf ts no_members
+-- nothing stands in no members
+none_at_first : (ts : List (List ℕ)) → NoneOf ts no_members
 none_at_first [] = tt
 none_at_first (t ∷ ts) = (refl, none_at_first ts)
 
@@ -96,6 +103,7 @@ unless_empty_read M (item d ds) q m = m
 abbrev IsReadBack : Shape → Type 0
 IsReadBack s = (p : Plain) → Fits s p → Writable s p → is_null (value s p) ≡ false → Means s (value s p) (norm s p)
 
+-- what is written for a member is read as the normal form has it
 member_read : (presence : Presence) (s : Shape) → MemberIsWellFormed presence s (WellFormed s) → (MayBe s → IsReadBack s)
     → (x : Slot) → FitsMember presence (Fits s) x → IfFilled (Writable s) x
     → MeansMember presence (Means s) (member_value presence (value s) x) (norm_member presence (value s) (norm s) x)
@@ -115,11 +123,13 @@ member_read unless_empty _ w f (filled p) fits writable = absurd w
 
 -- ---- parts
 
+-- the items of a list
 each_read : (M : Data → Plain → Type 0) (F W : Plain → Type 0) (v : Plain → Data) (n : Plain → Plain) → ((p : Plain) → F p → W p → M (v p) (n p))
     → (ps : Plains) → Each F ps → Each W ps → EachMeans M (each_value v ps) (each_plain n ps)
 each_read M F W v n f no_plains fits writable = tt
 each_read M F W v n f (plain.plain p ps) fits writable = (f p fits.0 writable.0, each_read M F W v n f ps fits.1 writable.1)
 
+-- the members of a map
 each_entry_read : (M : Data → Plain → Type 0) (F W : Plain → Type 0) (v : Plain → Data) (n : Plain → Plain) → ((p : Plain) → F p → W p → M (v p) (n p))
     → (es : Entries) → EachEntry F es → EachEntry W es → EachEntryMeans M (each_entry_value v es) (each_entry n es)
 each_entry_read M F W v n f no_entries fits writable = tt
@@ -141,6 +151,7 @@ once_second : (second : Option (List ℕ)) (ts : List (List ℕ)) → no_text_tw
 once_second None ts e = e
 once_second (Some name) ts e = (apart name ts e).1
 
+-- the names behind an entry
 none_rest : (second : Option (List ℕ)) (ts : List (List ℕ)) (ms : Members) → NoneOf (with_second second ts) ms → NoneOf ts ms
 none_rest None ts ms none = none
 none_rest (Some name) ts ms none = none.1
@@ -155,11 +166,13 @@ second_absent name (Some other) o rs xs ms once none =
     let b = apart other (names rs) a.1 in
     kept other rs xs (with_member name o ms) b.0 ∙ (none_kept (other ∷ names rs) name o ms a.0 none).0
 
+-- what is written under the name alone is read there
 either_read : (presence : Presence) (M : Data → Plain → Type 0) (found second o : Option Data) (x : Slot) → found ≡ o → second ≡ None
     → MeansMember presence M o x → MeansEither presence M found second x
 either_read presence M found second o x e none m =
     subst (λ s. MeansEither presence M found s x) (sym none) (subst (λ f. MeansMember presence M f x) (sym e) m)
 
+-- shape by shape
 mutual
   unfolding MayBe
 

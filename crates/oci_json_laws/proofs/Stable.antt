@@ -17,25 +17,30 @@ use Rattle.oci_json_schema.specs.Writable.{Writable, AreWritable}
 use Rattle.oci_json_schema.specs.WellFormed.{WellFormed, AreWellFormed, MemberIsWellFormed}
 use Rattle.oci_json_laws.specs.Details.{EachDetailOf, HasNoNullDetail}
 use Rattle.oci_json_laws.proofs.Erasing.{unless_null_as_it_was}
-use Rattle.oci_json_laws.proofs.MeaningFits.{MayBe, may_be, open_fits}
+use Rattle.oci_json_laws.proofs.Meanings.{MayBe, may_be}
+use Rattle.oci_json_laws.proofs.MeaningFits.{open_fits}
 use Rattle.oci_json_laws.proofs.ReadsBack.{never_null}
 use Rattle.oci_json_laws.proofs.ReadAgain.{read_again}
 use Rattle.oci_json_laws.proofs.Sorting.{sorted_again}
 
 -- ---- leaves
 
+-- by whether the text is listed
 open_again_by : (table : List (List ℕ)) (t : List ℕ) (b : Bool) → is_listed table t ≡ b
     → norm_open table (cond b (plain.variant t) (plain.other t)) ≡ cond b (plain.variant t) (plain.other t)
 open_again_by table t true e = refl
 open_again_by table t false e = rw e refl
 
+-- an open name that was opened stays
 open_again : (table : List (List ℕ)) (t : List ℕ) → norm_open table (opened table t) ≡ opened table t
 open_again table t = open_again_by table t (is_listed table t) refl
 
+-- its text is the same either way
 open_text_by : (b : Bool) (t : List ℕ) → text_of (cond b (plain.variant t) (plain.other t)) ≡ t
 open_text_by true t = refl
 open_text_by false t = refl
 
+-- none stays none
 value_again : (o : Option Data) → option_and_then unless_null (option_and_then unless_null o) ≡ option_and_then unless_null o
 value_again None = refl
 value_again (Some null) = refl
@@ -45,6 +50,7 @@ value_again (Some (string t)) = refl
 value_again (Some (array ds)) = refl
 value_again (Some (object ms)) = refl
 
+-- none is written as null was
 value_there : (o : Option Data) → unwrap_or (option_and_then unless_null o) null ≡ unwrap_or o null
 value_there None = refl
 value_there (Some null) = refl
@@ -54,18 +60,22 @@ value_there (Some (string t)) = refl
 value_there (Some (array ds)) = refl
 value_there (Some (object ms)) = refl
 
+-- an erased value stays erased
 value_erased : (o : Option Data) → option_map erased o ≡ o → option_map erased (option_and_then unless_null o) ≡ option_and_then unless_null o
 value_erased None e = refl
 value_erased (Some d) e = unless_null_as_it_was d cc
 
+-- the normal form of a free map stays
 free_again : (es : List (List ℕ × Option Data)) → norm_free (norm_free es) ≡ norm_free es
 free_again [] = refl
 free_again (e ∷ es) = let f = value_again e.1 in let g = free_again es in cc
 
+-- it has the same members
 free_there : (es : List (List ℕ × Option Data)) → free_members (norm_free es) ≡ free_members es
 free_there [] = refl
 free_there (e ∷ es) = let f = value_there e.1 in let g = free_there es in cc
 
+-- it stays erased
 free_erased : (es : List (List ℕ × Option Data)) → erased_values es ≡ es → erased_values (norm_free es) ≡ norm_free es
 free_erased [] h = refl
 free_erased (e ∷ es) h =
@@ -76,6 +86,7 @@ free_erased (e ∷ es) h =
 
 -- ---- details
 
+-- the compact text of a `detail` reads as the text did
 detail_again : (t : List ℕ) (d : Data) → read t ≡ Some d → has_float d ≡ false → read (compact_text (unwrap_or (read t) null)) ≡ read t
 detail_again t d e none = rw e (read_again t d e none)
 
@@ -92,9 +103,11 @@ each_stays v n (plain.plain p ps) = refl
 
 -- ---- the normal form is stable
 
+-- the normal form fits, is writable and is its own
 abbrev IsStable : Shape → Plain → Type 0
 IsStable s p = Fits s (norm s p) × Writable s (norm s p) × (norm s (norm s p) ≡ norm s p)
 
+-- so is the normal form of a member
 abbrev IsStableMember : Presence → Shape → Slot → Type 0
 IsStableMember presence s x =
     FitsMember presence (Fits s) (norm_member presence (value s) (norm s) x)
@@ -105,21 +118,25 @@ IsStableMember presence s x =
 abbrev IsStableOr : Presence → Shape → Slot → Type 0
 IsStableOr presence s x = IfFilled (Fits s) x × IfFilled (Writable s) x × (norm_member presence (value s) (norm s) x ≡ x)
 
+-- a member that is omitted where it is none
 optional_stable : (s : Shape) (q : Plain) (b : Bool) → (b ≡ false → Fits s q × Writable s q × (norm s q ≡ q) × (is_null (value s q) ≡ false))
     → IsStableOr optional s (cond b empty (filled q))
 optional_stable s q true f = (tt, tt, refl)
 optional_stable s q false f = let g = f refl in (g.0, g.1, rw (g.3, g.2) refl)
 
+-- a member that is written as null where it is none
 nullable_stable : (s : Shape) (q : Plain) (b : Bool) → (b ≡ false → Fits s q × Writable s q × (norm s q ≡ q) × (is_null (value s q) ≡ false))
     → IsStableOr nullable s (cond b empty (filled q))
 nullable_stable s q true f = (tt, tt, refl)
 nullable_stable s q false f = let g = f refl in (g.0, g.1, rw (g.3, g.2) refl)
 
+-- a list that is omitted where it is empty
 unless_empty_stable : (s : Shape) (q : Plain) (b : Bool) → (b ≡ false → Fits s q × Writable s q × (norm s q ≡ q) × (is_empty_array (value s q) ≡ false))
     → IsStableOr unless_empty s (cond b empty (filled q))
 unless_empty_stable s q true f = (tt, tt, refl)
 unless_empty_stable s q false f = let g = f refl in (g.0, g.1, rw (g.3, g.2) refl)
 
+-- a listed member
 member_stable : (presence : Presence) (s : Shape) → MemberIsWellFormed presence s (WellFormed s)
     → (MayBe s → (p : Plain) → Fits s p → Writable s p → IsStable s p)
     → (x : Slot) → FitsMember presence (Fits s) x → IfFilled (Writable s) x → IsStableMember presence s x
@@ -157,6 +174,7 @@ each_stable F W n f (plain.plain p ps) fits writable =
     let b = h.2 in
     ((g.0, h.0), (g.1, h.1), cc)
 
+-- entry by entry
 each_entry_stable : (F W : Plain → Type 0) (n : Plain → Plain) → ((p : Plain) → F p → W p → F (n p) × W (n p) × (n (n p) ≡ n p))
     → (es : Entries) → EachEntry F es → EachEntry W es
     → EachEntry F (each_entry n es) × EachEntry W (each_entry n es) × (each_entry n (each_entry n es) ≡ each_entry n es)
@@ -168,6 +186,7 @@ each_entry_stable F W n f (entry k p es) fits writable =
     let b = h.2 in
     ((g.0, h.0), (g.1, h.1), cc)
 
+-- shape by shape
 mutual
   unfolding MayBe
 
@@ -219,6 +238,7 @@ mutual
 
 -- ---- the value of the normal form
 
+-- a tree that is not null
 not_null : (d : Data) → d ≢ null → is_null d ≡ false
 not_null null other = absurd (other refl)
 not_null (boolean b) other = refl
@@ -238,12 +258,14 @@ written_not_null s may p writable other = never_null s p may
 abbrev KeepsValue : Shape → Plain → Type 0
 KeepsValue s p = value s (norm s p) ≡ value s p
 
+-- a member that is not null is written alike
 unless_null_same : (presence : Presence) (v : Plain → Data) (n : Plain → Plain) (p : Plain) (b : Bool) → b ≡ false
     → member_value presence v (filled (n p)) ≡ member_value presence v (filled p)
     → member_value presence v (cond b empty (filled (n p))) ≡ member_value presence v (filled p)
 unless_null_same presence v n p true none e = absurd (true≢false none)
 unless_null_same presence v n p false none e = e
 
+-- a list is omitted alike
 unless_empty_same : (v : Plain → Data) (n : Plain → Plain) (p : Plain) → v (n p) ≡ v p
     → member_value unless_empty v (cond (is_empty_array (v p)) empty (filled (n p))) ≡ member_value unless_empty v (filled p)
 unless_empty_same v n p e = here (is_empty_array (v p)) refl
@@ -252,6 +274,7 @@ unless_empty_same v n p e = here (is_empty_array (v p)) refl
     here true k = refl
     here false k = rw (e, k) refl
 
+-- a listed member is written alike
 member_same : (presence : Presence) (s : Shape) → MemberIsWellFormed presence s (WellFormed s)
     → (MayBe s → (p : Plain) → Writable s p → HasNoNullDetail s p → KeepsValue s p)
     → (x : Slot) → IfFilled (Writable s) x → IfFilled (HasNoNullDetail s) x
@@ -273,6 +296,7 @@ member_same unless_empty (list s) w f (filled p) writable other =
     unless_empty_same (value (list s)) (norm (list s)) p (f (may_be (list s) (WellFormed s) w) p writable other)
 member_same unless_empty _ w f (filled p) writable other = absurd w
 
+-- the items of a list are
 each_same : (W O : Plain → Type 0) (v : Plain → Data) (n : Plain → Plain) → ((p : Plain) → W p → O p → v (n p) ≡ v p)
     → (ps : Plains) → Each W ps → Each O ps → each_value v (each_plain n ps) ≡ each_value v ps
 each_same W O v n f no_plains writable other = refl
@@ -281,6 +305,7 @@ each_same W O v n f (plain.plain p ps) writable other =
     let h = each_same W O v n f ps writable.1 other.1 in
     cc
 
+-- the members of a map are
 each_entry_same : (W O : Plain → Type 0) (v : Plain → Data) (n : Plain → Plain) → ((p : Plain) → W p → O p → v (n p) ≡ v p)
     → (es : Entries) → EachEntry W es → EachEntry O es → each_entry_value v (each_entry n es) ≡ each_entry_value v es
 each_entry_same W O v n f no_entries writable other = refl
@@ -289,6 +314,7 @@ each_entry_same W O v n f (entry k p es) writable other =
     let h = each_entry_same W O v n f es writable.1 other.1 in
     cc
 
+-- shape by shape
 mutual
   unfolding MayBe
 

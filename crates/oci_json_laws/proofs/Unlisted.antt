@@ -10,11 +10,13 @@ use Rattle.oci_json_schema.specs.Shape.{rows, Rows, no_rows, row, with_second, n
 use Rattle.oci_json_schema.specs.Means.{get_second, MeansEither, Means, MeansRows}
 use Rattle.oci_json_laws.proofs.Written.{not_listed, not_later}
 
+-- nothing new stands under a second name
 same_second : (second : Option (List ℕ)) (ts : List (List ℕ)) (k : List ℕ) (d : Data) (ms : Members) → is_listed (with_second second ts) k ≡ false
     → get_second second (object (put k d ms)) ≡ get_second second (object ms)
 same_second None ts k d ms e = refl
 same_second (Some name) ts k d ms e = get_member-put_other name k d ms (λ same. (not_listed k name ts e).0 (sym same))
 
+-- the listed members mean what they meant
 with_more : (rs : Rows) (k : List ℕ) (d : Data) (ms : Members) (xs : Slots) → is_listed (names rs) k ≡ false
     → MeansRows rs (object (put k d ms)) xs ↔ MeansRows rs (object ms) xs
 with_more no_rows k d ms no_slots e = (λ h. h, λ h. h)
@@ -37,6 +39,7 @@ with_more (row name second presence s rs) k d ms (slot x xs) e =
       ),
     )
 
+-- so does the object
 pub unlisted : (rs : Rows) (k : List ℕ) (d : Data) (ms : Members) (p : Plain) → is_listed (names rs) k ≡ false
     → Means (rows rs) (object (put k d ms)) p ↔ Means (rows rs) (object ms) p
 unlisted rs k d ms p e =

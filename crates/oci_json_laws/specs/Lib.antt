@@ -1,1 +1,4 @@
+pub mod Defaults
+pub mod Depths
 pub mod Details
+pub mod Examples
