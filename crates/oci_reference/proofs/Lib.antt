@@ -1,0 +1,5 @@
+pub mod Canonical
+pub mod LatestTags
+pub mod NameCuts
+pub mod Outcomes
+pub mod WholeTexts

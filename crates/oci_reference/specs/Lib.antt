@@ -1,0 +1,7 @@
+pub mod Accepted
+pub mod Equal
+pub mod Named
+pub mod Names
+pub mod Parts
+pub mod Whole
+pub mod Written
