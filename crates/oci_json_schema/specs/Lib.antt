@@ -1,6 +1,8 @@
+pub mod Built
 pub mod Erased
 pub mod Fits
 pub mod Found
+pub mod Lent
 pub mod Means
 pub mod Norm
 pub mod Plain

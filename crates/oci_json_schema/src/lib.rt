@@ -17,4 +17,4 @@ pub use member::{
 };
 pub use owned::{Found, optional_either_owned, optional_owned, required_owned, taken};
 pub use record::{OciMember, OciRecord};
-pub use split::{split_2, split_7, split_8};
+pub use split::{split_5, split_6, split_7, split_8};
