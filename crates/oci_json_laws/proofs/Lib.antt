@@ -4,7 +4,7 @@ pub mod Depths
 pub mod Erasing
 pub mod MeaningDepth
 pub mod MeaningFits
-pub mod MeaningTrees
+pub mod MeaningReadable
 pub mod Meanings
 pub mod NoFloat
 pub mod NoNullDetail

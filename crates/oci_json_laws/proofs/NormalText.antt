@@ -17,7 +17,7 @@ use Rattle.oci_json_laws.specs.Details.{HasNoNullDetail}
 use Rattle.oci_json_laws.proofs.Canonical as law
 use Rattle.oci_json_laws.proofs.Meanings.{allowed}
 use Rattle.oci_json_laws.proofs.MeaningFits.{fits}
-use Rattle.oci_json_laws.proofs.MeaningTrees.{is_tree}
+use Rattle.oci_json_laws.proofs.MeaningReadable.{is_readable}
 use Rattle.oci_json_laws.proofs.NoFloat.{none_written}
 use Rattle.oci_json_laws.proofs.ReadAgain.{compact_read}
 use Rattle.oci_json_laws.proofs.ReadIsWritable.{read_is_writable}
@@ -32,6 +32,12 @@ pub once : (s : Shape) (t : List ℕ) (v : Data) (p : Plain) → WellFormed s �
     → compact_text (value s (norm s p)) ≡ compact_text (value s p)
 once s t v p w e h = ap compact_text (law.twice_is_once s v p w h (read_is_writable s t v p w e h))
 
+-- what the written value means is written as that itself is
+pub twice : (s : Shape) (t : List ℕ) (v : Data) (p q : Plain) → WellFormed s → read t ≡ Some v → Means s v p → Means s (value s p) q
+    → compact_text (value s q) ≡ compact_text (value s p)
+twice s t v p q w e h k =
+    ap (λ r. compact_text (value s r)) ((law.reads_back s p q w (fits s v p w h) (read_is_writable s t v p w e h)).0 k) ∙ once s t v p w e h
+
 -- equal normal forms are written alike
 pub same : (s : Shape) (t u : List ℕ) (v w : Data) (p q : Plain) → WellFormed s → read t ≡ Some v → read u ≡ Some w → Means s v p → Means s w q
     → norm s p ≡ norm s q → compact_text (value s p) ≡ compact_text (value s q)
@@ -41,7 +47,7 @@ same s t u v w p q well e f h k n = sym (once s t v p well e h) ∙ ap (λ r. co
 pub is_read : (s : Shape) (t : List ℕ) (v : Data) (p : Plain) → WellFormed s → HasReadableDefaults s → read t ≡ Some v → Means s v p
     → depth (value s p) ≤ max_depth → read (compact_text (value s p)) ≡ Some (value s p)
 is_read s t v p w k e h shallow =
-    compact_read (value s p) (is_tree s (allowed s w) k max_depth v p (read_within t v e) h) shallow (none_written s p (read_is_writable s t v p w e h))
+    compact_read (value s p) (is_readable s (allowed s w) k max_depth v p (read_within t v e) h) shallow (none_written s p (read_is_writable s t v p w e h))
 
 -- what a text reads as is one tree
 some_same : (d e : Data) → ◌≡◌ {A = Option Data} (Some d) (Some e) → d ≡ e

@@ -18,7 +18,8 @@ use Rattle.serde_json.specs.Data.{Num, unsigned, negative, float, Data, null, bo
 use Rattle.serde_json.specs.Find.{is_float}
 use Rattle.serde_json.specs.Read.{number_of, of_json, of_items, of_members, max_depth, read}
 use Rattle.serde_json.specs.Written.{has_float, items_have_float, members_have_float, number_text, compact_text, outline, items_outline, members_outline}
-use Rattle.oci_json_laws.proofs.Trees.{IsHeld, IsBefore, IsInOrder, IsTree, AreTrees, HoldTrees, read_within}
+use Rattle.oci_json_laws.specs.Readable.{IsHeld, IsBefore, IsInOrder, IsReadable, AreReadable, HoldReadable}
+use Rattle.oci_json_laws.proofs.Trees.{read_within}
 
 -- ---- a tree is made again from its outline
 
@@ -58,7 +59,7 @@ number_again (float x) h none = absurd (true≢false none)
 
 -- the tree of its outline is the tree
 mutual
-  made_again : (d : Data) → IsTree d → has_float d ≡ false → of_json (outline d) ≡ Some d
+  made_again : (d : Data) → IsReadable d → has_float d ≡ false → of_json (outline d) ≡ Some d
   made_again null h none = refl
   made_again (boolean b) h none = refl
   made_again (number n) h none = ap (option_map number) (number_again n h none)
@@ -66,14 +67,14 @@ mutual
   made_again (array ds) h none = ap (option_map array) (items_again ds h none)
   made_again (object ms) h none = ap (option_map object) (members_again no_members ms h.0 h.1 none)
 
-  items_again : (ds : Items) → AreTrees ds → items_have_float ds ≡ false → of_items (items_outline ds) ≡ Some ds
+  items_again : (ds : Items) → AreReadable ds → items_have_float ds ≡ false → of_items (items_outline ds) ≡ Some ds
   items_again no_items h none = refl
   items_again (item d ds) h none =
       let n = or_parts (has_float d) (items_have_float ds) none in
       ap (option_and_then (λ e. option_map (item e) (of_items (items_outline ds)))) (made_again d h.0 n.0)
       ∙ ap (option_map (item d)) (items_again ds h.1 n.1)
 
-  members_again : (found ms : Members) → IsInOrder (append found ms) → HoldTrees ms → members_have_float ms ≡ false
+  members_again : (found ms : Members) → IsInOrder (append found ms) → HoldReadable ms → members_have_float ms ≡ false
       → of_members (members_outline ms) found ≡ Some (append found ms)
   members_again found no_members order h none = ap Some (sym (append_none found))
   members_again found (member k d ms) order h none =
@@ -94,7 +95,7 @@ number_is (float x) h none = absurd (true≢false none)
 
 -- so are those of all numbers of a tree
 mutual
-  numbers : (d : Data) → IsTree d → has_float d ≡ false → tree.HasNumbers (outline d)
+  numbers : (d : Data) → IsReadable d → has_float d ≡ false → tree.HasNumbers (outline d)
   numbers null h none = tt
   numbers (boolean b) h none = tt
   numbers (number n) h none = number_is n h none
@@ -102,12 +103,12 @@ mutual
   numbers (array ds) h none = numbers_in_items ds h none
   numbers (object ms) h none = numbers_in_members ms h.1 none
 
-  numbers_in_items : (ds : Items) → AreTrees ds → items_have_float ds ≡ false → tree.ItemsHaveNumbers (items_outline ds)
+  numbers_in_items : (ds : Items) → AreReadable ds → items_have_float ds ≡ false → tree.ItemsHaveNumbers (items_outline ds)
   numbers_in_items no_items h none = tt
   numbers_in_items (item d ds) h none =
       let n = or_parts (has_float d) (items_have_float ds) none in (numbers d h.0 n.0, numbers_in_items ds h.1 n.1)
 
-  numbers_in_members : (ms : Members) → HoldTrees ms → members_have_float ms ≡ false → tree.MembersHaveNumbers (members_outline ms)
+  numbers_in_members : (ms : Members) → HoldReadable ms → members_have_float ms ≡ false → tree.MembersHaveNumbers (members_outline ms)
   numbers_in_members no_members h none = tt
   numbers_in_members (member k d ms) h none =
       let n = or_parts (has_float d) (members_have_float ms) none in (numbers d h.0 n.0, numbers_in_members ms h.1 n.1)
@@ -131,12 +132,12 @@ mutual
   same_members_depth (member k d ms) = rw (same_depth d, same_members_depth ms) refl
 
 -- the tokens of the text are those of the outline
-compact_tokens : (d : Data) → IsTree d → has_float d ≡ false → tokens (compact_text d) ≡ tree.json_tokens (outline d)
+compact_tokens : (d : Data) → IsReadable d → has_float d ≡ false → tokens (compact_text d) ≡ tree.json_tokens (outline d)
 compact_tokens d is none =
     ap tokens (sym (print-outline d)) ∙ tokens-print (tree.json_tokens (outline d)) (ArePrintable-json_tokens (outline d) (numbers d is none))
 
 -- a tree that nests no deeper than a text may
-pub compact_read : (d : Data) → IsTree d → depth d ≤ max_depth → has_float d ≡ false → read (compact_text d) ≡ Some d
+pub compact_read : (d : Data) → IsReadable d → depth d ≤ max_depth → has_float d ≡ false → read (compact_text d) ≡ Some d
 compact_read d is shallow none =
     let e = compact_tokens d is none ∙ sym (append-nil (tree.json_tokens (outline d))) in
     ap (λ o. option_and_then of_json (option_and_then (λ p. json.if_last p.0 p.1) o))

@@ -1,6 +1,6 @@
--- Trees as they are read: numbers of 64 bits, and an object's members once each and in byte order of their names.
-use Rattle.std.proofs.Common.{◌≡◌, ℕ, zero, suc, ◌^◌, ◌<◌, ◌≤◌, ◌-◌, pos, negsuc, List, Bool, true, false, ◌&&◌, cond, Option, Some, None, option_map, Ordering, Less, Equal, Greater, nat_cmp, nat_lt, nat_le, refl, ◌∙◌, ap, subst, arith}
-use Rattle.std.specs.Prelude.{option_and_then, ⊤, ◌==◌, slice_index, drop, Float}
+-- What is read is readable, and so are its parts.
+use Rattle.std.proofs.Common.{◌≡◌, ℕ, zero, suc, ◌^◌, ◌<◌, ◌≤◌, ◌-◌, List, Bool, true, false, ◌&&◌, cond, Option, Some, None, option_map, Ordering, Less, Equal, Greater, nat_cmp, nat_lt, nat_le, refl, ◌∙◌, ap, subst, arith}
+use Rattle.std.specs.Prelude.{option_and_then, ◌==◌, slice_index, drop, Float}
 use Rattle.std.specs.Ordering.{match_ordering, ordering_reverse}
 use Rattle.std.specs.Cmp.Lexicographic.{slice_cmp}
 use Rattle.std.proofs.lemmas.Cmp.{nat_list_cmp_total}
@@ -12,46 +12,10 @@ use Rattle.serde_json.proofs.Nesting.{depth-read}
 use Rattle.serde_json.specs.Data.{Num, unsigned, negative, float, Data, null, boolean, number, string, array, object, Items, no_items, item, Members, no_members, member, put, depth, items_depth, members_depth}
 use Rattle.serde_json.specs.Find.{as_array, as_object}
 use Rattle.serde_json.specs.Read.{number_from, number_of, float_of, is_integer, of_json, of_items, of_members, max_depth, read}
+use Rattle.oci_json_laws.specs.Readable.{IsHeld, IsBefore, IsInOrder, IsReadable, AreReadable, HoldReadable}
 use Rattle.oci_json_laws.proofs.Meanings.{OfSome, EachOf, EachMemberOf}
 
--- ---- what is asked of them
-
--- a number that fits 64 bits, or is no whole one
-abbrev pub IsHeld : Num → Type 0
-IsHeld (unsigned n) = n < 2 ^ 64
-IsHeld (negative (pos n)) = ⊥
-IsHeld (negative (negsuc n)) = n < 2 ^ 63
-IsHeld (float x) = ⊤
-
--- the name stands before each of the members
-abbrev pub IsBefore : List ℕ → Members → Type 0
-IsBefore k no_members = ⊤
-IsBefore k (member l d ms) = (slice_cmp nat_cmp k l ≡ Less) × IsBefore k ms
-
--- each member stands before those after it
-abbrev pub IsInOrder : Members → Type 0
-IsInOrder no_members = ⊤
-IsInOrder (member k d ms) = IsBefore k ms × IsInOrder ms
-
--- such a tree
-abbrev mutual
-  pub IsTree : Data → Type 0
-  IsTree null = ⊤
-  IsTree (boolean b) = ⊤
-  IsTree (number n) = IsHeld n
-  IsTree (string s) = ⊤
-  IsTree (array ds) = AreTrees ds
-  IsTree (object ms) = IsInOrder ms × HoldTrees ms
-
-  pub AreTrees : Items → Type 0
-  AreTrees no_items = ⊤
-  AreTrees (item d ds) = IsTree d × AreTrees ds
-
-  pub HoldTrees : Members → Type 0
-  HoldTrees no_members = ⊤
-  HoldTrees (member k d ms) = IsTree d × HoldTrees ms
-
--- ---- what is read is such a tree
+-- ---- what is read
 
 -- what is made of what may be there
 of_map : {A B : Type 0} (P : A → Type 0) (Q : B → Type 0) (f : A → B) → ((a : A) → P a → Q (f a)) → (o : Option A) → OfSome P o → OfSome Q (option_map f o)
@@ -89,11 +53,11 @@ put_in_order k d (member l e ms) h = here (slice_cmp nat_cmp k l) refl (put_in_o
     here Greater is rest = (before_put l k d ms (nat_list_cmp_total.antisymm l k ∙ ap ordering_reverse is) h.0, rest)
 
 -- a tree that is put in is one of the trees that are held
-pub put_holds : (k : List ℕ) (d : Data) (ms : Members) → IsTree d → HoldTrees ms → HoldTrees (put k d ms)
+pub put_holds : (k : List ℕ) (d : Data) (ms : Members) → IsReadable d → HoldReadable ms → HoldReadable (put k d ms)
 put_holds k d no_members is h = (is, tt)
 put_holds k d (member l e ms) is h = here (slice_cmp nat_cmp k l) (put_holds k d ms is h.1)
   where
-    here : (o : Ordering) → HoldTrees (put k d ms) → HoldTrees (match_ordering o (member k d (member l e ms)) (member l d ms) (member l e (put k d ms)))
+    here : (o : Ordering) → HoldReadable (put k d ms) → HoldReadable (match_ordering o (member k d (member l e ms)) (member l d ms) (member l e (put k d ms)))
     here Less rest = (is, h)
     here Equal rest = (is, h.1)
     here Greater rest = (h.0, rest)
@@ -137,30 +101,30 @@ held s = held_if (slice_index s 0 == minus) _ _ (held_from true (scan (drop 1 s)
 
 -- what is made of JSON
 mutual
-  tree_of_json : (j : json.Json) → OfSome IsTree (of_json j)
+  tree_of_json : (j : json.Json) → OfSome IsReadable (of_json j)
   tree_of_json json.null = tt
   tree_of_json (json.boolean b) = tt
-  tree_of_json (json.number s) = of_map IsHeld IsTree number (λ n h. h) (number_of s) (held s)
+  tree_of_json (json.number s) = of_map IsHeld IsReadable number (λ n h. h) (number_of s) (held s)
   tree_of_json (json.string s) = tt
-  tree_of_json (json.array js) = of_map AreTrees IsTree array (λ ds h. h) (of_items js) (trees_of_items js)
-  tree_of_json (json.object ms) = of_map (λ ms. IsInOrder ms × HoldTrees ms) IsTree object (λ ms h. h) (of_members ms no_members) (trees_of_members ms no_members (tt, tt))
+  tree_of_json (json.array js) = of_map AreReadable IsReadable array (λ ds h. h) (of_items js) (trees_of_items js)
+  tree_of_json (json.object ms) = of_map (λ ms. IsInOrder ms × HoldReadable ms) IsReadable object (λ ms h. h) (of_members ms no_members) (trees_of_members ms no_members (tt, tt))
 
-  trees_of_items : (js : json.Items) → OfSome AreTrees (of_items js)
+  trees_of_items : (js : json.Items) → OfSome AreReadable (of_items js)
   trees_of_items json.no_items = tt
   trees_of_items (json.item j js) =
-      of_and_then IsTree AreTrees (λ d. option_map (item d) (of_items js)) (λ d h. of_map AreTrees AreTrees (item d) (λ ds k. (h, k)) (of_items js) (trees_of_items js)) (of_json j) (tree_of_json j)
+      of_and_then IsReadable AreReadable (λ d. option_map (item d) (of_items js)) (λ d h. of_map AreReadable AreReadable (item d) (λ ds k. (h, k)) (of_items js) (trees_of_items js)) (of_json j) (tree_of_json j)
 
-  trees_of_members : (ms : json.Members) (found : Members) → IsInOrder found × HoldTrees found → OfSome (λ ms. IsInOrder ms × HoldTrees ms) (of_members ms found)
+  trees_of_members : (ms : json.Members) (found : Members) → IsInOrder found × HoldReadable found → OfSome (λ ms. IsInOrder ms × HoldReadable ms) (of_members ms found)
   trees_of_members json.no_members found h = h
   trees_of_members (json.member k j ms) found h =
-      of_and_then IsTree (λ ms. IsInOrder ms × HoldTrees ms) (λ d. of_members ms (put k d found))
+      of_and_then IsReadable (λ ms. IsInOrder ms × HoldReadable ms) (λ d. of_members ms (put k d found))
       (λ d is. trees_of_members ms (put k d found) (put_in_order k d found h.0, put_holds k d found is h.1)) (of_json j) (tree_of_json j)
 
 -- what is read
-pub tree_read : (t : List ℕ) → OfSome IsTree (read t)
+pub tree_read : (t : List ℕ) → OfSome IsReadable (read t)
 tree_read t = of_some (option_and_then (λ p. json.if_last p.0 p.1) (json.value max_depth (tokens t)))
   where
-    of_some : (o : Option json.Json) → OfSome IsTree (option_and_then of_json o)
+    of_some : (o : Option json.Json) → OfSome IsReadable (option_and_then of_json o)
     of_some None = tt
     of_some (Some j) = tree_of_json j
 
@@ -168,19 +132,19 @@ tree_read t = of_some (option_and_then (λ p. json.if_last p.0 p.1) (json.value 
 
 -- a tree, and how deep it nests at most
 abbrev pub IsWithin : ℕ → Data → Type 0
-IsWithin n d = IsTree d × (depth d ≤ n)
+IsWithin n d = IsReadable d × (depth d ≤ n)
 
 -- what is read nests no deeper than a text may
 pub read_within : (t : List ℕ) (d : Data) → read t ≡ Some d → IsWithin max_depth d
-read_within t d e = (subst (OfSome IsTree) e (tree_read t), depth-read t d e)
+read_within t d e = (subst (OfSome IsReadable) e (tree_read t), depth-read t d e)
 
 -- of trees, each
-each_within : (ds : Items) (n : ℕ) → AreTrees ds → items_depth ds ≤ n → EachOf (IsWithin n) ds
+each_within : (ds : Items) (n : ℕ) → AreReadable ds → items_depth ds ≤ n → EachOf (IsWithin n) ds
 each_within no_items n h l = tt
 each_within (item d ds) n h l = ((h.0, omega (arith, l)), each_within ds n h.1 (omega (arith, l)))
 
 -- of the trees of members, each
-each_member_within : (ms : Members) (n : ℕ) → HoldTrees ms → members_depth ms ≤ n → EachMemberOf (IsWithin n) ms
+each_member_within : (ms : Members) (n : ℕ) → HoldReadable ms → members_depth ms ≤ n → EachMemberOf (IsWithin n) ms
 each_member_within no_members n h l = tt
 each_member_within (member k d ms) n h l = ((h.0, omega (arith, l)), each_member_within ms n h.1 (omega (arith, l)))
 

@@ -1,13 +1,12 @@
--- What may be asked of the defaults of a shape's members.
-use Rattle.std.specs.Prelude.{◌≡◌, Some, ⊤}
-use Rattle.serde_json.specs.Read.{read}
-use Rattle.serde_json.specs.Written.{compact_text}
+-- Members' defaults whose values are readable (RFC 8259, section 4).
+use Rattle.std.specs.Prelude.{⊤}
 use Rattle.oci_json_schema.specs.Shape.{Presence, defaulted, Shape, list, map, rows, Rows, no_rows, row}
 use Rattle.oci_json_schema.specs.Value.{value}
+use Rattle.oci_json_laws.specs.Readable.{IsReadable}
 
--- what is written for the default, if there is one, is read back from its text
+-- what is written for the default, if there is one, is readable
 abbrev pub IsReadableDefault : Presence → Shape → Type 0
-IsReadableDefault (defaulted p) s = read (compact_text (value s p)) ≡ Some (value s p)
+IsReadableDefault (defaulted p) s = IsReadable (value s p)
 IsReadableDefault presence s = ⊤
 
 -- so is what is written for each default

@@ -1,4 +1,4 @@
--- What may be asked of the texts that a plain tree has for its `detail` members.
+-- The texts that a plain tree has for `detail` members (distribution specification, "Error Codes"), and what may be asked of them.
 use Rattle.std.specs.Prelude.{◌≢◌, ℕ, List, Some, ⊤}
 use Rattle.serde_json.specs.Data.{null}
 use Rattle.serde_json.specs.Read.{read}

@@ -78,15 +78,18 @@ pub fn whole_numbers()
     ensures { (s : Shape) (p : Plain) → Writable s p → has_float (value s p) ≡ false }
 {}
 
-/// What is written for what a text means: it means the normal form, the normal form is written as the same bytes, and equal
-/// normal forms are written alike. It is read back, where each default of the shape is and it nests no deeper than a text may.
-/// Of all written texts that are read back, two are equal exactly if the normal forms are.
-#[tactic(auto, using(crate::proofs::NormalText::means_norm, crate::proofs::NormalText::once, crate::proofs::NormalText::same, crate::proofs::NormalText::is_read, crate::proofs::NormalText::apart))]
+/// What is written for what a text means, means the normal form. The normal form is written as the same bytes, so what is
+/// written is written again as it stands, and equal normal forms are written alike. What is written is read back where the
+/// defaults of the shape are readable and it nests no deeper than a text may. Where two texts that are written are read
+/// back, they are equal exactly if the normal forms are.
+#[tactic(auto, using(crate::proofs::NormalText::means_norm, crate::proofs::NormalText::once, crate::proofs::NormalText::twice, crate::proofs::NormalText::same, crate::proofs::NormalText::is_read, crate::proofs::NormalText::apart))]
 pub fn normal_text()
     ensures means_norm { (s : Shape) (t : List ℕ) (v : Data) (p : Plain) → WellFormed s → read t ≡ Some v → Means s v p
         → Means s (value s p) (norm s p) }
     ensures once { (s : Shape) (t : List ℕ) (v : Data) (p : Plain) → WellFormed s → read t ≡ Some v → Means s v p
         → compact_text (value s (norm s p)) ≡ compact_text (value s p) }
+    ensures twice { (s : Shape) (t : List ℕ) (v : Data) (p q : Plain) → WellFormed s → read t ≡ Some v → Means s v p
+        → Means s (value s p) q → compact_text (value s q) ≡ compact_text (value s p) }
     ensures same { (s : Shape) (t u : List ℕ) (v w : Data) (p q : Plain) → WellFormed s → read t ≡ Some v → read u ≡ Some w
         → Means s v p → Means s w q → norm s p ≡ norm s q
         → compact_text (value s p) ≡ compact_text (value s q) }
