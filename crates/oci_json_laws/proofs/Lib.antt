@@ -6,7 +6,6 @@ pub mod MeaningDepth
 pub mod MeaningFits
 pub mod MeaningReadable
 pub mod Meanings
-pub mod NoFloat
 pub mod NoNullDetail
 pub mod NormalText
 pub mod NotNull

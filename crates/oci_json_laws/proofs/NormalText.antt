@@ -18,7 +18,7 @@ use Rattle.oci_json_laws.proofs.Canonical as law
 use Rattle.oci_json_laws.proofs.Meanings.{allowed}
 use Rattle.oci_json_laws.proofs.MeaningFits.{fits}
 use Rattle.oci_json_laws.proofs.MeaningReadable.{is_readable}
-use Rattle.oci_json_laws.proofs.NoFloat.{none_written}
+use Rattle.oci_json_schema.proofs.NoFloat.{none_written}
 use Rattle.oci_json_laws.proofs.ReadAgain.{compact_read}
 use Rattle.oci_json_laws.proofs.ReadIsWritable.{read_is_writable}
 use Rattle.oci_json_laws.proofs.Trees.{read_within}

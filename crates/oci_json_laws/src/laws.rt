@@ -73,7 +73,7 @@ pub fn unlisted()
 {}
 
 /// What is written holds no numbers but 64-bit whole ones.
-#[tactic(auto, using(crate::proofs::NoFloat::none_written))]
+#[tactic(auto, using(oci_json_schema::proofs::NoFloat::none_written))]
 pub fn whole_numbers()
     ensures { (s : Shape) (p : Plain) → Writable s p → has_float (value s p) ≡ false }
 {}
