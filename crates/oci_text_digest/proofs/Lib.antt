@@ -1,0 +1,5 @@
+pub mod Algorithm
+pub mod Components
+pub mod CutDigests
+pub mod Refusals
+pub mod ShaDigests

@@ -1,0 +1,252 @@
+use crate::*;
+use oci_json_schema::OciMember;
+use oci_text_base::{OciSpecError, SchemaFault, SerDeError, UninitializedFieldError};
+use serde_json::Value;
+use std::alloc::{AllocError, Global};
+use std::io;
+use std::process::Abort;
+use std::test::Fail;
+
+const SHA256: &str = "sha256:6c3c624b58dbbcd3c0dd82b4c53f04194d1247c6eebdaab7c610cf7d66709b3b";
+
+const SHA384: &str =
+    "sha384:6c3c624b58dbbcd4d1247c6eebdaab7c610cf7d66709b3b3c0dd82b4c53f04194d1247c6eebdaab7c610cf7d66709b3b";
+
+const SHA512: &str =
+    "sha512:6c3c624b58dbbcd3c0dd826c3c624b58dbbcd3c0dd82b4c53f04194d1247c6eebdaab7c610cf7d66709b3bb4c53f04194d1247c6eebdaab7c610cf7d66709b3b";
+
+fn repeated(
+    alloc: Global,
+    front: &str,
+    part: &str,
+    count: u32,
+) -> std::result::Result<String, AllocError> {
+    let mut text = String::from_str(alloc, front)?;
+    for _ in 0..count {
+        text.push_str(part)?;
+    }
+    Ok(text)
+}
+
+fn check_accepted(
+    rt: &impl Abort,
+    alloc: Global,
+    text: &str,
+    algorithm: &str,
+    encoded: &str,
+) -> std::result::Result<(), Fail> {
+    let digest = Digest::from_str(alloc, text)?;
+    assert!(rt;
+        *digest.algorithm() == DigestAlgorithm::from_text(alloc, algorithm)?,
+        "{text}"
+    );
+    assert_eq!(rt; digest.algorithm().as_ref(), algorithm);
+    assert_eq!(rt; digest.digest(), encoded);
+    assert_eq!(rt; digest.as_ref(), text);
+    let shown = digest.to_string(alloc)?;
+    assert_eq!(rt; shown.as_str(), text);
+    assert!(rt; is_digest(text), "{text}");
+    assert!(rt; Digest::try_from(shown)? == digest, "{text}");
+    assert!(rt; digest.clone()? == digest, "{text}");
+    let value = digest.write(alloc)?;
+    assert_eq!(rt; value.as_str(), Some(text));
+    assert!(rt; Digest::read(alloc, &value)? == digest, "{text}");
+    assert!(rt;
+        digest.copy(alloc)? == Digest::read_owned(alloc, value)?,
+        "{text}"
+    );
+    Ok(())
+}
+
+fn check_refused(
+    rt: &impl Abort,
+    alloc: Global,
+    text: &str,
+    expected: &str,
+) -> std::result::Result<(), Fail> {
+    assert!(rt; !is_digest(text), "{text}");
+    match Digest::from_str(alloc, text) {
+        Err(OciSpecError::Other(message)) => assert_eq!(rt; message.as_str(), expected),
+        _ => panic!(rt; "{text}"),
+    }
+    match Digest::try_from(String::from_str(alloc, text)?) {
+        Err(OciSpecError::Other(message)) => assert_eq!(rt; message.as_str(), expected),
+        _ => panic!(rt; "{text}"),
+    }
+    check_unread(rt, alloc, Value::String(String::from_str(alloc, text)?))
+}
+
+fn check_unread(rt: &impl Abort, alloc: Global, value: Value) -> std::result::Result<(), Fail> {
+    match Digest::read(alloc, &value) {
+        Err(OciSpecError::SerDe(SerDeError::Schema(_))) => (),
+        _ => panic!(rt; "{value}"),
+    }
+    match Digest::read_owned(alloc, value) {
+        Err(OciSpecError::SerDe(SerDeError::Schema(_))) => Ok(()),
+        _ => panic!(rt; "an owned value was read"),
+    }
+}
+
+#[test]
+fn accepts_digests(rt: HostRuntime) -> std::result::Result<(), Fail> {
+    let alloc = rt.alloc();
+    let cases: [(&str, &str, &str); 5] = [
+        ("foo:bar", "foo", "bar"),
+        ("xxhash:42", "xxhash", "42"),
+        (
+            "multihash+base58:QmRZxt2b1FVZPNqd8hsiykDL3TdBDeTSPX9Kv46HmX4Gx8",
+            "multihash+base58",
+            "QmRZxt2b1FVZPNqd8hsiykDL3TdBDeTSPX9Kv46HmX4Gx8",
+        ),
+        (
+            "sha256+b64u:LCa0a2j_xo_5m0U8HTBBNBNCLXBkg7-g-YpeiGJm564",
+            "sha256+b64u",
+            "LCa0a2j_xo_5m0U8HTBBNBNCLXBkg7-g-YpeiGJm564",
+        ),
+        ("a.b_c-d+0:=_-", "a.b_c-d+0", "=_-"),
+    ];
+    for (text, algorithm, encoded) in cases {
+        check_accepted(&rt, alloc, text, algorithm, encoded)?;
+    }
+    Ok(())
+}
+
+#[test]
+fn accepts_sha_digests(rt: HostRuntime) -> std::result::Result<(), Fail> {
+    let alloc = rt.alloc();
+    for text in [SHA256, SHA384, SHA512] {
+        match text.split_once(':') {
+            Some((algorithm, encoded)) => check_accepted(&rt, alloc, text, algorithm, encoded)?,
+            None => panic!(rt; "{text}"),
+        }
+    }
+    Ok(())
+}
+
+#[test]
+fn refuses_other_texts(rt: HostRuntime) -> std::result::Result<(), Fail> {
+    let alloc = rt.alloc();
+    let cases: [(&str, &str); 21] = [
+        ("", "missing ':' in digest"),
+        ("foo", "missing ':' in digest"),
+        ("blah+", "missing ':' in digest"),
+        (":", "Empty algorithm component"),
+        (":blah", "Empty algorithm component"),
+        ("_digest:somevalue", "Empty algorithm component"),
+        ("blah+:x", "Empty algorithm component"),
+        ("../blah:this-is-an-attack", "Empty algorithm component"),
+        ("a++b:", "Empty algorithm component"),
+        ("FooBar:123abc", "Invalid algorithm component: FooBar"),
+        ("^:foo", "Invalid algorithm component: ^"),
+        ("bar^baz:blah", "Invalid algorithm component: bar^baz"),
+        ("a.B-c:x", "Invalid algorithm component: B"),
+        ("a.\u{e9}+\u{e8}:x", "Invalid algorithm component: \u{e9}"),
+        ("blah:", "Empty algorithm value"),
+        ("sha256:123456*78", "Invalid encoded value 123456*78"),
+        ("foo:a:b", "Invalid encoded value a:b"),
+        ("sha384:x", "Invalid digest length 1 expected 96"),
+        (
+            "sha384:6c3c624b58dbbcd3c0dd82b4c53f04194d1247c6eebdaab7c610cf7d66709b3b",
+            "Invalid digest length 64 expected 96",
+        ),
+        (
+            "sha512:6c3c624b58dbbcd3c0dd82b4c53f04194d1247c6eebdaab7c610cf7d66709b3b",
+            "Invalid digest length 64 expected 128",
+        ),
+        (
+            "sha256:6c3c624b58dbbcd3c0dd82b4z53f04194d1247c6eebdaab7c610cf7d66709b3b",
+            "Invalid non-hexadecimal character in digest: 6c3c624b58dbbcd3c0dd82b4z53f04194d1247c6eebdaab7c610cf7d66709b3b",
+        ),
+    ];
+    for (text, message) in cases {
+        check_refused(&rt, alloc, text, message)?;
+    }
+    check_unread(&rt, alloc, Value::from(1u64))
+}
+
+#[test]
+fn refuses_uppercase_digits(rt: HostRuntime) -> std::result::Result<(), Fail> {
+    let alloc = rt.alloc();
+    let upper = repeated(alloc, "sha256:", "F", 64)?;
+    let message = repeated(
+        alloc,
+        "Invalid non-hexadecimal character in digest: ",
+        "F",
+        64,
+    )?;
+    check_refused(&rt, alloc, upper.as_str(), message.as_str())
+}
+
+#[test]
+fn sha256_digests(rt: HostRuntime) -> std::result::Result<(), Fail> {
+    let alloc = rt.alloc();
+    let digits = "6c3c624b58dbbcd3c0dd82b4c53f04194d1247c6eebdaab7c610cf7d66709b3b";
+    let short = Sha256Digest::from_str(alloc, digits)?;
+    assert_eq!(rt; short.digest(), digits);
+    assert_eq!(rt; short.as_ref(), digits);
+    let shown = short.to_string(alloc)?;
+    assert_eq!(rt; shown.as_str(), digits);
+    assert!(rt; short.clone()? == short);
+    assert!(rt; short.into_digest()? == Digest::from_str(alloc, SHA256)?);
+    match Sha256Digest::from_str(alloc, "x") {
+        Err(OciSpecError::Other(message)) => {
+            assert_eq!(rt; message.as_str(), "Invalid digest length 1 expected 64")
+        }
+        _ => panic!(rt; "x"),
+    }
+    Ok(())
+}
+
+#[test]
+fn algorithms(rt: HostRuntime) -> std::result::Result<(), Fail> {
+    let alloc = rt.alloc();
+    let cases: [(&str, Option<u32>); 6] = [
+        ("sha256", Some(64)),
+        ("sha384", Some(96)),
+        ("sha512", Some(128)),
+        ("SHA256", None),
+        ("md5", None),
+        ("", None),
+    ];
+    for (text, digits) in cases {
+        let algorithm = DigestAlgorithm::from_text(alloc, text)?;
+        assert_eq!(rt; algorithm.as_ref(), text);
+        assert!(rt; algorithm.digest_hexlen() == digits, "{text}");
+        assert!(rt; algorithm.clone(alloc)? == algorithm, "{text}");
+        let shown = algorithm.to_string(alloc)?;
+        assert_eq!(rt; shown.as_str(), text);
+    }
+    let other = DigestAlgorithm::Other(String::from_str(alloc, "sha256")?);
+    assert!(rt; other != DigestAlgorithm::Sha256);
+    Ok(())
+}
+
+#[test]
+fn printed_errors(rt: HostRuntime) -> std::result::Result<(), Fail> {
+    let alloc = rt.alloc();
+    let fault = SchemaFault {
+        owner: "Descriptor",
+        member: "size",
+    };
+    let cases: [(OciSpecError, &str); 5] = [
+        (OciSpecError::Other(String::from_str(alloc, "why")?), "why"),
+        (
+            OciSpecError::from(io::Error::from(io::ErrorKind::NotFound)),
+            "io operation failed",
+        ),
+        (
+            OciSpecError::SerDe(SerDeError::Schema(fault)),
+            "serde failed",
+        ),
+        (
+            OciSpecError::from(UninitializedFieldError::new("size")),
+            "uninitialized field",
+        ),
+        (OciSpecError::Memory, "out of memory"),
+    ];
+    for (error, expected) in cases {
+        let shown = error.to_string(alloc)?;
+        assert_eq!(rt; shown.as_str(), expected);
+    }
+    Ok(())
+}
