@@ -24,6 +24,7 @@ pub record Renames (names : List ℕ × List ℕ) : Type 0 where
   pub some_registry : 0 < length names.0
   pub some_repository : 0 < length names.1
 
+-- `docker.io` is a domain
 docker_domain : IsDomain docker_io
 docker_domain = inl (more (codes "docker") (dot ∷ []) (codes "io")
     (one (codes "docker") (inr (codes "d", codes "ocke", codes "r", (100, refl, refl), refl, (114, refl, refl), refl))) refl
@@ -38,9 +39,11 @@ docker_name p h k = record {
   some_repository = path_some p h;
 }
 
+-- a path in `library/` is a path
 library_path : (p : List ℕ) → IsPath p → IsPath (codes "library/" ++ p)
 library_path p h = path_before (codes "library") p (one (codes "library") (one (codes "library") (omega arith, refl))) h
 
+-- a path in `library/` of `docker.io` is taken for the same
 library_name : (p : List ℕ) → IsPath p → Renames (docker_io, codes "library/" ++ p)
 library_name p h = docker_name (codes "library/" ++ p) (library_path p h) refl
 
@@ -52,6 +55,7 @@ with_docker p h = go (has slash p) refl
     go true k = let is : with_library docker_io p ≡ (docker_io, p) = rw k refl in subst Renames (sym is) (docker_name p h k)
     go false k = let is : with_library docker_io p ≡ (docker_io, codes "library/" ++ p) = rw k refl in subst Renames (sym is) (library_name p h)
 
+-- where no byte passes a test, all bytes fail it
 not_any : (test : ℕ → Bool) (t : List ℕ) → list_any test t ≡ false → IsIn (λ b. not (test b)) t
 not_any test [] h = refl
 not_any test (b ∷ t) h = go (test b) refl h (not_any test t)
@@ -60,6 +64,7 @@ not_any test (b ∷ t) h = go (test b) refl h (not_any test t)
     go true e k rec = cc k
     go false e k rec = rw e (rec k)
 
+-- neither is true
 or_neither : (x y : Bool) → (x || y) ≡ false → (x ≡ false) × (y ≡ false)
 or_neither true y h = cc h
 or_neither false y h = (refl, h)
@@ -76,9 +81,11 @@ unregistered n x y (inr named) l e h k =
     subst IsPath (sym named.spelled)
     (path_before named.domain named.path (plain_domain named.domain named.is_domain no_dot no_colon small) named.is_path)
 
+-- a choice by two truths
 both_true : {A : Type 0} (a b : Bool) (p q : A) → a ≡ true → b ≡ true → cond (a && b) p q ≡ p
 both_true a b p q h k = rw (h, k) refl
 
+-- a choice by a falsehood
 second_false : {A : Type 0} (a b : Bool) (p q : A) → b ≡ false → cond (a && b) p q ≡ q
 second_false true b p q k = rw k refl
 second_false false b p q k = refl
@@ -87,6 +94,7 @@ second_false false b p q k = refl
 by_cut : (n x y : List ℕ) → cut_name n ≡ (x, y) → default_name n ≡ with_library (usual_registry x) y
 by_cut n x y e = ap (λ z. with_library (usual_registry z.0) z.1) e
 
+-- a registry is not empty
 registry_some : (x : List ℕ) → is_registry x ≡ true → 0 < length x
 registry_some [] h = cc h
 registry_some (b ∷ x) h = omega arith
@@ -111,6 +119,7 @@ registered n x y h e p r cut false false i d =
     } in
     subst Renames (sym is) names
 
+-- the registry and repository of a name with a lowercase repository are taken for the same
 pub renames : (n : List ℕ) → IsName n → list_any is_ascii_uppercase (default_name n).1 ≡ false → Renames (default_name n)
 renames n h lower = go (has slash n) refl
   where
@@ -146,19 +155,23 @@ whole_is (b ∷ x) (c ∷ y) (Some g) None m h k = simp append-nil
 whole_is (b ∷ x) (c ∷ y) None (Some d) m h k = ap (λ z. z ++ at_sign ∷ d) (sym (append-nil ((b ∷ x) ++ slash ∷ c ∷ y)))
 whole_is (b ∷ x) (c ∷ y) (Some g) (Some d) m h k = refl
 
+-- `latest` is a tag
 latest_tag : IsTag (codes "latest")
 latest_tag = record { first = codes "l"; rest = codes "atest"; is_first = (108, refl, refl); are_rest = refl; short = omega arith; spelled = refl }
 
+-- the tag, given or not, is a tag
 latest_is_tag : (g d : Option (List ℕ)) → IfSome g IsTag → IfSome (or_latest g d) IsTag
 latest_is_tag None None h = latest_tag
 latest_is_tag None (Some d) h = tt
 latest_is_tag (Some g) d h = h
 
+-- a tag that is given is no other
 latest_twice : (g d : Option (List ℕ)) → or_latest (or_latest g d) d ≡ or_latest g d
 latest_twice None None = refl
 latest_twice None (Some d) = refl
 latest_twice (Some g) d = refl
 
+-- a repository within the limits has no uppercase letter
 pub limit_lower : (r : List ℕ) (d : Option (List ℕ)) → limit r d ≡ None → list_any is_ascii_uppercase r ≡ false
 limit_lower r d h = go (list_any is_ascii_uppercase r) refl
   where
@@ -166,9 +179,11 @@ limit_lower r d h = go (list_any is_ascii_uppercase r) refl
     go true e = let clash : Some NameContainsUppercase ≡ None = sym (let is : limit r d ≡ Some NameContainsUppercase = rw e refl in is) ∙ h in cc clash
     go false e = refl
 
+-- the parts depend on registry and repository alone
 same_parts : (n : List ℕ) (g d : Option (List ℕ)) (w : List ℕ) → default_name w ≡ default_name n → parts_of n g d ≡ parts_of w (or_latest g d) d
 same_parts n g d w e = rw (e, latest_twice g d) refl
 
+-- the whole text of the parts of a reference is accepted as these parts
 again_parts : (n : List ℕ) (g d : Option (List ℕ)) (t : List ℕ) → IsReference t n g d → limit (default_name n).1 d ≡ None
     → Accepted (whole (parts_of n g d)) (parts_of n g d)
 again_parts n g d t r h =
@@ -187,9 +202,11 @@ again_parts n g d t r h =
       are = same_parts n g d w names.same;
     }
 
+-- the whole text of an accepted reference is accepted as the same one
 pub again : (t : List ℕ) (r : Parts) → Accepted t r → Accepted (whole r) r
 again t r a = subst (λ z. Accepted (whole z) z) (sym a.are) (again_parts a.name a.tag a.digest t a.reading a.within)
 
+-- accepted references are equal exactly if their whole texts are
 pub apart : (t t' : List ℕ) (r r' : Parts) → Accepted t r → Accepted t' r' → (r ≡ r') ↔ (whole r ≡ whole r')
 apart t t' r r' a a' = (
   (λ e. ap whole e),

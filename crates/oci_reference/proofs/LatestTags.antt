@@ -6,6 +6,7 @@ use Rattle.oci_reference_scan.proofs.Readings.{reading_once}
 use Rattle.oci_reference.specs.Accepted.{Accepted, or_latest}
 use Rattle.oci_reference.specs.Parts.{Parts}
 
+-- without a digest there is a tag
 neither : (g d : Option (List ℕ)) → or_latest g d ≡ None → d ≡ None → ⊥
 neither None None h k = cc h
 neither None (Some d) h k = cc k
@@ -19,11 +20,13 @@ tagged_or_pinned t r a h k = neither a.tag a.digest (sym (ap (λ z. z.tag) a.are
 abbrev GivenLatest : Option (List ℕ) → Option (List ℕ) → Type 0
 GivenLatest g d = (g ≡ Some (codes "latest")) ⊎ ((g ≡ None) × (d ≡ None))
 
+-- a tag `latest` was given, or neither was
 to_given : (g d : Option (List ℕ)) → or_latest g d ≡ Some (codes "latest") → GivenLatest g d
 to_given None None h = inr (refl, refl)
 to_given None (Some d) h = cc h
 to_given (Some g) d h = inl h
 
+-- where so given or neither was, the tag is `latest`
 from_given : (g d : Option (List ℕ)) → GivenLatest g d → or_latest g d ≡ Some (codes "latest")
 from_given None None h = refl
 from_given None (Some d) (inl h) = h

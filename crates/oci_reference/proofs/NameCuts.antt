@@ -15,12 +15,14 @@ use Rattle.oci_text_base.proofs.Marks.{lacks_not_has, first_cut}
 use Rattle.oci_text_base.proofs.Lacks.{Lacks, both, lacks_some, lacks_joined, cut_once}
 use Rattle.oci_reference_scan.proofs.Readings.{lacks_separator, lacks_domain, not_both}
 use Rattle.oci_text_base.proofs.Runs.{run_class, run_one, run_append, run_describes}
+use Rattle.oci_reference_scan.proofs.Complete.{or_cases}
 use Rattle.oci_reference_scan.proofs.Sound.{PathSays, path_keeps}
 
 -- Paths.
 component_no_slash : (t : List ℕ) → IsComponent t → Lacks slash t
 component_no_slash = lacks_joined slash IsSeparator (IsSomeOf is_lower) (lacks_separator slash (omega arith) (omega arith) (omega arith)) (lacks_some is_lower slash refl)
 
+-- a domain has no slash
 pub domain_no_slash : (t : List ℕ) → IsDomain t → Lacks slash t
 domain_no_slash = lacks_domain slash (omega arith) refl refl refl (omega arith)
 
@@ -60,6 +62,7 @@ pub bare_path : (n : List ℕ) → IsName n → Lacks slash n → IsPath n
 bare_path n (inl path) k = path
 bare_path n (inr h) k = absurd (not_both slash n h.domain h.path k h.spelled)
 
+-- a path is not empty
 pub path_some : (t : List ℕ) → IsPath t → 0 < length t
 path_some t (one part k) = component_some t k
   where
@@ -72,9 +75,11 @@ path_some _ (more text mark part j m k) = omega (arith, length-append (text ++ m
 abbrev pub is_small : ℕ → Bool
 is_small b = not (is_ascii_uppercase b)
 
+-- a text of a class is one of it on both sides of a cut
 pub in_split : (class : ℕ → Bool) (x y : List ℕ) → IsIn class (x ++ y) → IsIn class x × IsIn class y
 in_split class x y h = both (list_all class x) (list_all class y) (sym (list_all-append class x y) ∙ h)
 
+-- a text of two classes
 in_both : (class other : ℕ → Bool) (t : List ℕ) → IsIn class t → IsIn other t → IsIn (λ b. class b && other b) t
 in_both class other [] h k = refl
 in_both class other (b ∷ t) h k =
@@ -82,12 +87,15 @@ in_both class other (b ∷ t) h k =
     let q = both (other b) (list_all other t) k in
     rw (p.0, q.0) (in_both class other t p.1 q.1)
 
+-- a letter or digit that is no uppercase letter
 small_lower : (b : ℕ) → is_ascii_alphanumeric b ≡ true → is_small b ≡ true → is_lower b ≡ true
 small_lower b h k = grind arith
 
+-- a host byte that is no uppercase letter
 small_host : (b : ℕ) → (is_host_byte b && is_small b) ≡ true → (is_lower b || (b == dash)) ≡ true
 small_host b h = grind arith
 
+-- within a run or its dashes
 abbrev within : PathState → Bool
 within BeforeRun = false
 within InRun = true
@@ -95,19 +103,19 @@ within AfterUnderscore = false
 within InDashes = true
 within NoPath = false
 
+-- before the first run
 abbrev Begins : PathState → Type 0
 Begins p = p ≡ BeforeRun
 
+-- the path is within a run or its dashes
 abbrev Within : PathState → Type 0
 Within p = within p ≡ true
 
+-- the path is in a run
 abbrev Ends : PathState → Type 0
 Ends p = p ≡ InRun
 
-or_cases : (x y : Bool) → (x || y) ≡ true → (x ≡ true) ⊎ ((x ≡ false) × (y ≡ true))
-or_cases true y h = inl refl
-or_cases false y h = inr (refl, h)
-
+-- lowercase letters, digits and dashes stay within
 within_next : (p : PathState) (b : ℕ) → (is_lower b ≡ true) ⊎ ((is_lower b ≡ false) × ((b == dash) ≡ true)) → Within p → Within (path_next p b)
 within_next BeforeRun b h w = cc w
 within_next InRun b (inl h) w = rw h refl
@@ -117,6 +125,7 @@ within_next InDashes b (inl h) w = rw h refl
 within_next InDashes b (inr (h, k)) w = rw (h, k) refl
 within_next NoPath b h w = cc w
 
+-- a lowercase letter or digit ends in a run
 ends_next : (p : PathState) (b : ℕ) → is_lower b ≡ true → Within p → Ends (path_next p b)
 ends_next BeforeRun b h w = cc w
 ends_next InRun b h w = rw h refl
@@ -124,17 +133,21 @@ ends_next AfterUnderscore b h w = cc w
 ends_next InDashes b h w = rw h refl
 ends_next NoPath b h w = cc w
 
+-- a digit or a lowercase letter
 abbrev is_small_alnum : ℕ → Bool
 is_small_alnum b = is_ascii_alphanumeric b && is_small b
 
+-- a letter or digit of a lowercase text
 one_small : (t : List ℕ) → IsOneOf is_ascii_alphanumeric t → IsIn is_small t → IsOneOf is_small_alnum t
 one_small t (b, h, e) m =
     let small = subst (IsIn is_small) e m in
     (b, rw (h, (both (is_small b) true small).0) refl, e)
 
+-- such a byte may stand in a run
 small_ends : (b : ℕ) → is_small_alnum b ≡ true → is_lower b ≡ true
 small_ends b h = let parts = both (is_ascii_alphanumeric b) (is_small b) h in small_lower b parts.0 parts.1
 
+-- a lowercase domain component leads the path into a run
 component_run : (t : List ℕ) → IsDomainComponent t → IsIn is_small t → (p : PathState) → Begins p → Ends (fold path_next p t)
 component_run t (inl h) m =
     run_one path_next is_small_alnum Begins Ends (λ p b k e. rw (e, small_ends b k) refl) t (one_small t h m)
@@ -150,12 +163,14 @@ component_run t (inr (first, middle, last, h, k, l, e)) m =
     middle (in_both is_host_byte is_small middle k fronts.1)))
     (run_one path_next is_small_alnum Within Ends (λ p b k w. ends_next p b (small_ends b k) w) last (one_small last l parts.1)))
 
+-- a lowercase domain component is a path
 plain_component : (t : List ℕ) → IsDomainComponent t → IsIn is_small t → IsPath t
 plain_component t c m =
     let says = run_describes path_next PathSays path_keeps [] t BeforeRun (λ r k. inl (one r (one r k))) in
     let name : IsName t = subst (λ p. PathSays p t) (component_run t c m BeforeRun refl) says in
     bare_path t name (domain_no_slash t (inl (one t c)))
 
+-- a lowercase domain without dot and colon is a path
 pub plain_domain : (t : List ℕ) → IsDomain t → Lacks dot t → Lacks colon t → IsIn is_small t → IsPath t
 plain_domain t (inl (one part c)) k l m = plain_component t c m
 plain_domain _ (inl (more text mark part j e c)) k l m =

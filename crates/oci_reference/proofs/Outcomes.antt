@@ -30,6 +30,7 @@ OfLimit (Some ReferenceInvalidFormat) = ⊥
 OfLimit (Some TagInvalidFormat) = ⊥
 OfLimit (Some Memory) = ⊥
 
+-- what the digest is refused for
 of_digest : (d : Option (List ℕ)) → OfLimit (digest_limit d)
 of_digest None = tt
 of_digest (Some d) =
@@ -37,11 +38,13 @@ of_digest (Some d) =
     (λ _. by_test OfLimit (bytes_eq (until colon d) (codes "sha384")) _ _ (λ _. by_test OfLimit (length (after colon d) == 96) _ _ (λ _. tt) (λ _. tt))
     (λ _. by_test OfLimit (bytes_eq (until colon d) (codes "sha512")) _ _ (λ _. by_test OfLimit (length (after colon d) == 128) _ _ (λ _. tt) (λ _. tt)) (λ _. tt)))
 
+-- what repository and digest are refused for
 of_limit : (r : List ℕ) (d : Option (List ℕ)) → OfLimit (limit r d)
 of_limit r d =
     by_test OfLimit (list_any is_ascii_uppercase r) _ _ (λ _. tt)
     (λ _. by_test OfLimit (nat_lt 255 (length r)) _ _ (λ _. tt) (λ _. of_digest d))
 
+-- what `limit` answers tells why the text is refused
 pub tells : (t n : List ℕ) (g d : Option (List ℕ)) → IsReference t n g d → (e : ParseError) → limit (default_name n).1 d ≡ Some e → Tells t e
 tells t n g d r DigestInvalidFormat h = absurd (subst OfLimit h (of_limit (default_name n).1 d))
 tells t n g d r DigestInvalidLength h = inr (inr (n, g, d, r, h))
@@ -53,6 +56,7 @@ tells t n g d r ReferenceInvalidFormat h = absurd (subst OfLimit h (of_limit (de
 tells t n g d r TagInvalidFormat h = absurd (subst OfLimit h (of_limit (default_name n).1 d))
 tells t n g d r Memory h = absurd (subst OfLimit h (of_limit (default_name n).1 d))
 
+-- a reference within the limits is accepted
 pub accepted : (t n : List ℕ) (g d : Option (List ℕ)) → IsReference t n g d → limit (default_name n).1 d ≡ None → Accepted t (parts_of n g d)
 accepted t n g d r h = record { name = n; tag = g; digest = d; reading = r; within = h; are = refl }
 
@@ -65,10 +69,12 @@ by_memory (Err e) P h k = subst P (sym k) h
 abbrev Outcome : List ℕ → Type 0
 Outcome t = ((r : Parts) × Accepted t r) ⊎ ((e : ParseError) × Refused t e)
 
+-- a text without places is refused
 unread : (t : List ℕ) → found (fold step start t) ≡ None → Outcome t
 unread [] h = inr (NameEmpty, inl (refl, refl))
 unread (b ∷ t) h = inr (ReferenceInvalidFormat, inr (inl ((λ e. cc e), refl, (λ n g d r. let clash : None ≡ Some (places n g d) = sym h ∙ held (fold step start (b ∷ t)) (b ∷ t) n g d refl r in cc clash))))
 
+-- each text is accepted or refused
 pub outcome : (t : List ℕ) → Outcome t
 outcome t = go (found (fold step start t)) refl
   where

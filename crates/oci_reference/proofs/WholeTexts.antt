@@ -6,9 +6,11 @@ use Rattle.oci_reference.specs.Parts.{Parts}
 use Rattle.oci_reference.specs.Whole.{whole}
 use Rattle.oci_reference.specs.Written.{some_text, named, mark_if, spelled}
 
+-- a reference of these parts
 abbrev made : List ℕ → List ℕ → Option (List ℕ) → Option (List ℕ) → Option (List ℕ) → Parts
 made x y g d m = record { registry = x; repository = y; tag = g; digest = d; mirror = m }
 
+-- the marks by themselves make the whole text, by the cases of empty and absent parts
 by_parts : (x y : List ℕ) (g d m : Option (List ℕ)) → spelled (made x y g d m) ≡ whole (made x y g d m)
 by_parts [] [] None None m = refl
 by_parts [] [] None (Some d) m = refl
@@ -29,9 +31,11 @@ by_parts (b ∷ x) (c ∷ y) (Some g) None m =
 by_parts (b ∷ x) (c ∷ y) (Some g) (Some d) m =
     sym (append_assoc ((b ∷ x) ++ slash ∷ c ∷ y) (colon ∷ g) (at_sign ∷ d) ∙ append_assoc (b ∷ x) (slash ∷ c ∷ y) (colon ∷ (g ++ at_sign ∷ d)))
 
+-- the marks by themselves make the whole text
 pub spelled_whole : (r : Parts) → spelled r ≡ whole r
 spelled_whole r = by_parts r.registry r.repository r.tag r.digest r.mirror
 
+-- a text is empty exactly if its length is 0
 pub not_empty : (t : List ℕ) (r : Bool) → r ≡ (length t == 0) → not r ≡ some_text t
 not_empty [] r e = rw e refl
 not_empty (b ∷ t) r e = rw (e, ne_eqb (length (b ∷ t)) 0 (omega arith)) refl

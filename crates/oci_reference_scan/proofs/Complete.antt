@@ -29,10 +29,12 @@ apart class c out b h = go (b == c) refl
     go true e = let clash : true ≡ false = sym h ∙ ap class (eqb-true b c e) ∙ out in cc clash
     go false e = refl
 
+-- no conjunction with `false` is true
 and-false : (x : Bool) → (x && false) ≡ false
 and-false true = refl
 and-false false = refl
 
+-- a choice between a value and itself
 same-cond : {A : Type 0} (c : Bool) (x : A) → cond c x x ≡ x
 same-cond true x = refl
 same-cond false x = refl
@@ -45,12 +47,15 @@ ready AfterUnderscore = true
 ready InDashes = true
 ready NoPath = false
 
+-- the path waits for a run, or may go on with one
 abbrev pub Ready : Scanner → Type 0
 Ready s = ready s.path ≡ true
 
+-- the text so far is a name
 abbrev pub Named : Scanner → Type 0
 Named s = s.path ≡ InRun
 
+-- a lowercase letter or digit goes on with a run
 next_ready : (p : PathState) (b : ℕ) → is_lower b ≡ true → ready p ≡ true → path_next p b ≡ InRun
 next_ready BeforeRun b h r = rw h refl
 next_ready InRun b h r = cc r
@@ -58,28 +63,34 @@ next_ready AfterUnderscore b h r = rw h refl
 next_ready InDashes b h r = rw h refl
 next_ready NoPath b h r = cc r
 
+-- a run is behind a ready path a name
 over_run : (t : List ℕ) → IsSomeOf is_lower t → (s : Scanner) → Ready s → Named (fold step s t)
 over_run = run_some step is_lower Ready Named
     (λ s b h r. rw (apart is_lower slash refl b h) (next_ready s.path b h r))
     (λ s b h e. rw (apart is_lower slash refl b h, e, h) refl)
 
+-- the path is behind dashes, or in a run
 abbrev Dashed : Scanner → Type 0
 Dashed s = s.path ≡ InDashes
 
+-- dashes behind a name
 over_dashes : (t : List ℕ) → IsSomeOf (λ b. b == dash) t → (s : Scanner) → Named s → Dashed (fold step s t)
 over_dashes = run_some step (λ b. b == dash) Named Dashed
     (λ s b h e. rw (eqb-true b dash h, e) refl)
     (λ s b h e. rw (eqb-true b dash h, e) refl)
 
+-- a separator behind a name makes the path ready
 over_separator : (t : List ℕ) → IsSeparator t → (s : Scanner) → Named s → Ready (fold step s t)
 over_separator t (inl m) s e = rw (m, e) refl
 over_separator t (inr (inl m)) s e = rw (m, e) refl
 over_separator t (inr (inr (inl m))) s e = rw (m, e) refl
 over_separator t (inr (inr (inr d))) s e = rw (over_dashes t d s e) refl
 
+-- a slash behind a name makes the path ready
 over_slash : (t : List ℕ) → IsMark slash t → (s : Scanner) → Named s → Ready (fold step s t)
 over_slash = run_mark step slash Named Ready (λ s e. rw (e, same-cond (ends_domain s.domain) BeforeRun) refl)
 
+-- a path is, from a ready path on, a name
 over_path : (t : List ℕ) → IsPath t → (s : Scanner) → Ready s → Named (fold step s t)
 over_path = run_joined step Ready Named (IsMark slash) IsComponent
     (run_joined step Ready Named IsSeparator (IsSomeOf is_lower) over_run over_separator) over_slash
@@ -88,6 +99,7 @@ over_path = run_joined step Ready Named (IsMark slash) IsComponent
 abbrev DomainIs : DomainState → Scanner → Type 0
 DomainIs d s = s.domain ≡ d
 
+-- within a domain component
 abbrev in_component : DomainState → Bool
 in_component BeforeLabel = false
 in_component InLabel = true
@@ -96,16 +108,20 @@ in_component AfterColon = false
 in_component InPort = false
 in_component NoDomain = false
 
+-- the domain is within a component
 abbrev Inside : Scanner → Type 0
 Inside s = in_component s.domain ≡ true
 
-or_cases : (x y : Bool) → (x || y) ≡ true → (x ≡ true) ⊎ ((x ≡ false) × (y ≡ true))
+-- the first is true, or only the second
+pub or_cases : (x y : Bool) → (x || y) ≡ true → (x ≡ true) ⊎ ((x ≡ false) × (y ≡ true))
 or_cases true y h = inl refl
 or_cases false y h = inr (refl, h)
 
+-- the cases of a byte within a component
 abbrev HostCases : ℕ → Type 0
 HostCases b = (is_ascii_alphanumeric b ≡ true) ⊎ ((is_ascii_alphanumeric b ≡ false) × ((b == dash) ≡ true))
 
+-- such a byte stays within the component
 middle_cases : (d : DomainState) (b : ℕ) → HostCases b → in_component d ≡ true → in_component (domain_next d b) ≡ true
 middle_cases BeforeLabel b h i = cc i
 middle_cases InLabel b (inl h) i = rw h refl
@@ -116,9 +132,11 @@ middle_cases AfterColon b h i = cc i
 middle_cases InPort b h i = cc i
 middle_cases NoDomain b h i = cc i
 
+-- letters, digits and dashes stay within the component
 middle_next : (d : DomainState) (b : ℕ) → is_host_byte b ≡ true → in_component d ≡ true → in_component (domain_next d b) ≡ true
 middle_next d b h i = middle_cases d b (or_cases (is_ascii_alphanumeric b) (b == dash) h) i
 
+-- a letter or digit may end the component
 last_next : (d : DomainState) (b : ℕ) → is_ascii_alphanumeric b ≡ true → in_component d ≡ true → domain_next d b ≡ InLabel
 last_next BeforeLabel b h i = cc i
 last_next InLabel b h i = rw h refl
@@ -127,15 +145,19 @@ last_next AfterColon b h i = cc i
 last_next InPort b h i = cc i
 last_next NoDomain b h i = cc i
 
+-- the first byte of a component
 over_first : (t : List ℕ) → IsOneOf is_ascii_alphanumeric t → (s : Scanner) → DomainIs BeforeLabel s → DomainIs InLabel (fold step s t)
 over_first = run_one step is_ascii_alphanumeric (DomainIs BeforeLabel) (DomainIs InLabel) (λ s b h e. rw (e, h) refl)
 
+-- the bytes between
 over_middle : (t : List ℕ) → IsIn is_host_byte t → (s : Scanner) → Inside s → Inside (fold step s t)
 over_middle = run_class step is_host_byte Inside (λ s b h i. middle_next s.domain b h i)
 
+-- the last byte of a component
 over_last : (t : List ℕ) → IsOneOf is_ascii_alphanumeric t → (s : Scanner) → Inside s → DomainIs InLabel (fold step s t)
 over_last = run_one step is_ascii_alphanumeric Inside (DomainIs InLabel) (λ s b h i. last_next s.domain b h i)
 
+-- a component leads into a label
 over_domain_component : (t : List ℕ) → IsDomainComponent t → (s : Scanner) → DomainIs BeforeLabel s → DomainIs InLabel (fold step s t)
 over_domain_component t (inl h) s e = over_first t h s e
 over_domain_component t (inr (first, middle, last, h, k, l, e)) s e' =
@@ -144,15 +166,19 @@ over_domain_component t (inr (first, middle, last, h, k, l, e)) s e' =
     (run_append step (DomainIs BeforeLabel) Inside Inside first middle (λ s e. rw (over_first first h s e) refl) (over_middle middle k))
     (over_last last l) s e')
 
+-- a dot leads before a label
 over_dot : (t : List ℕ) → IsMark dot t → (s : Scanner) → DomainIs InLabel s → DomainIs BeforeLabel (fold step s t)
 over_dot = run_mark step dot (DomainIs InLabel) (DomainIs BeforeLabel) (λ s e. rw e refl)
 
+-- a host leads into a label
 over_host : (t : List ℕ) → IsHost t → (s : Scanner) → DomainIs BeforeLabel s → DomainIs InLabel (fold step s t)
 over_host = run_joined step (DomainIs BeforeLabel) (DomainIs InLabel) (IsMark dot) IsDomainComponent over_domain_component over_dot
 
+-- the digits of a port
 over_port : (t : List ℕ) → IsSomeOf is_ascii_digit t → (s : Scanner) → DomainIs AfterColon s → DomainIs InPort (fold step s t)
 over_port = run_some step is_ascii_digit (DomainIs AfterColon) (DomainIs InPort) (λ s b h e. rw (e, h) refl) (λ s b h e. rw (e, h) refl)
 
+-- a domain is told to be one
 over_domain : (t : List ℕ) → IsDomain t → ends_domain (fold step start t).domain ≡ true
 over_domain t (inl h) = rw (over_host t h start refl) refl
 over_domain t (inr p) =
@@ -160,6 +186,7 @@ over_domain t (inr p) =
     let after : DomainIs AfterColon (step (fold step start p.host) colon) = rw host refl in
     rw (p.spelled, fold-append step start p.host (colon ∷ p.port), over_port p.port p.is_port (step (fold step start p.host) colon) after) refl
 
+-- a name is told to be one
 over_name : (n : List ℕ) → IsName n → Named (fold step start n)
 over_name n (inl path) = over_path n path start refl
 over_name n (inr h) =
@@ -172,6 +199,7 @@ counts : (t : List ℕ) (s : Scanner) → (fold step s t).count ≡ s.count + le
 counts [] s = omega arith
 counts (b ∷ t) s = omega (arith, counts t (step s b))
 
+-- as many bytes are counted as were pushed
 pub count_of : (t : List ℕ) → (fold step start t).count ≡ length t
 count_of t = omega (arith, counts t start)
 
@@ -182,6 +210,7 @@ record TagAt (name : ℕ) (tag : TagState) (s : Scanner) : Type 0 where
   name_is : s.name ≡ name
   begins : s.tag_begin ≡ name + 1
 
+-- a byte behind the colon that is no mark leaves the name alone
 tag_step : (n : ℕ) (g : TagState) (s : Scanner) (b : ℕ) → (b == slash) ≡ false → (b == colon) ≡ false → TagAt n g s → TagAt n (tag_next g b) (step s b)
 tag_step n g s b h k d = record {
   path = rw (h, d.path) refl;
@@ -190,6 +219,7 @@ tag_step n g s b h k d = record {
   begins = rw k d.begins;
 }
 
+-- tag bytes are counted up to 128
 over_rest : (n k m : ℕ) (t : List ℕ) → IsIn is_tag_byte t → k + length t ≡ m → m ≤ 128 → (s : Scanner) → TagAt n (InTag k) s → TagAt n (InTag m) (fold step s t)
 over_rest n k m [] h e le s d = let same : k ≡ m = omega arith in subst (λ z. TagAt n (InTag z) s) same d
 over_rest n k m (b ∷ t) h e le s d =
@@ -200,6 +230,7 @@ over_rest n k m (b ∷ t) h e le s d =
     (subst (λ z. TagAt n z (step s b)) next
     (tag_step n (InTag k) s b (apart is_tag_byte slash refl b parts.0) (apart is_tag_byte colon refl b parts.0) d))
 
+-- a tag is counted from its colon on
 over_tag : (n : ℕ) (g : List ℕ) → IsTag g → (s : Scanner) → TagAt n BeforeTag s → TagAt n (InTag (length g)) (fold step s g)
 over_tag n g h s d = go h.is_first
   where
@@ -211,6 +242,7 @@ over_tag n g h s d = go h.is_first
         (over_rest n 1 (length g) h.rest h.are_rest (sym (tag_length g h)) (omega (arith, tag_length g h, h.short)) (step s b)
         (subst (λ z. TagAt n z (step s b)) next (tag_step n BeforeTag s b (apart is_word slash refl b w) (apart is_word colon refl b w) d)))
 
+-- a colon ends the path
 colon_path : (p : PathState) → path_next p colon ≡ NoPath
 colon_path BeforeRun = refl
 colon_path InRun = refl
@@ -218,6 +250,7 @@ colon_path AfterUnderscore = refl
 colon_path InDashes = refl
 colon_path NoPath = refl
 
+-- a name and its tag lead into the tag
 over_name_tag : (n g : List ℕ) → IsName n → IsTag g → TagAt (length n) (InTag (length g)) (fold step start (n ++ colon ∷ g))
 over_name_tag n g h k =
     let name = over_name n h in
@@ -252,11 +285,13 @@ digit_next k b hex le = go (nat_lt k 32) refl
     go true lt = let less : k < 32 = ltb-true k 32 lt in (k + 1, omega arith, (λ m h. omega arith), rw (hex, lt) refl)
     go false lt = let most : 32 ≤ k = ltb-false k 32 lt in (k, le, (λ m h. omega arith), rw (hex, lt) refl)
 
+-- where name and tag end
 pub length_front : (n : List ℕ) (g : Option (List ℕ)) → length (n ++ behind colon g) ≡ end_behind (length n) g
 length_front n None = ap length (append-nil n)
 length_front n (Some g) = omega (arith, length-append n (colon ∷ g))
 
 module _ (n : ℕ) (g : Option (ℕ × ℕ)) (begin : ℕ) where
+  -- a byte behind the `@` that is no mark leaves name and tag alone
   digest_step : (d : DigestState) (s : Scanner) (b : ℕ) → (b == slash) ≡ false → (b == at_sign) ≡ false → DigestAt n g begin d s → DigestAt n g begin (digest_next d b) (step s b)
   digest_step d s b h k a = record {
     path = rw (h, a.path) refl;
@@ -273,6 +308,7 @@ module _ (n : ℕ) (g : Option (ℕ × ℕ)) (begin : ℕ) where
   digest_to class out out' d d' next s b h a =
       subst (λ z. DigestAt n g begin z (step s b)) (next b h) (digest_step d s b (apart class slash out b h) (apart class at_sign out' b h) a)
 
+  -- a word of the algorithm
   over_word : (t : List ℕ) → IsWord t → (s : Scanner) → DigestAt n g begin BeforeWord s → DigestAt n g begin InWord (fold step s t)
   over_word t w s a =
       subst (λ z. DigestAt n g begin InWord (fold step s z)) (sym w.spelled)
@@ -283,10 +319,12 @@ module _ (n : ℕ) (g : Option (ℕ × ℕ)) (begin : ℕ) where
       (digest_to is_ascii_alphanumeric refl refl InWord InWord (λ b h. rw h refl)) w.rest w.are_rest)
       s a)
 
+  -- a mark between two words
   over_joint : (t : List ℕ) → IsOneOf is_joint t → (s : Scanner) → DigestAt n g begin InWord s → DigestAt n g begin BeforeWord (fold step s t)
   over_joint = run_one step is_joint (DigestAt n g begin InWord) (DigestAt n g begin BeforeWord)
       (digest_to is_joint refl refl InWord BeforeWord (λ b h. rw (joint_no_word b h, h) refl))
 
+  -- 32 and more digits are counted as 32
   over_digits : (k : ℕ) (t : List ℕ) → IsIn is_ascii_hexdigit t → k ≤ 32 → 32 ≤ k + length t → (s : Scanner)
       → DigestAt n g begin (InDigits k) s → DigestAt n g begin (InDigits 32) (fold step s t)
   over_digits k [] h le ge s a = let same : k ≡ 32 = omega arith in subst (λ z. DigestAt n g begin (InDigits z) s) same a
@@ -297,6 +335,7 @@ module _ (n : ℕ) (g : Option (ℕ × ℕ)) (begin : ℕ) where
       (subst (λ z. DigestAt n g begin z (step s b)) next
       (digest_step (InDigits k) s b (apart is_ascii_hexdigit slash refl b parts.0) (apart is_ascii_hexdigit at_sign refl b parts.0) a))
 
+  -- a digest is told to be one
   over_ref_digest : (d : List ℕ) → IsRefDigest d → (s : Scanner) → DigestAt n g begin BeforeWord s → DigestAt n g begin (InDigits 32) (fold step s d)
   over_ref_digest d r s a =
       let words = run_joined step (DigestAt n g begin BeforeWord) (DigestAt n g begin InWord) (IsOneOf is_joint) IsWord over_word over_joint r.algorithm r.is_algorithm s a in
@@ -304,6 +343,7 @@ module _ (n : ℕ) (g : Option (ℕ × ℕ)) (begin : ℕ) where
       rw (r.spelled, fold-append step s r.algorithm (colon ∷ r.digits))
       (over_digits 0 r.digits r.are_digits (omega arith) (omega (arith, r.many)) (step (fold step s r.algorithm) colon) after)
 
+-- an `@` ends the path
 at_path : (p : PathState) → path_next p at_sign ≡ NoPath
 at_path BeforeRun = refl
 at_path InRun = refl
@@ -311,6 +351,7 @@ at_path AfterUnderscore = refl
 at_path InDashes = refl
 at_path NoPath = refl
 
+-- an `@` ends the tag
 at_tag : (g : TagState) → tag_next g at_sign ≡ NoTag
 at_tag BeforeTag = refl
 at_tag (InTag k) = refl

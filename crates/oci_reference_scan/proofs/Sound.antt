@@ -20,6 +20,7 @@ use Rattle.oci_text_base.proofs.Lacks.{both}
 use Rattle.oci_text_base.proofs.Runs.{by_test, run_describes, in_cons, in_push, some_first}
 use Rattle.oci_reference_scan.proofs.Grows.{mark_is, dash_host, joined_grow, host_grow, port_push, name_push, name_more, name_slash, tag_first, tag_push, word_first, word_push, named, tagged, tagged_spelled}
 
+-- one of the two is true
 either : (a b : Bool) → (a || b) ≡ true → (a ≡ true) ⊎ (b ≡ true)
 either true b h = inl refl
 either false b h = inr h
@@ -33,6 +34,7 @@ DomainSays AfterColon t = (x : List ℕ) → IsSomeOf is_ascii_digit x → HasPo
 DomainSays InPort t = HasPort t
 DomainSays NoDomain t = Unit {0}
 
+-- a step keeps what the domain says
 domain_keeps : (d : DomainState) (t : List ℕ) (b : ℕ) → DomainSays d t → DomainSays (domain_next d b) (t ++ b ∷ [])
 domain_keeps BeforeLabel t b d =
     let P : DomainState → Type 0 = λ s. DomainSays s (t ++ b ∷ []) in
@@ -61,6 +63,7 @@ domain_keeps InPort t b d =
     by_test P (is_ascii_digit b) _ _ (λ h. port_push t b h d) (λ _. tt)
 domain_keeps NoDomain t b d = tt
 
+-- a whole domain is a domain
 domain_whole : (d : DomainState) (t : List ℕ) → DomainSays d t → ends_domain d ≡ true → IsDomain t
 domain_whole BeforeLabel t d e = cc e
 domain_whole InLabel t d e = inl d
@@ -81,6 +84,7 @@ PathSays NoPath t = Unit {0}
 after_mark : (t : List ℕ) (b c : ℕ) (r : List ℕ) → (b == c) ≡ true → IsName (t ++ c ∷ r) → IsName ((t ++ b ∷ []) ++ r)
 after_mark t b c r h n = subst IsName (ap (λ z. t ++ z ∷ r) (sym (eqb-true b c h)) ∙ sym (append_assoc t (b ∷ []) r)) n
 
+-- a step keeps what the path says
 pub path_keeps : (p : PathState) (t : List ℕ) (b : ℕ) → PathSays p t → PathSays (path_next p b) (t ++ b ∷ [])
 path_keeps BeforeRun t b d =
     let P : PathState → Type 0 = λ s. PathSays s (t ++ b ∷ []) in
@@ -114,6 +118,7 @@ path_keeps InDashes t b d =
     (λ _. tt))
 path_keeps NoPath t b d = tt
 
+-- a whole path is a name
 pub path_whole : (p : PathState) (t : List ℕ) → PathSays p t → ends_name p ≡ true → IsName t
 path_whole BeforeRun t d e = cc e
 path_whole InRun t d e = d
@@ -131,6 +136,7 @@ TagSays BeforeTag t = (n : List ℕ) × IsName n × (t ≡ n ++ colon ∷ [])
 TagSays (InTag k) t = (n g : List ℕ) × IsReference t n (Some g) None × (length g ≡ k)
 TagSays NoTag t = Unit {0}
 
+-- a step keeps what the tag says
 tag_keeps : (g : TagState) (t : List ℕ) (b : ℕ) → TagSays g t → TagSays (tag_next g b) (t ++ b ∷ [])
 tag_keeps BeforeTag t b d =
     let P : TagState → Type 0 = λ s. TagSays s (t ++ b ∷ []) in
@@ -154,6 +160,7 @@ tag_keeps (InTag k) t b d =
     (λ _. tt)
 tag_keeps NoTag t b d = tt
 
+-- a colon behind a name begins a tag
 tag_begun : (t : List ℕ) → IsName t → (b : ℕ) → (b == colon) ≡ true → TagSays BeforeTag (t ++ b ∷ [])
 tag_begun t n b h = (t, n, ap (λ z. t ++ z) (mark_is colon b h))
 
@@ -169,16 +176,19 @@ Behind t P = (u n : List ℕ) × (g : Option (List ℕ)) × (x : List ℕ) × Is
 abbrev pub HasDigits : ℕ → List ℕ → Type 0
 HasDigits k x = (a h : List ℕ) × IsWords a × IsIn is_ascii_hexdigit h × (k ≤ length h) × (x ≡ a ++ colon ∷ h)
 
+-- what a state of the digest says of the text so far
 abbrev pub DigestSays : DigestState → List ℕ → Type 0
 DigestSays BeforeWord t = Behind t (λ x. (w : List ℕ) → IsWord w → IsWords (x ++ w))
 DigestSays InWord t = Behind t IsWords
 DigestSays (InDigits k) t = Behind t (HasDigits k)
 DigestSays NoDigest t = Unit {0}
 
+-- what stands behind the `@` grows by a byte
 behind_push : (P Q : List ℕ → Type 0) (t : List ℕ) (b : ℕ) → ((x : List ℕ) → P x → Q (x ++ b ∷ [])) → Behind t P → Behind (t ++ b ∷ []) Q
 behind_push P Q t b pushes (u, n, g, x, r, e, p) =
     (u, n, g, x ++ b ∷ [], r, ap (λ z. z ++ b ∷ []) e ∙ append_assoc u (at_sign ∷ x) (b ∷ []), pushes x p)
 
+-- the digits grow by one
 digits_push : (k m : ℕ) (b : ℕ) → is_ascii_hexdigit b ≡ true → m ≤ k + 1 → (x : List ℕ) → HasDigits k x → HasDigits m (x ++ b ∷ [])
 digits_push k m b hex le x (a, h, w, i, l, e) = (
   a,
@@ -189,6 +199,7 @@ digits_push k m b hex le x (a, h, w, i, l, e) = (
   ap (λ z. z ++ b ∷ []) e ∙ append_assoc a (colon ∷ h) (b ∷ []),
 )
 
+-- a step keeps what the digest says
 digest_keeps : (s : DigestState) (t : List ℕ) (b : ℕ) → DigestSays s t → DigestSays (digest_next s b) (t ++ b ∷ [])
 digest_keeps BeforeWord t b d =
     let P : DigestState → Type 0 = λ s. DigestSays s (t ++ b ∷ []) in
@@ -210,6 +221,7 @@ digest_keeps (InDigits k) t b d =
     (λ _. tt)
 digest_keeps NoDigest t b d = tt
 
+-- an `@` behind a reference begins a digest
 digest_begun : (t n : List ℕ) (g : Option (List ℕ)) → IsReference t n g None → (b : ℕ) → (b == at_sign) ≡ true → DigestSays BeforeWord (t ++ b ∷ [])
 digest_begun t n g r b h = (t, n, g, [], r, ap (λ z. t ++ z) (mark_is at_sign b h), (λ w k. one w k))
 
@@ -220,11 +232,13 @@ pub record Says (s : Scanner) (t : List ℕ) : Type 0 where
   pub tag : TagSays s.tag t
   pub digest : DigestSays s.digest t
 
+-- behind a whole tag the text is a reference
 pub tag_whole : (g : TagState) (t : List ℕ) → TagSays g t → ends_tag g ≡ true → (n g : List ℕ) × IsReference t n (Some g) None
 tag_whole BeforeTag t d e = cc e
 tag_whole (InTag k) t d e = let (n, g, r, _) = d in (n, g, r)
 tag_whole NoTag t d e = cc e
 
+-- a step keeps what the scanner says
 keeps : (s : Scanner) (t : List ℕ) (b : ℕ) → Says s t → Says (step s b) (t ++ b ∷ [])
 keeps s t b d = record {
   domain = domain_keeps s.domain t b d.domain;
@@ -243,6 +257,7 @@ keeps s t b d = record {
     opened h (inl e) = digest_begun t t None (named t (path_whole s.path t d.path e)) b h
     opened h (inr e) = let (n, g, r) = tag_whole s.tag t d.tag e in digest_begun t n (Some g) r b h
 
+-- what the scanner says holds of the text that led to it
 pub says : (t : List ℕ) → Says (fold step start t) t
 says t = run_describes step Says keeps [] t start (record {
   domain = λ x c. one x c;

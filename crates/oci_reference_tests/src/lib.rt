@@ -1,0 +1,5 @@
+//! Tests of references.
+#![tactic(auto)]
+
+#[cfg(test)]
+mod tests;
