@@ -1,0 +1,4 @@
+pub mod KeySets
+pub mod Presences
+pub mod RefusedDetails
+pub mod Sorting
