@@ -1,0 +1,24 @@
+pub use Rattle.oci_json_engines.specs.Engines
+pub use Rattle.oci_json_kinds.specs.DefaultMembers
+pub use Rattle.oci_json_kinds.specs.Keys
+pub use Rattle.oci_json_laws.specs.Defaults
+pub use Rattle.oci_json_laws.specs.Depths
+pub use Rattle.oci_json_laws.specs.Details
+pub use Rattle.oci_json_laws.specs.Examples
+pub use Rattle.oci_json_laws.specs.Readable
+pub use Rattle.oci_json_schema.specs.Built
+pub use Rattle.oci_json_schema.specs.Erased
+pub use Rattle.oci_json_schema.specs.Fits
+pub use Rattle.oci_json_schema.specs.Found
+pub use Rattle.oci_json_schema.specs.Lent
+pub use Rattle.oci_json_schema.specs.Means
+pub use Rattle.oci_json_schema.specs.Norm
+pub use Rattle.oci_json_schema.specs.Plain
+pub use Rattle.oci_json_schema.specs.Refused
+pub use Rattle.oci_json_schema.specs.Same
+pub use Rattle.oci_json_schema.specs.Shape
+pub use Rattle.oci_json_schema.specs.Types
+pub use Rattle.oci_json_schema.specs.Value
+pub use Rattle.oci_json_schema.specs.WellFormed
+pub use Rattle.oci_json_schema.specs.Writable
+pub use Rattle.oci_text_base.specs.Refused as Faults

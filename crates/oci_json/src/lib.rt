@@ -1,0 +1,17 @@
+//! The documents of the specifications as JSON: what a document type can do, its members, reading, writing, and the laws.
+#![tactic(auto)]
+
+pub use oci_json_engines::{
+    from_file, from_reader, from_slice, normalize, to_file, to_file_pretty, to_string,
+    to_string_pretty, to_writer, to_writer_pretty,
+};
+pub use oci_json_kinds::{
+    Detail, Keys, OciDefault, OciKind, copy_optional_as, defaulted, nullable, optional_as,
+    optional_as_owned, unless_empty, write_nullable, write_optional_as, write_unless_empty,
+};
+pub use oci_json_laws::laws;
+pub use oci_json_schema::{
+    Found, OciMember, OciRecord, copy_optional, fault, optional, optional_either,
+    optional_either_owned, optional_owned, required, required_owned, taken, write_optional,
+    write_required,
+};
