@@ -1,5 +1,5 @@
 -- The components of an algorithm, taken off one by one, and the cut at the first colon.
-use Rattle.std.proofs.Common.{◌≡◌, ◌≢◌, ℕ, ◌+◌, ◌-◌, ◌<◌, ◌≤◌, Bool, true, false, List, [], ◌∷◌, ◌++◌, Option, Some, None, length, length-drop, take, drop, get_or, refl, sym, ap, ◌∙◌, arith}
+use Rattle.std.proofs.Common.{◌≡◌, ◌≢◌, ℕ, ◌+◌, ◌-◌, ◌<◌, ◌≤◌, Bool, true, false, List, [], ◌∷◌, ◌++◌, Option, Some, None, length, take, drop, get_or, refl, sym, ap, ◌∙◌, arith}
 use Rattle.std.specs.Prelude.{position, nat_lt, is_some, option_map, codes, slice_range, not, ◌↔◌}
 use Rattle.std.specs.Str.{IsUtf8, IsCharBoundary}
 use Rattle.std.specs.List.{slice_split, position_or_len}
@@ -24,6 +24,7 @@ first_at p t i h = go (nat_lt (position_or_len p t) (length t)) refl
     go true e = let same = rw e at h in (ltb-true (position_or_len p t) (length t) e, cc same)
     go false e = let clash = rw e at h in cc clash
 
+-- no mark anywhere
 no_position : (p : ℕ → Bool) (t : List ℕ) → position p t ≡ None → length t ≤ position_or_len p t
 no_position p t h = go (nat_lt (position_or_len p t) (length t)) refl
   where
@@ -40,9 +41,11 @@ unmarked p (b ∷ t) h = go (p b) refl (unmarked p t)
     go true e rec = let clash = rw e at h in absurd (omega (arith, clash))
     go false e rec = let more = rw e at h in rw (slice_split-cons_no p b t e, rec (omega (arith, more))) refl
 
+-- a text without a mark is one part
 pub split_whole : (p : ℕ → Bool) (t : List ℕ) → position p t ≡ None → slice_split p t ≡ t ∷ []
 split_whole p t h = unmarked p t (no_position p t h)
 
+-- the first part of another
 pub split_first : (p : ℕ → Bool) (t : List ℕ) (i : ℕ) → position p t ≡ Some i → slice_split p t ≡ take i t ∷ slice_split p (drop (i + 1) t)
 split_first p t i h =
     let at = first_at p t i h in
@@ -53,14 +56,17 @@ some_map : {A B : Type 0} (f : A → B) (o : Option A) → is_some (option_map f
 some_map f None = refl
 some_map f (Some x) = refl
 
+-- the first answer, where it is there
 first_of : (x y : Option (List ℕ)) → is_some x ≡ true → option_or x y ≡ x
 first_of None y h = cc h
 first_of (Some x) y h = refl
 
+-- else the second
 second_of : (x y : Option (List ℕ)) → is_some x ≡ false → option_or x y ≡ y
 second_of None y h = refl
 second_of (Some x) y h = cc h
 
+-- an answer or none
 or_none : (x : Option (List ℕ)) → option_or x None ≡ x
 or_none None = refl
 or_none (Some x) = refl
@@ -69,6 +75,7 @@ or_none (Some x) = refl
 pub front_range : (t : List ℕ) (i : ℕ) → slice_range t 0 i ≡ take i t
 front_range t i = let same : i - 0 ≡ i = omega arith in ap (λ k. take k t) same
 
+-- the refusal of a text, by its first component
 by_first : (t part : List ℕ) (i : ℕ) → position is_joint t ≡ Some i → part ≡ slice_range t 0 i
     → component_refusal (slice_split is_joint t) ≡ option_or (part_refusal part) (component_refusal (slice_split is_joint (drop (i + 1) t)))
 by_first t part i h e = ap component_refusal (split_first is_joint t i h) ∙ ap (λ z. option_or (part_refusal z) (component_refusal (slice_split is_joint (drop (i + 1) t)))) (sym (front_range t i) ∙ sym e)
@@ -94,19 +101,19 @@ only_part t h = sym (ap component_refusal (split_whole is_joint t h) ∙ or_none
 joint_ascii : (b : ℕ) → is_joint b ≡ true → b < 128
 joint_ascii b h = grind arith
 
+-- a joint is cut out at characters' boundaries
 pub joint_before : (t : List ℕ) (i : ℕ) → position is_joint t ≡ Some i → IsCharBoundary t i
 joint_before t i h = let at = position-Some is_joint t i 0 h in IsCharBoundary-before_ascii t i at.0 (joint_ascii (get_or t i 0) at.1)
 
+-- and what stands behind it too
 pub joint_behind : (t : List ℕ) (i : ℕ) → IsUtf8 t → position is_joint t ≡ Some i → IsCharBoundary t (i + 1)
 joint_behind t i u h = let at = position-Some is_joint t i 0 h in IsCharBoundary-after_ascii t i u at.0 (joint_ascii (get_or t i 0) at.1)
-
-pub joint_shorter : (t : List ℕ) (i : ℕ) → position is_joint t ≡ Some i → length (drop (i + 1) t) < length t
-joint_shorter t i h = let at = position-Some is_joint t i 0 h in omega (arith, length-drop (i + 1) t, at.0)
 
 -- The text as a whole, by its first colon.
 pub missing : (t : List ℕ) → ((i : ℕ) → i < length t → get_or t i 0 ≢ colon) → digest_refusal t ≡ Some (codes "missing ':' in digest")
 missing t h = rw (has_none colon t (lacks_from colon t h)) refl
 
+-- a text that is cut at its first colon
 pub by_cut : (t a e : List ℕ) → t ≡ a ++ colon ∷ e → ((i : ℕ) → i < length a → get_or a i 0 ≢ colon)
     → digest_refusal t ≡ option_or (component_refusal (slice_split is_joint a)) (encoded_refusal a e)
 by_cut t a e spelled h =

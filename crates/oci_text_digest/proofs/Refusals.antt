@@ -16,9 +16,11 @@ abbrev done : Option Bool → Bool
 done None = false
 done (Some inside) = inside
 
+-- no component is refused
 abbrev passes : List (List ℕ) → Bool
 passes parts = is_none (component_refusal parts)
 
+-- the part is not empty
 abbrev some : List ℕ → Bool
 some [] = false
 some (b ∷ part) = true
@@ -28,6 +30,7 @@ abbrev fits : Bool → List (List ℕ) → Bool
 fits inside [] = false
 fits inside (part ∷ parts) = (inside || some part) && (list_all is_lower part && passes parts)
 
+-- the first component, and the others
 passes_cons : (part : List ℕ) (parts : List (List ℕ)) → passes (part ∷ parts) ≡ (some part && (list_all is_lower part && passes parts))
 passes_cons [] parts = refl
 passes_cons (b ∷ part) parts = rw (ne_eqb (length (b ∷ part)) 0 (omega arith)) (go (list_all is_lower (b ∷ part)))
@@ -36,6 +39,7 @@ passes_cons (b ∷ part) parts = rw (ne_eqb (length (b ∷ part)) 0 (omega arith
     go true = refl
     go false = refl
 
+-- a text has a first part
 split_some : (t : List ℕ) → (part : List ℕ) × (parts : List (List ℕ)) × (slice_split is_joint t ≡ part ∷ parts)
 split_some [] = ([], [], refl)
 split_some (b ∷ t) = go (is_joint b) (slice_split is_joint t)
@@ -49,6 +53,7 @@ true-or : (x : Bool) → (x || true) ≡ true
 true-or true = refl
 true-or false = refl
 
+-- the automaton and the components agree
 agree : (t : List ℕ) (inside : Bool) → done (fold step (Some inside) t) ≡ fits inside (slice_split is_joint t)
 agree [] true = refl
 agree [] false = refl
@@ -65,19 +70,23 @@ agree (b ∷ t) inside =
     go false true j l inside part parts e rec = rw (j, e, l, true-or inside) (rec true ∙ ap (fits true) e)
     go false false j l inside part parts e rec = rw (j, e, l, true-or inside) (ap done (stuck t))
 
+-- it ended inside a component
 done_true : (o : Option Bool) → done o ≡ true → o ≡ Some true
 done_true None e = cc e
 done_true (Some inside) e = ap Some e
 
+-- an answer that is not there
 none_true : (o : Option (List ℕ)) → is_none o ≡ true → o ≡ None
 none_true None e = refl
 none_true (Some x) e = cc e
 
+-- no component is refused where the automaton accepts
 passes_is : (a : List ℕ) → passes (slice_split is_joint a) ≡ done (fold step (Some false) a)
 passes_is a =
     let (part, parts, e) = split_some a in
     ap passes e ∙ passes_cons part parts ∙ sym (agree a false ∙ ap (fits false) e)
 
+-- no component is refused exactly in an algorithm
 algorithm_passes : (a : List ℕ) → (component_refusal (slice_split is_joint a) ≡ None) ↔ IsAlgorithm a
 algorithm_passes a = (
   (λ h. (accepts a).0 (done_true (fold step (Some false) a) (sym (passes_is a) ∙ ap is_none h))),
@@ -93,9 +102,11 @@ sha_is n e h = go (length e == n) (list_all is_lower_hex e) refl refl
     go true false s a = let clash = rw (s, a) at h in cc clash
     go false all s a = let clash = rw s at h in cc clash
 
+-- have none
 sha_none : (n : ℕ) (e : List ℕ) → IsSha n e → sha_refusal n e ≡ None
 sha_none n e h = rw (eq-eqb (length e) n h.0, h.1) refl
 
+-- the same for each algorithm
 meets : (a e : List ℕ) → digits_refusal a e ≡ None → MeetsSha a e
 meets a e h = record {
   sha256 = λ is. sha_is 64 e (subst (λ z. digits_refusal z e ≡ None) is h);
@@ -103,6 +114,7 @@ meets a e h = record {
   sha512 = λ is. sha_is 128 e (subst (λ z. digits_refusal z e ≡ None) is h);
 }
 
+-- and back
 meets_none : (a e : List ℕ) → MeetsSha a e → digits_refusal a e ≡ None
 meets_none a e m = go (bytes_eq a (codes "sha256")) (bytes_eq a (codes "sha384")) (bytes_eq a (codes "sha512")) refl refl refl
   where
@@ -112,6 +124,7 @@ meets_none a e m = go (bytes_eq a (codes "sha256")) (bytes_eq a (codes "sha384")
     go false false true p q r = rw (p, q, r) (sha_none 128 e (m.sha512 ((bytes_eq-Decides a (codes "sha512")).0 r)))
     go false false false p q r = rw (p, q, r) refl
 
+-- an encoded part without a refusal
 encoded_is : (a e : List ℕ) → encoded_refusal a e ≡ None → IsSomeOf is_encoded_byte e × MeetsSha a e
 encoded_is a [] h = cc h
 encoded_is a (b ∷ e) h = go (list_all is_encoded_byte (b ∷ e)) refl
@@ -123,9 +136,11 @@ encoded_is a (b ∷ e) h = go (list_all is_encoded_byte (b ∷ e)) refl
     go true k = ((omega arith, k), meets a (b ∷ e) (rw (some', k) at h))
     go false k = let clash = rw (some', k) at h in cc clash
 
+-- has none
 encoded_none : (a e : List ℕ) → IsSomeOf is_encoded_byte e → MeetsSha a e → encoded_refusal a e ≡ None
 encoded_none a e h m = rw (ne_eqb (length e) 0 (omega (arith, h.0)), h.1) (meets_none a e m)
 
+-- neither is refused
 first_none : (x y : Option (List ℕ)) → option_or x y ≡ None → (x ≡ None) × (y ≡ None)
 first_none None y h = (refl, h)
 first_none (Some x) y h = cc h
@@ -155,6 +170,7 @@ digest_cut t a e d =
     let cut = until_is colon a e (no_colon a d.is_algorithm) in
     (ap (until colon) d.spelled ∙ cut.0, ap (after colon) d.spelled ∙ cut.1)
 
+-- a digest has no refusal, and what has none is a digest
 pub digest_refused : (t : List ℕ) → (digest_refusal t ≡ None) ↔ ((a e : List ℕ) × IsDigest t a e)
 digest_refused t = ((λ h. (until colon t, after colon t, digest_text t h)), back)
   where

@@ -5,7 +5,7 @@ use Rattle.oci_text_base.specs.Names.{is_listed}
 use Rattle.oci_text_names.specs.ErrorCode.{all_error_codes, error_code_back, error_code_name, error_code_text, error_codes}
 use Rattle.oci_text_names.specs.Variants.{listed}
 use Rattle.oci_text_names.specs.declared.error_code.ErrorCode.{ErrorCode}
-use Rattle.oci_text_names.specs.declared.error_code.ErrorCode.TheVariants.{BlobUnknown, BlobUploadInvalid, BlobUploadUnknown, DigestInvalid, ManifestBlobUnknown, ManifestInvalid, ManifestUnknown, NameInvalid, NameUnknown, SizeInvalid, Unauthorized, Denied, Unsupported, TooManyRequests}
+use Rattle.oci_text_names.specs.declared.error_code.ErrorCode.TheVariants.{TooManyRequests}
 
 -- both texts are one, but for one code
 pub text_of_name : (code : ErrorCode) (t : List ℕ) → t ≡ error_code_name code → (t ≡ codes "TOOMANYREQUESTS" → ⊥) → error_code_text code ≡ t

@@ -1,5 +1,5 @@
 -- The architectures of platforms (image specification, "Image Index", `architecture`; Go, `GOARCH`).
-use Rattle.std.proofs.Common.{◌≡◌, true, false, refl}
+use Rattle.std.proofs.Common.{◌≡◌, false, refl}
 use Rattle.oci_text_base.specs.Names.{is_other, name_text, opened}
 use Rattle.oci_json_schema.specs.Fits.{FitsOpen}
 use Rattle.oci_json_schema.specs.Types.{name_plain}

@@ -1,5 +1,5 @@
 -- The media types (image specification, "Media Types").
-use Rattle.std.proofs.Common.{◌≡◌, true, false, refl}
+use Rattle.std.proofs.Common.{◌≡◌, false, refl}
 use Rattle.oci_text_base.specs.Names.{is_other, name_text, opened}
 use Rattle.oci_json_schema.specs.Fits.{FitsOpen}
 use Rattle.oci_json_schema.specs.Types.{name_plain}

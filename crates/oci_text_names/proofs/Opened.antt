@@ -1,8 +1,8 @@
 -- A text that is none of a table.
-use Rattle.std.proofs.Common.{◌≡◌, ℕ, List, [], ◌∷◌, Bool, true, false, cond, bytes_eq, refl, sym, ap, ◌∙◌}
+use Rattle.std.proofs.Common.{◌≡◌, ℕ, List, [], ◌∷◌, Bool, true, false, bytes_eq, refl}
 use Rattle.std.specs.Prelude.{⊤}
 use Rattle.std.proofs.lemmas.Slice.Eq.{bytes_eq-Decides}
-use Rattle.oci_text_base.specs.Names.{Name, other, opened, is_listed}
+use Rattle.oci_text_base.specs.Names.{other, opened, is_listed}
 
 -- the text is none of these
 abbrev pub IsNone : List (List ℕ) → List ℕ → Type 0

@@ -224,7 +224,7 @@ impl OciMember for Arch {
     #[tactic(auto, using(oci_json_schema::proofs::Readers::no_name, crate::proofs::OpenMembers::name_means))]
     fn read(alloc: Global, value: &Value) -> Result<Arch> {
         match value.as_str() {
-            Some(text) => Ok(Arch::from_text(alloc, text)?),
+            Some(text) => Arch::from_text(alloc, text),
             None => Err(refused("", "")),
         }
     }

@@ -1,6 +1,7 @@
 //! The codes of a registry's errors (distribution specification, "Error Codes").
 ghost use Rattle.std.specs.Prelude.{◌≡◌, IfOk, IfErr};
 ghost use Rattle.oci_text_names.specs.ErrorCode.{error_code_text};
+ghost use Rattle.oci_text_names.specs.declared.error_code.ErrorCode.{ErrorCode};
 
 use crate::closed::{read_name, write_name};
 use crate::json_name::JsonName;
@@ -62,7 +63,7 @@ impl ErrorCode {
     #[tactic(auto, using(crate::proofs::ErrorTexts::text_of_name, crate::proofs::ErrorTexts::no_text))]
     pub fn from_str(text: &str) -> std::result::Result<ErrorCode, UnknownName>
         ensures ok { IfOk result (λ code. error_code_text code ≡ text.now) }
-        ensures err { IfErr result (λ e. (code : _) → ¬ (error_code_text code ≡ text.now)) }
+        ensures err { IfErr result (λ e. (code : ErrorCode) → ¬ (error_code_text code ≡ text.now)) }
     {
         match text {
             "TOO_MANY_REQUESTS" => Ok(ErrorCode::TooManyRequests),

@@ -197,7 +197,7 @@ impl OciMember for MediaType {
     #[tactic(auto, using(oci_json_schema::proofs::Readers::no_name, crate::proofs::OpenMembers::name_means))]
     fn read(alloc: Global, value: &Value) -> Result<MediaType> {
         match value.as_str() {
-            Some(text) => Ok(MediaType::from_text(alloc, text)?),
+            Some(text) => MediaType::from_text(alloc, text),
             None => Err(refused("", "")),
         }
     }

@@ -180,7 +180,7 @@ impl OciMember for Os {
     #[tactic(auto, using(oci_json_schema::proofs::Readers::no_name, crate::proofs::OpenMembers::name_means))]
     fn read(alloc: Global, value: &Value) -> Result<Os> {
         match value.as_str() {
-            Some(text) => Ok(Os::from_text(alloc, text)?),
+            Some(text) => Os::from_text(alloc, text),
             None => Err(refused("", "")),
         }
     }

@@ -1,6 +1,8 @@
-use Rattle.oci_text_names.specs.Arch.{arches}
-use Rattle.oci_text_names.proofs.OpenMembers.{name_means}
+-- The text means the name that it opens.
+use Rattle.serde_json.specs.View.{view}
+use Rattle.oci_text_names.specs.Arch.{arch_name, arches}
+use Rattle.oci_text_names.proofs.OpenMembers.{answer_means}
 use Rattle.oci_text_names.proofs.arch.ArchOciMember.read.Goals as goal
 
-pub returns-in_ok-from_text-in-Some-clause-ok : goal.returns-in_ok-from_text-in-Some-clause-ok
-returns-in_ok-from_text-in-Some-clause-ok c = name_means arches _ _ _ c.in-Some.ensures c.in_ok-from_text-in-Some.ensures.ok
+pub returns-in-Some-clause-ok : goal.returns-in-Some-clause-ok
+returns-in-Some-clause-ok c = answer_means arches arch_name c.in-Some.text.now (view c.args.value.now) c.from_text.result c.in-Some.ensures c.from_text.ensures.ok

@@ -1,0 +1,9 @@
+pub use Rattle.oci_text_base.specs.Classes
+pub use Rattle.oci_text_base.specs.Digest
+pub use Rattle.oci_text_base.specs.Names
+pub use Rattle.oci_text_base.specs.Refused
+pub use Rattle.oci_text_digest.specs.Algorithms
+pub use Rattle.oci_text_names.specs.Arch
+pub use Rattle.oci_text_names.specs.ErrorCode
+pub use Rattle.oci_text_names.specs.MediaType
+pub use Rattle.oci_text_names.specs.Os
