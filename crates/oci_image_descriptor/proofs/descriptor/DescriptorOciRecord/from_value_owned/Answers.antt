@@ -1,0 +1,12 @@
+use Rattle.std.proofs.Common.{codes, refl, rules}
+use Rattle.oci_json_schema.proofs.Readers.{exit, exit_kind}
+use Rattle.oci_image_descriptor.proofs.descriptor.DescriptorOciRecord.from_value_owned.Goals as goal
+
+pub returns-in_err-optional_owned-4-clause-err : goal.returns-in_err-optional_owned-4-clause-err
+returns-in_err-optional_owned-4-clause-err c = exit _ _ (codes "artifactType") _ _ _ c.from_residual-in_err-optional_owned-4.ensures.1 (λ h. c.in_err-optional_owned-4.ensures.err h _ (search rules)) refl
+
+pub returns-in_err-optional_owned-5-clause-err : goal.returns-in_err-optional_owned-5-clause-err
+returns-in_err-optional_owned-5-clause-err c = exit _ _ (codes "data") _ _ _ c.from_residual-in_err-optional_owned-5.ensures.1 (λ h. c.in_err-optional_owned-5.ensures.err h _ (search rules)) refl
+
+pub returns-in_err-optional_owned-5-clause-kind : goal.returns-in_err-optional_owned-5-clause-kind
+returns-in_err-optional_owned-5-clause-kind c = exit_kind _ _ c.from_residual-in_err-optional_owned-5.ensures.1 c.in_err-optional_owned-5.ensures.kind

@@ -1,0 +1,4 @@
+pub mod Descriptor
+pub mod DescriptorBuilder
+pub mod Platform
+pub mod PlatformBuilder

@@ -1,0 +1,376 @@
+//! What a document points to: its media type, its digest and its size (image specification, "Content Descriptors").
+ghost use Rattle.std.specs.Prelude.{◌≡◌, IfOk, IfErr};
+
+use crate::platform::Platform;
+use oci_json_schema::{OciMember, OciRecord, copy_optional, fault, optional, optional_owned, required, required_owned, split_8, taken, write_optional, write_required};
+use oci_text_base::{OciSpecError, Result, UninitializedFieldError};
+use oci_text_digest::Digest;
+use oci_text_names::MediaType;
+use serde_json::{Map, Value};
+use std::alloc::Global;
+use std::collections::BTreeMap;
+
+const NAME: &str = "Descriptor";
+
+/// What a document points to: its media type, its digest and its size (image specification, "Content Descriptors").
+#[derive(Debug, PartialEq, Eq, Drop)]
+pub struct Descriptor {
+    media_type: MediaType,
+    digest: Digest,
+    size: u64,
+    urls: Option<Vec<String>>,
+    annotations: Option<BTreeMap<String, String>>,
+    platform: Option<Platform>,
+    artifact_type: Option<MediaType>,
+    embedded_data: Option<String>,
+}
+
+impl Descriptor {
+    ghost use Rattle.oci_image_descriptor.specs.Descriptor.{descriptor_plain};
+
+    /// An equal document.
+    pub fn clone(&self, alloc: Global) -> Result<Descriptor>
+        ensures ok { IfOk result (λ x. descriptor_plain x ≡ descriptor_plain self.now) }
+        ensures err { IfErr result (λ e. e ≡ OciSpecError.Memory) }
+    {
+        self.duplicate(alloc)
+    }
+
+    /// The media type of the content.
+    pub fn media_type(&self) -> &MediaType
+        ensures { result.now ≡ self.now.media_type }
+    {
+        &self.media_type
+    }
+
+    /// Sets `media_type` alone.
+    pub fn set_media_type(&mut self, media_type: MediaType) -> &mut Self
+        ensures set { result.now ≡ record self.old { media_type = media_type } }
+        ensures same { result.ghost_name ≡ self.entry.ghost_name }
+    {
+        self.media_type = media_type;
+        self
+    }
+
+    /// The digest of the content.
+    pub fn digest(&self) -> &Digest
+        ensures { result.now ≡ self.now.digest }
+    {
+        &self.digest
+    }
+
+    /// Sets `digest` alone.
+    pub fn set_digest(&mut self, digest: Digest) -> &mut Self
+        ensures set { result.now ≡ record self.old { digest = digest } }
+        ensures same { result.ghost_name ≡ self.entry.ghost_name }
+    {
+        self.digest = digest;
+        self
+    }
+
+    /// The size of the content in bytes.
+    pub fn size(&self) -> u64
+        ensures { result ≡ self.now.size }
+    {
+        self.size
+    }
+
+    /// Sets `size` alone.
+    pub fn set_size(&mut self, size: u64) -> &mut Self
+        ensures set { result.now ≡ record self.old { size = size } }
+        ensures same { result.ghost_name ≡ self.entry.ghost_name }
+    {
+        self.size = size;
+        self
+    }
+
+    /// Where the content may be had, as URIs.
+    pub fn urls(&self) -> &Option<Vec<String>>
+        ensures { result.now ≡ self.now.urls }
+    {
+        &self.urls
+    }
+
+    /// Sets `urls` alone.
+    pub fn set_urls(&mut self, urls: Option<Vec<String>>) -> &mut Self
+        ensures set { result.now ≡ record self.old { urls = urls } }
+        ensures same { result.ghost_name ≡ self.entry.ghost_name }
+    {
+        self.urls = urls;
+        self
+    }
+
+    /// Annotations, by their keys.
+    pub fn annotations(&self) -> &Option<BTreeMap<String, String>>
+        ensures { result.now ≡ self.now.annotations }
+    {
+        &self.annotations
+    }
+
+    /// Sets `annotations` alone.
+    pub fn set_annotations(&mut self, annotations: Option<BTreeMap<String, String>>) -> &mut Self
+        ensures set { result.now ≡ record self.old { annotations = annotations } }
+        ensures same { result.ghost_name ≡ self.entry.ghost_name }
+    {
+        self.annotations = annotations;
+        self
+    }
+
+    /// The machine that the content is for.
+    pub fn platform(&self) -> &Option<Platform>
+        ensures { result.now ≡ self.now.platform }
+    {
+        &self.platform
+    }
+
+    /// Sets `platform` alone.
+    pub fn set_platform(&mut self, platform: Option<Platform>) -> &mut Self
+        ensures set { result.now ≡ record self.old { platform = platform } }
+        ensures same { result.ghost_name ≡ self.entry.ghost_name }
+    {
+        self.platform = platform;
+        self
+    }
+
+    /// The type of the artifact that the content is.
+    pub fn artifact_type(&self) -> &Option<MediaType>
+        ensures { result.now ≡ self.now.artifact_type }
+    {
+        &self.artifact_type
+    }
+
+    /// Sets `artifact_type` alone.
+    pub fn set_artifact_type(&mut self, artifact_type: Option<MediaType>) -> &mut Self
+        ensures set { result.now ≡ record self.old { artifact_type = artifact_type } }
+        ensures same { result.ghost_name ≡ self.entry.ghost_name }
+    {
+        self.artifact_type = artifact_type;
+        self
+    }
+
+    /// The content itself, in base64.
+    pub fn data(&self) -> &Option<String>
+        ensures { result.now ≡ self.now.embedded_data }
+    {
+        &self.embedded_data
+    }
+
+    /// Sets `data` alone.
+    pub fn set_data(&mut self, data: Option<String>) -> &mut Self
+        ensures set { result.now ≡ record self.old { embedded_data = «data» } }
+        ensures same { result.ghost_name ≡ self.entry.ghost_name }
+    {
+        self.embedded_data = data;
+        self
+    }
+}
+
+impl OciRecord for Descriptor {
+    ghost use Rattle.oci_text_names.specs.MediaType.{media_type_name};
+    ghost use Rattle.oci_json_schema.specs.Same.{same_document, same_more, same_last, same_given, same_perhaps, same_texts, same_lists, same_maps, same_named, same_bytes, same_numbers};
+    ghost use Rattle.oci_image_descriptor.specs.Descriptor.{descriptor, descriptor_plain};
+    ghost use Rattle.oci_image_descriptor.specs.contracts.platform.PlatformOciRecord.TheImpl.Laws.{same-law as platform_same};
+
+    ghost shape = { descriptor };
+
+    ghost plain = { descriptor_plain };
+
+    #[tactic(auto, using(oci_json_schema::proofs::Readers::refuses_others))]
+    fn from_value(alloc: Global, value: &Value) -> Result<Descriptor> {
+        if !value.is_object() {
+            return Err(fault::refused(NAME, ""));
+        }
+        Ok(Descriptor {
+            media_type: required(alloc, value, NAME, "mediaType")?,
+            digest: required(alloc, value, NAME, "digest")?,
+            size: required(alloc, value, NAME, "size")?,
+            urls: optional(alloc, value, NAME, "urls")?,
+            annotations: optional(alloc, value, NAME, "annotations")?,
+            platform: optional(alloc, value, NAME, "platform")?,
+            artifact_type: optional(alloc, value, NAME, "artifactType")?,
+            embedded_data: optional(alloc, value, NAME, "data")?,
+        })
+    }
+
+    #[tactic(auto, using(oci_json_schema::proofs::Readers::refuses_others))]
+    fn from_value_owned(alloc: Global, value: Value) -> Result<Descriptor> {
+        let Some(found) = taken::<8>(alloc, value, &["mediaType", "digest", "size", "urls", "annotations", "platform", "artifactType", "data"])? else {
+            return Err(fault::refused(NAME, ""));
+        };
+        let (media_type, digest, size, urls, annotations, platform, artifact_type, embedded_data) = split_8(found);
+        Ok(Descriptor {
+            media_type: required_owned(alloc, media_type, NAME, "mediaType")?,
+            digest: required_owned(alloc, digest, NAME, "digest")?,
+            size: required_owned(alloc, size, NAME, "size")?,
+            urls: optional_owned(alloc, urls, NAME, "urls")?,
+            annotations: optional_owned(alloc, annotations, NAME, "annotations")?,
+            platform: optional_owned(alloc, platform, NAME, "platform")?,
+            artifact_type: optional_owned(alloc, artifact_type, NAME, "artifactType")?,
+            embedded_data: optional_owned(alloc, embedded_data, NAME, "data")?,
+        })
+    }
+
+    fn to_value(&self, alloc: Global) -> Result<Value> {
+        let mut members = Map::new(alloc);
+        write_required(&mut members, alloc, "mediaType", &self.media_type)?;
+        write_required(&mut members, alloc, "digest", &self.digest)?;
+        write_required(&mut members, alloc, "size", &self.size)?;
+        write_optional(&mut members, alloc, "urls", &self.urls)?;
+        write_optional(&mut members, alloc, "annotations", &self.annotations)?;
+        write_optional(&mut members, alloc, "platform", &self.platform)?;
+        write_optional(&mut members, alloc, "artifactType", &self.artifact_type)?;
+        write_optional(&mut members, alloc, "data", &self.embedded_data)?;
+        Ok(Value::Object(members))
+    }
+
+    fn duplicate(&self, alloc: Global) -> Result<Descriptor> {
+        Ok(Descriptor {
+            media_type: self.media_type.copy(alloc)?,
+            digest: self.digest.copy(alloc)?,
+            size: self.size.copy(alloc)?,
+            urls: copy_optional(&self.urls, alloc)?,
+            annotations: copy_optional(&self.annotations, alloc)?,
+            platform: copy_optional(&self.platform, alloc)?,
+            artifact_type: copy_optional(&self.artifact_type, alloc)?,
+            embedded_data: copy_optional(&self.embedded_data, alloc)?,
+        })
+    }
+
+    ghost well_formed = { Prim.search };
+
+    ghost same = { λ x y. same_document (
+        same_more (same_given (same_named media_type_name) x.media_type y.media_type) (
+        same_more (same_given same_bytes x.digest y.digest) (
+        same_more (same_given same_numbers x.size y.size) (
+        same_more (same_perhaps (same_lists same_texts) x.urls y.urls) (
+        same_more (same_perhaps (same_maps same_texts) x.annotations y.annotations) (
+        same_more (same_perhaps platform_same x.platform y.platform) (
+        same_more (same_perhaps (same_named media_type_name) x.artifact_type y.artifact_type) (
+        same_last (same_perhaps same_texts x.embedded_data y.embedded_data))))))))) };
+}
+
+/// Puts a `Descriptor` together.
+#[derive(Debug, Default, Drop)]
+pub struct DescriptorBuilder {
+    media_type: Option<MediaType>,
+    digest: Option<Digest>,
+    size: Option<u64>,
+    urls: Option<Vec<String>>,
+    annotations: Option<BTreeMap<String, String>>,
+    platform: Option<Platform>,
+    artifact_type: Option<MediaType>,
+    embedded_data: Option<String>,
+}
+
+impl DescriptorBuilder {
+    ghost use Rattle.std.specs.Prelude.{Some};
+    ghost use Rattle.oci_json_schema.specs.Built.{IsUnset};
+    ghost use Rattle.oci_image_descriptor.specs.DescriptorBuilder.{descriptor_unset};
+
+    /// The media type of the content.
+    pub fn media_type(self, media_type: MediaType) -> Self
+        ensures { result ≡ record self { media_type = Some media_type } }
+    {
+        DescriptorBuilder {
+            media_type: Some(media_type),
+            ..self
+        }
+    }
+
+    /// The digest of the content.
+    pub fn digest(self, digest: Digest) -> Self
+        ensures { result ≡ record self { digest = Some digest } }
+    {
+        DescriptorBuilder {
+            digest: Some(digest),
+            ..self
+        }
+    }
+
+    /// The size of the content in bytes.
+    pub fn size(self, size: u64) -> Self
+        ensures { result ≡ record self { size = Some size } }
+    {
+        DescriptorBuilder {
+            size: Some(size),
+            ..self
+        }
+    }
+
+    /// Where the content may be had, as URIs.
+    pub fn urls(self, urls: Vec<String>) -> Self
+        ensures { result ≡ record self { urls = Some urls } }
+    {
+        DescriptorBuilder {
+            urls: Some(urls),
+            ..self
+        }
+    }
+
+    /// Annotations, by their keys.
+    pub fn annotations(self, annotations: BTreeMap<String, String>) -> Self
+        ensures { result ≡ record self { annotations = Some annotations } }
+    {
+        DescriptorBuilder {
+            annotations: Some(annotations),
+            ..self
+        }
+    }
+
+    /// The machine that the content is for.
+    pub fn platform(self, platform: Platform) -> Self
+        ensures { result ≡ record self { platform = Some platform } }
+    {
+        DescriptorBuilder {
+            platform: Some(platform),
+            ..self
+        }
+    }
+
+    /// The type of the artifact that the content is.
+    pub fn artifact_type(self, artifact_type: MediaType) -> Self
+        ensures { result ≡ record self { artifact_type = Some artifact_type } }
+    {
+        DescriptorBuilder {
+            artifact_type: Some(artifact_type),
+            ..self
+        }
+    }
+
+    /// The content itself, in base64.
+    pub fn data(self, data: String) -> Self
+        ensures { result ≡ record self { embedded_data = Some «data» } }
+    {
+        DescriptorBuilder {
+            embedded_data: Some(data),
+            ..self
+        }
+    }
+
+    /// The document of the fields that were set; else `Builder` with the first field that has to be set and is not.
+    pub fn build(self, _alloc: Global) -> Result<Descriptor>
+        ensures built { IfOk result (λ x. self ≡ record { media_type = Some x.media_type; digest = Some x.digest; size = Some x.size; urls = x.urls; annotations = x.annotations; platform = x.platform; artifact_type = x.artifact_type; embedded_data = x.embedded_data }) }
+        ensures unset { IfErr result (λ e. IsUnset (descriptor_unset self) e) }
+    {
+        let DescriptorBuilder { media_type, digest, size, urls, annotations, platform, artifact_type, embedded_data } = self;
+        let Some(media_type) = media_type else {
+            return Err(UninitializedFieldError::new("media_type").into());
+        };
+        let Some(digest) = digest else {
+            return Err(UninitializedFieldError::new("digest").into());
+        };
+        let Some(size) = size else {
+            return Err(UninitializedFieldError::new("size").into());
+        };
+        Ok(Descriptor {
+            media_type,
+            digest,
+            size,
+            urls,
+            annotations,
+            platform,
+            artifact_type,
+            embedded_data,
+        })
+    }
+}
