@@ -1,0 +1,4 @@
+pub mod ArtifactManifest
+pub mod ArtifactManifestBuilder
+pub mod ImageManifest
+pub mod ImageManifestBuilder
