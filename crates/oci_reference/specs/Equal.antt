@@ -12,8 +12,8 @@ use Rattle.oci_reference.specs.Parts.{Parts}
 -- each part by its bytes
 abbrev pub parts_eq : Parts → Parts → Bool
 parts_eq r q =
-    bytes_eq r.registry q.registry && option_eq bytes_eq r.mirror q.mirror && bytes_eq r.repository q.repository
-    && option_eq bytes_eq r.tag q.tag && option_eq bytes_eq r.digest q.digest
+    bytes_eq r.registry q.registry && (option_eq bytes_eq r.mirror q.mirror && (bytes_eq r.repository q.repository
+    && (option_eq bytes_eq r.tag q.tag && option_eq bytes_eq r.digest q.digest)))
 
 -- what a hasher is shown
 abbrev pub parts_fed : Parts → List (List ℕ)
@@ -36,14 +36,14 @@ same_parts a a' c c' b b' d d' e e' p q r s t = cc
 pub parts_eq-Decides : (r q : Parts) → Decides (parts_eq r q) (r ≡ q)
 parts_eq-Decides r q = (
   (λ e.
-      let p4 = both _ (option_eq bytes_eq r.digest q.digest) e in
-      let p3 = both _ (option_eq bytes_eq r.tag q.tag) p4.0 in
-      let p2 = both _ (bytes_eq r.repository q.repository) p3.0 in
-      let p1 = both (bytes_eq r.registry q.registry) (option_eq bytes_eq r.mirror q.mirror) p2.0 in
+      let p1 = both (bytes_eq r.registry q.registry) _ e in
+      let p2 = both (option_eq bytes_eq r.mirror q.mirror) _ p1.1 in
+      let p3 = both (bytes_eq r.repository q.repository) _ p2.1 in
+      let p4 = both (option_eq bytes_eq r.tag q.tag) (option_eq bytes_eq r.digest q.digest) p3.1 in
       let registry = (bytes_eq-Decides r.registry q.registry).0 p1.0 in
-      let mirror = (option_decides r.mirror q.mirror).0 p1.1 in
-      let repository = (bytes_eq-Decides r.repository q.repository).0 p2.1 in
-      let tag = (option_decides r.tag q.tag).0 p3.1 in
+      let mirror = (option_decides r.mirror q.mirror).0 p2.0 in
+      let repository = (bytes_eq-Decides r.repository q.repository).0 p3.0 in
+      let tag = (option_decides r.tag q.tag).0 p4.0 in
       let digest = (option_decides r.digest q.digest).0 p4.1 in
       same_parts r.registry q.registry r.repository q.repository r.mirror q.mirror r.tag q.tag r.digest q.digest registry mirror repository tag digest),
   (λ e.

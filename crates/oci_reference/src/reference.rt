@@ -8,12 +8,19 @@ ghost use Rattle.oci_reference.specs.Written.{some_text, named, mark_if};
 use crate::limits::limit;
 use crate::names::{Named, default_name, repository_text};
 use crate::texts::{copied, lent, mark_if, owned, some_text, tag_or_latest, text_or_empty};
+use oci_json_schema::{
+    OciRecord, fault, optional, optional_owned, required, required_owned, split_5, taken, write_optional,
+    write_required,
+};
 use oci_reference_scan::{ParseError, parts};
 use oci_text_base::OciSpecError;
+use serde_json::{Map, Value};
 use std::alloc::{AllocError, Global};
 use std::fmt;
 use std::hash::{Hash, Hasher};
 use std::marker::Model;
+
+const NAME: &str = "Reference";
 
 /// A reference to an image in a registry (distribution specification, "Pulling manifests"). Contracts see it as its parts:
 /// registry, repository, tag and digest, and the mirror that is asked in the registry's place.
@@ -325,6 +332,72 @@ impl Reference {
             digest: copied(&self.digest)?,
         })
     }
+}
+
+impl OciRecord for Reference {
+    ghost use Rattle.oci_json_schema.specs.Same.{same_document, same_more, same_last, same_given, same_perhaps, same_bytes};
+    ghost use Rattle.oci_reference.specs.Record.{reference, reference_plain};
+
+    ghost shape = { reference };
+
+    ghost plain = { reference_plain };
+
+    #[tactic(auto, using(oci_json_schema::proofs::Readers::refuses_others))]
+    fn from_value(alloc: Global, value: &Value) -> oci_text_base::Result<Reference> {
+        if !value.is_object() {
+            return Err(fault::refused(NAME, ""));
+        }
+        Ok(Reference {
+            registry: required(alloc, value, NAME, "registry")?,
+            mirror_registry: optional(alloc, value, NAME, "mirror_registry")?,
+            repository: required(alloc, value, NAME, "repository")?,
+            tag: optional(alloc, value, NAME, "tag")?,
+            digest: optional(alloc, value, NAME, "digest")?,
+        })
+    }
+
+    #[tactic(auto, using(oci_json_schema::proofs::Readers::refuses_others))]
+    fn from_value_owned(alloc: Global, value: Value) -> oci_text_base::Result<Reference> {
+        let Some(found) = taken::<5>(
+            alloc,
+            value,
+            &["registry", "mirror_registry", "repository", "tag", "digest"],
+        )?
+        else {
+            return Err(fault::refused(NAME, ""));
+        };
+        let (registry, mirror_registry, repository, tag, digest) = split_5(found);
+        Ok(Reference {
+            registry: required_owned(alloc, registry, NAME, "registry")?,
+            mirror_registry: optional_owned(alloc, mirror_registry, NAME, "mirror_registry")?,
+            repository: required_owned(alloc, repository, NAME, "repository")?,
+            tag: optional_owned(alloc, tag, NAME, "tag")?,
+            digest: optional_owned(alloc, digest, NAME, "digest")?,
+        })
+    }
+
+    fn to_value(&self, alloc: Global) -> oci_text_base::Result<Value> {
+        let mut members = Map::new(alloc);
+        write_required(&mut members, alloc, "registry", &self.registry)?;
+        write_optional(&mut members, alloc, "mirror_registry", &self.mirror_registry)?;
+        write_required(&mut members, alloc, "repository", &self.repository)?;
+        write_optional(&mut members, alloc, "tag", &self.tag)?;
+        write_optional(&mut members, alloc, "digest", &self.digest)?;
+        Ok(Value::Object(members))
+    }
+
+    fn duplicate(&self, _alloc: Global) -> oci_text_base::Result<Reference> {
+        self.clone()
+    }
+
+    ghost well_formed = { Prim.search };
+
+    ghost same = { λ x y. same_document (
+        same_more (same_given same_bytes x.registry y.registry) (
+        same_more (same_perhaps same_bytes x.mirror y.mirror) (
+        same_more (same_given same_bytes x.repository y.repository) (
+        same_more (same_perhaps same_bytes x.tag y.tag) (
+        same_last (same_perhaps same_bytes x.digest y.digest)))))) };
 }
 
 impl fmt::Display for Reference {

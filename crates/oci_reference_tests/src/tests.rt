@@ -4,6 +4,7 @@ use std::collections::HashSet;
 use std::process::Abort;
 use std::test::Fail;
 
+mod record;
 mod rows;
 
 /// Registry, repository, tag, digest, namespace, the registry that is asked, and the whole text.
@@ -15,17 +16,6 @@ fn described(alloc: Global, reference: &Reference) -> Result<String, AllocError>
     let namespace = reference.namespace().unwrap_or("-");
     let asked = reference.resolve_registry();
     format!(in alloc; "{registry} {repository} {tag} {digest} {namespace} {asked} {reference}")
-}
-
-fn check_described(
-    rt: &impl Abort,
-    alloc: Global,
-    reference: &Reference,
-    line: &str,
-) -> Result<(), Fail> {
-    let found = described(alloc, reference)?;
-    assert_eq!(rt; found.as_str(), line);
-    Ok(())
 }
 
 fn answered(alloc: Global, found: Result<Reference, ParseError>) -> Result<String, ParseError> {
@@ -123,16 +113,28 @@ fn lengths(rt: HostRuntime) -> Result<(), Fail> {
     Ok(())
 }
 
-#[test]
-fn spellings_of_one_image(rt: HostRuntime) -> Result<(), Fail> {
-    let mut images = HashSet::new(rt.alloc());
+fn of_busybox(alloc: Global) -> Result<usize, ParseError> {
+    let mut images = HashSet::new(alloc);
     for text in rows::SPELLINGS {
-        let reference = Reference::from_str(rt.alloc(), text)?;
-        check_described(&rt, rt.alloc(), &reference, rows::BUSYBOX)?;
-        drop(images.insert(reference)?);
+        match images.insert(Reference::from_str(alloc, text)?) {
+            Ok(_) => {}
+            Err(_) => return Err(ParseError::Memory),
+        }
     }
-    assert!(rt; images.len() == 1);
-    Ok(())
+    Ok(images.len())
+}
+
+#[test]
+fn spellings_of_one_image(rt: HostRuntime) {
+    for text in rows::SPELLINGS {
+        let read = Reference::from_str(rt.alloc(), text);
+        check_answer(&rt, answered(rt.alloc(), read), Ok(rows::BUSYBOX));
+        assert!(rt;
+            are_equal(rt.alloc(), "busybox", text) == Ok(true),
+            "{text}"
+        );
+    }
+    assert!(rt; of_busybox(rt.alloc()) == Ok(1));
 }
 
 fn are_equal(alloc: Global, text: &str, other: &str) -> Result<bool, ParseError> {
@@ -148,59 +150,92 @@ fn latest_beside_a_digest(rt: HostRuntime) {
     assert!(rt; are_equal(rt.alloc(), bare, bare) == Ok(true));
 }
 
+fn mirrored(alloc: Global, text: &str) -> Result<Reference, ParseError> {
+    let mut reference = Reference::from_str(alloc, text)?;
+    let mirror = String::from_str(alloc, "docker.mirror.io")?;
+    reference.set_mirror_registry(mirror);
+    Ok(reference)
+}
+
+fn pinned(alloc: Global, text: &str) -> Result<Reference, ParseError> {
+    let reference = mirrored(alloc, text)?;
+    let digest = String::from_str(alloc, "foo:bar")?;
+    reference
+        .clone_with_digest(digest)
+        .map_err(|_| ParseError::Memory)
+}
+
+fn copied(alloc: Global, text: &str) -> Result<Reference, ParseError> {
+    let reference = mirrored(alloc, text)?;
+    reference.clone().map_err(|_| ParseError::Memory)
+}
+
+fn whole_text(alloc: Global, text: &str) -> Result<String, ParseError> {
+    let reference = mirrored(alloc, text)?;
+    reference.whole().map_err(|_| ParseError::Memory)
+}
+
+fn moved_text(alloc: Global, text: &str) -> Result<String, ParseError> {
+    let reference = mirrored(alloc, text)?;
+    reference.into_string().map_err(|_| ParseError::Memory)
+}
+
 #[test]
-fn mirrors(rt: HostRuntime) -> Result<(), Fail> {
-    for (text, mirrored, pinned) in &rows::MIRRORED {
-        let mut reference = Reference::from_str(rt.alloc(), text)?;
-        reference.set_mirror_registry(String::from_str(rt.alloc(), "docker.mirror.io")?);
-        check_described(&rt, rt.alloc(), &reference, mirrored)?;
-        let other = reference.clone_with_digest(String::from_str(rt.alloc(), "foo:bar")?)?;
-        check_described(&rt, rt.alloc(), &other, pinned)?;
+fn mirrors(rt: HostRuntime) {
+    for (text, by_mirror, by_digest, whole) in &rows::MIRRORED {
+        let alloc = rt.alloc();
+        check_answer(&rt, answered(alloc, mirrored(alloc, text)), Ok(*by_mirror));
+        check_answer(&rt, answered(alloc, copied(alloc, text)), Ok(*by_mirror));
+        check_answer(&rt, answered(alloc, pinned(alloc, text)), Ok(*by_digest));
+        check_answer(&rt, whole_text(alloc, text), Ok(*whole));
+        check_answer(&rt, moved_text(alloc, text), Ok(*whole));
     }
-    Ok(())
 }
 
-#[test]
-fn copies(rt: HostRuntime) -> Result<(), Fail> {
-    let mut reference = Reference::from_str(rt.alloc(), "test:5000/repo:tag")?;
-    reference.set_mirror_registry(String::from_str(rt.alloc(), "docker.mirror.io")?);
-    let copy = reference.clone()?;
-    assert!(rt; copy == reference);
-    let whole = copy.whole()?;
-    assert_eq!(rt; whole.as_str(), "test:5000/repo:tag");
-    let moved = copy.into_string()?;
-    assert_eq!(rt; moved.as_str(), "test:5000/repo:tag");
-    Ok(())
+fn tagged(alloc: Global, texts: (&str, &str, &str)) -> Result<Reference, ParseError> {
+    let registry = String::from_str(alloc, texts.0)?;
+    let repository = String::from_str(alloc, texts.1)?;
+    let tag = String::from_str(alloc, texts.2)?;
+    Ok(Reference::with_tag(registry, repository, tag))
 }
 
-fn made(
+fn by_digest(alloc: Global, texts: (&str, &str, &str)) -> Result<Reference, ParseError> {
+    let registry = String::from_str(alloc, texts.0)?;
+    let repository = String::from_str(alloc, texts.1)?;
+    let digest = String::from_str(alloc, texts.2)?;
+    Ok(Reference::with_digest(registry, repository, digest))
+}
+
+fn by_both(
     alloc: Global,
-    texts: (&str, &str, Option<&str>, Option<&str>),
-) -> Result<Reference, AllocError> {
-    let (registry, repository, tag, digest) = texts;
-    let registry = String::from_str(alloc, registry)?;
-    let repository = String::from_str(alloc, repository)?;
-    let tag = match tag {
-        Some(tag) => String::from_str(alloc, tag)?,
-        None => {
-            let digest = String::from_str(alloc, digest.unwrap_or(""))?;
-            return Ok(Reference::with_digest(registry, repository, digest));
-        }
-    };
-    match digest {
-        Some(digest) => {
-            let digest = String::from_str(alloc, digest)?;
-            Ok(Reference::with_tag_and_digest(registry, repository, tag, digest))
-        }
-        None => Ok(Reference::with_tag(registry, repository, tag)),
-    }
+    texts: (&str, &str, &str),
+    digest: &str,
+) -> Result<Reference, ParseError> {
+    let registry = String::from_str(alloc, texts.0)?;
+    let repository = String::from_str(alloc, texts.1)?;
+    let tag = String::from_str(alloc, texts.2)?;
+    let digest = String::from_str(alloc, digest)?;
+    Ok(Reference::with_tag_and_digest(registry, repository, tag, digest))
 }
 
 #[test]
-fn made_of_texts(rt: HostRuntime) -> Result<(), Fail> {
-    for (texts, line) in &rows::MADE {
-        let reference = made(rt.alloc(), *texts)?;
-        check_described(&rt, rt.alloc(), &reference, line)?;
+fn made_of_texts(rt: HostRuntime) {
+    for (texts, line) in &rows::WITH_TAG {
+        check_answer(
+            &rt,
+            answered(rt.alloc(), tagged(rt.alloc(), *texts)),
+            Ok(*line),
+        );
     }
-    Ok(())
+    for (texts, line) in &rows::WITH_DIGEST {
+        check_answer(
+            &rt,
+            answered(rt.alloc(), by_digest(rt.alloc(), *texts)),
+            Ok(*line),
+        );
+    }
+    for (texts, digest, line) in &rows::WITH_BOTH {
+        let made = by_both(rt.alloc(), *texts, digest);
+        check_answer(&rt, answered(rt.alloc(), made), Ok(*line));
+    }
 }

@@ -184,59 +184,70 @@ pub(super) const PINNED_BUSYBOX: (&str, &str) = (
     "busybox:latest@sha256:ffffffffffffffffffffffffffffffffffffffffffffffffffffffffffffffff",
 );
 
-/// A text, what its reference is by the mirror `docker.mirror.io`, and what it is then by the digest `foo:bar`.
-pub(super) const MIRRORED: [(&str, &str, &str); 5] = [
+/// A text, what its reference is by the mirror `docker.mirror.io`, and what it is then by the digest `foo:bar`;
+/// and the whole text.
+pub(super) const MIRRORED: [(&str, &str, &str, &str); 5] = [
     (
         "busybox",
         "docker.io library/busybox latest - docker.io docker.mirror.io docker.io/library/busybox:latest",
         "docker.io library/busybox - foo:bar docker.io docker.mirror.io docker.io/library/busybox@foo:bar",
+        "docker.io/library/busybox:latest",
     ),
     (
         "test.com/repo:tag",
         "test.com repo tag - test.com docker.mirror.io test.com/repo:tag",
         "test.com repo - foo:bar test.com docker.mirror.io test.com/repo@foo:bar",
+        "test.com/repo:tag",
     ),
     (
         "test:5000/repo",
         "test:5000 repo latest - test:5000 docker.mirror.io test:5000/repo:latest",
         "test:5000 repo - foo:bar test:5000 docker.mirror.io test:5000/repo@foo:bar",
+        "test:5000/repo:latest",
     ),
     (
         "sub-dom1.foo.com/bar/baz/quux",
         "sub-dom1.foo.com bar/baz/quux latest - sub-dom1.foo.com docker.mirror.io sub-dom1.foo.com/bar/baz/quux:latest",
         "sub-dom1.foo.com bar/baz/quux - foo:bar sub-dom1.foo.com docker.mirror.io sub-dom1.foo.com/bar/baz/quux@foo:bar",
+        "sub-dom1.foo.com/bar/baz/quux:latest",
     ),
     (
         "b.gcr.io/test.example.com/my-app:test.example.com",
         "b.gcr.io test.example.com/my-app test.example.com - b.gcr.io docker.mirror.io b.gcr.io/test.example.com/my-app:test.example.com",
         "b.gcr.io test.example.com/my-app - foo:bar b.gcr.io docker.mirror.io b.gcr.io/test.example.com/my-app@foo:bar",
+        "b.gcr.io/test.example.com/my-app:test.example.com",
     ),
 ];
 
-/// Registry, repository, tag and digest, and the reference that is made of them.
-pub(super) const MADE: [((&str, &str, Option<&str>, Option<&str>), &str); 10] = [
+/// Registry, repository and tag, and the reference that is made of them.
+pub(super) const WITH_TAG: [((&str, &str, &str), &str); 5] = [
     (
-        ("docker.io", "foo/bar", Some("1.2"), None),
+        ("docker.io", "foo/bar", "1.2"),
         "docker.io foo/bar 1.2 - - index.docker.io docker.io/foo/bar:1.2",
     ),
+    (("", "", ""), "   - -  "),
+    (("", "r", ""), " r  - -  r:"),
+    (("g", "", "t"), "g  t - - g g:t"),
+    (("", "", "t"), "  t - -  t"),
+];
+
+/// Registry, repository and digest, and the reference that is made of them.
+pub(super) const WITH_DIGEST: [((&str, &str, &str), &str); 3] = [
     (
-        ("docker.io", "foo/bar", None, Some("foo:bar")),
+        ("docker.io", "foo/bar", "foo:bar"),
         "docker.io foo/bar - foo:bar - index.docker.io docker.io/foo/bar@foo:bar",
     ),
+    (("", "", "d"), "  - d -  d"),
+    (("", "", ""), "  -  -  "),
+];
+
+/// Registry, repository and tag, a digest, and the reference that is made of them.
+pub(super) const WITH_BOTH: [((&str, &str, &str), &str, &str); 3] = [
     (
-        (
-            "docker.io",
-            "foo/bar",
-            Some("1.2"),
-            Some("sha256:ffffffffffffffffffffffffffffffffffffffffffffffffffffffffffffffff"),
-        ),
+        ("docker.io", "foo/bar", "1.2"),
+        "sha256:ffffffffffffffffffffffffffffffffffffffffffffffffffffffffffffffff",
         "docker.io foo/bar 1.2 sha256:ffffffffffffffffffffffffffffffffffffffffffffffffffffffffffffffff - index.docker.io docker.io/foo/bar:1.2@sha256:ffffffffffffffffffffffffffffffffffffffffffffffffffffffffffffffff",
     ),
-    (("", "", Some(""), None), "   - -  "),
-    (("", "r", Some(""), None), " r  - -  r:"),
-    (("g", "", Some("t"), None), "g  t - - g g:t"),
-    (("", "", Some("t"), None), "  t - -  t"),
-    (("", "", Some(""), Some("d")), "   d -  @d"),
-    (("", "", None, Some("d")), "  - d -  d"),
-    (("", "r", Some("t"), Some("")), " r t  -  r:t@"),
+    (("", "", ""), "d", "   d -  @d"),
+    (("", "r", "t"), "", " r t  -  r:t@"),
 ];
