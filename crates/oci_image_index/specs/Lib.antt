@@ -1,0 +1,4 @@
+pub mod ImageIndex
+pub mod ImageIndexBuilder
+pub mod OciLayout
+pub mod OciLayoutBuilder
