@@ -1,4 +1,4 @@
--- What an accepted reference stands for, and why another text is refused (distribution specification, "Pulling manifests"; the limits are those of the code).
+-- What an accepted reference stands for, and why another text is refused (distribution specification, "Pulling manifests"; the limits on the digest and the length are those of common registry clients).
 use Rattle.std.specs.Prelude.{◌≡◌, ◌≢◌, ℕ, ◌⊎◌, ◌==◌, nat_lt, List, [], length, codes, bytes_eq, Option, Some, None, if◌then◌else◌}
 use Rattle.std.specs.Char.{is_ascii_uppercase}
 use Rattle.std.specs.List.{list_any}

@@ -9,8 +9,8 @@ use crate::limits::limit;
 use crate::names::{Named, default_name, repository_text};
 use crate::texts::{copied, lent, mark_if, owned, some_text, tag_or_latest, text_or_empty};
 use oci_json_schema::{
-    OciRecord, fault, optional, optional_owned, required, required_owned, split_5, taken, write_optional,
-    write_required,
+    OciRecord, fault, optional, optional_owned, required, required_owned, split_5, taken,
+    write_optional, write_required,
 };
 use oci_reference_scan::{ParseError, parts};
 use oci_text_base::OciSpecError;
@@ -379,7 +379,12 @@ impl OciRecord for Reference {
     fn to_value(&self, alloc: Global) -> oci_text_base::Result<Value> {
         let mut members = Map::new(alloc);
         write_required(&mut members, alloc, "registry", &self.registry)?;
-        write_optional(&mut members, alloc, "mirror_registry", &self.mirror_registry)?;
+        write_optional(
+            &mut members,
+            alloc,
+            "mirror_registry",
+            &self.mirror_registry,
+        )?;
         write_required(&mut members, alloc, "repository", &self.repository)?;
         write_optional(&mut members, alloc, "tag", &self.tag)?;
         write_optional(&mut members, alloc, "digest", &self.digest)?;
