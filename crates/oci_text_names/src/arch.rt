@@ -12,7 +12,7 @@ use std::alloc::Global;
 use std::fmt;
 
 /// An architecture (image specification, "Image Index", `platform.architecture`): one of the values that Go lists for
-/// `GOARCH`, or any other text. A variant without another text has its own name in lowercase.
+/// `GOARCH`, or any other text. A variant for which no text is named here has its own name in lowercase.
 /// The default is `Amd64`, on any machine.
 #[derive(Debug, Default, Drop)]
 pub enum Arch {

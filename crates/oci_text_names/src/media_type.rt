@@ -154,7 +154,7 @@ impl MediaType {
         }
     }
 
-    /// The text, as its own where it is an other one.
+    /// The text. That of `Other` is handed over as it is.
     pub fn into_string(self, alloc: Global) -> Result<String>
         ensures ok { IfOk result (λ t. string_bytes t ≡ name_text (media_type_name self)) }
         ensures err { IfErr result (λ e. e ≡ OciSpecError.Memory) }
@@ -224,12 +224,12 @@ impl OciMember for MediaType {
     ghost same = { same_named media_type_name };
 }
 
-/// Media types that have a name of Docker's older format.
+/// What has a media type in the Docker image manifest, version 2, schema 2, too.
 pub trait ToDockerV2S2 {
-    /// What the call answers.
+    /// That media type, if there is one.
     ghost docker_text: { Self → Option (List ℕ) };
 
-    /// The media type of the Docker image manifest, version 2, schema 2, that stands for this one; a formatting error where
+    /// The media type that stands for this one in the Docker image manifest, version 2, schema 2; a formatting error where
     /// there is none.
     fn to_docker_v2s2(&self) -> std::result::Result<&str, fmt::Error>
         ensures ok { IfOk result (λ t. docker_text self.now ≡ Some t.now) }

@@ -12,8 +12,7 @@ use std::alloc::Global;
 use std::fmt;
 
 /// An operating system (image specification, "Image Index", `platform.os`): one of the values that Go lists for `GOOS`, in
-/// lowercase, or any other text.
-/// The default is `Linux`, on any machine.
+/// lowercase, or any other text. The default is `Linux`, on any machine.
 #[derive(Debug, Default, Drop)]
 pub enum Os {
     AIX,
