@@ -139,7 +139,7 @@ pub fn optional_as_owned<K: OciKind<T>, T>(
     ensures err { IfErr result (λ e. IsSchema e → (d : _) → option_map view found.value ≡ get name.now d → RefusesRecords name.now (None, presence.optional, K.shape) d) }
     ensures kind { IfErr result IsMemoryOrSchema }
 {
-    match found_as_owned::<K, T>(alloc, found.value, owner, name) {
+    match found_as_owned::<K, T>(alloc, found.into_value(), owner, name) {
         Ok(x) => Ok(x),
         Err(fault) => Err(fault),
     }

@@ -17,9 +17,25 @@ use serde_json::{Map, Value};
 use std::alloc::Global;
 
 /// What stood under a name.
-#[derive(Drop)]
 pub struct Found {
     pub value: Option<Value>,
+}
+
+impl Found {
+    /// That value.
+    pub fn into_value(self) -> Option<Value>
+        ensures { result ≡ self.value }
+    {
+        let Found { value } = self;
+        value
+    }
+}
+
+impl Drop for Found {
+    fn drop(self) {
+        let Found { value } = self;
+        drop(value);
+    }
 }
 
 /// Reads a member that has to be there, of what stood under its name.
@@ -34,7 +50,7 @@ pub fn required_owned<T: OciMember>(
     ensures err { IfErr result (λ e. IsSchema e → (d : _) → option_map view found.value ≡ get name.now d → RefusesRecords name.now (None, presence.required, T.shape) d) }
     ensures kind { IfErr result IsMemoryOrSchema }
 {
-    match found.value {
+    match found.into_value() {
         Some(value) => match T::read_owned(alloc, value) {
             Ok(x) => Ok(x),
             Err(fault) => Err(placed(fault, owner, name)),
@@ -81,7 +97,7 @@ pub fn optional_owned<T: OciMember>(
     ensures err { IfErr result (λ e. IsSchema e → (d : _) → option_map view found.value ≡ get name.now d → RefusesRecords name.now (None, presence.optional, T.shape) d) }
     ensures kind { IfErr result IsMemoryOrSchema }
 {
-    match optional_found(alloc, found.value, owner, name) {
+    match optional_found(alloc, found.into_value(), owner, name) {
         Ok(x) => Ok(x),
         Err(fault) => Err(fault),
     }
@@ -104,13 +120,13 @@ pub fn optional_either_owned<T: OciMember>(
         → RefusesRecords name.now (Some second.now, presence.optional, T.shape) d) }
     ensures kind { IfErr result IsMemoryOrSchema }
 {
-    let Some(value) = other.value else {
-        return match optional_found(alloc, found.value, owner, name) {
+    let Some(value) = other.into_value() else {
+        return match optional_found(alloc, found.into_value(), owner, name) {
             Ok(x) => Ok(x),
             Err(fault) => Err(fault),
         };
     };
-    if found.value.is_some() {
+    if found.into_value().is_some() {
         return Err(refused(owner, name));
     }
     match optional_found(alloc, Some(value), owner, name) {

@@ -1,0 +1,73 @@
+-- An image's configuration: its machine, its layers and what a container runs with (image specification, "Image Configuration").
+use Rattle.std.specs.Prelude.{[], ◌∷◌, codes, Option, Vec}
+use Rattle.std.specs.Borrow.{Lends, MutBor, Fml}
+use Rattle.std.specs.declared.alloc.Global.{Global}
+use Rattle.oci_text_names.specs.Arch.{arches, arch_name}
+use Rattle.oci_text_names.specs.Os.{oses, os_name}
+use Rattle.oci_json_schema.specs.Plain as plain
+use Rattle.oci_json_schema.specs.Plain.{Plain, document, slots, empty, filled}
+use Rattle.oci_json_schema.specs.Shape.{Shape, rows, no_rows, listed, required, optional, text, open_name, list}
+use Rattle.oci_json_schema.specs.Types.{given, perhaps, text_plain, name_plain, list_plain}
+use Rattle.oci_json_schema.specs.Lent.{option_row, list_row}
+use Rattle.oci_image_config.specs.Config.{config, config_plain}
+use Rattle.oci_image_config.specs.RootFs.{root_fs, root_fs_plain, default_root_fs}
+use Rattle.oci_image_config.specs.declared.root_fs.RootFs.{RootFs}
+use Rattle.oci_image_config.specs.contracts.root_fs.RootFs as root_fs
+use Rattle.oci_image_config.specs.History.{history, history_plain}
+use Rattle.oci_image_config.specs.declared.history.History.{History}
+use Rattle.oci_image_config.specs.contracts.history.History as history
+use Rattle.oci_image_config.specs.declared.image_configuration.ImageConfiguration.{ImageConfiguration}
+use Rattle.oci_image_config.specs.contracts.image_configuration.ImageConfiguration.{the_row}
+
+-- the members, in the order in which they are looked at
+abbrev pub image_configuration : Shape
+image_configuration = rows (
+    listed (codes "created") optional text (
+    listed (codes "author") optional text (
+    listed (codes "architecture") required (open_name arches) (
+    listed (codes "os") required (open_name oses) (
+    listed (codes "os.version") optional text (
+    listed (codes "os.features") optional (list text) (
+    listed (codes "variant") optional text (
+    listed (codes "config") optional config (
+    listed (codes "rootfs") required root_fs (
+    listed (codes "history") optional (list history)
+    no_rows))))))))))
+
+-- the content of a document
+abbrev pub image_configuration_plain : ImageConfiguration → Plain
+image_configuration_plain x = document (slots (
+    perhaps text_plain x.created
+    ∷ perhaps text_plain x.author
+    ∷ given (λ m. name_plain (arch_name m)) x.architecture
+    ∷ given (λ m. name_plain (os_name m)) x.os
+    ∷ perhaps text_plain x.os_version
+    ∷ perhaps (list_plain text_plain) x.os_features
+    ∷ perhaps text_plain x.variant
+    ∷ perhaps config_plain x.config
+    ∷ given root_fs_plain x.rootfs
+    ∷ perhaps (list_plain history_plain) x.history
+    ∷ []))
+
+-- the content of the default document
+abbrev pub default_image_configuration : Plain
+default_image_configuration = document (slots (
+    empty
+    ∷ empty
+    ∷ filled (plain.variant (codes "amd64"))
+    ∷ filled (plain.variant (codes "linux"))
+    ∷ empty
+    ∷ empty
+    ∷ empty
+    ∷ empty
+    ∷ filled (default_root_fs)
+    ∷ empty
+    ∷ []))
+
+-- what a document becomes where its `rootfs` is lent
+abbrev pub lends_rootfs : MutBor ImageConfiguration → MutBor RootFs → Fml
+lends_rootfs x r = Lends the_row root_fs.the_row x r (λ w. record x.now { rootfs = w })
+
+-- what a document becomes where its `history` is lent
+abbrev pub lends_history : MutBor ImageConfiguration → MutBor (Option (Vec History Global)) → Fml
+lends_history x r = Lends the_row (option_row (list_row history.the_row)) x r (λ w. record x.now { history = w })

@@ -1,0 +1,572 @@
+//! An image's configuration: its machine, its layers and what a container runs with (image specification, "Image Configuration").
+ghost use Rattle.std.specs.Prelude.{◌≡◌, IfOk, IfErr};
+
+use crate::config::Config;
+use crate::history::History;
+use crate::root_fs::RootFs;
+use oci_json_schema::{OciMember, OciRecord, copy_optional, fault, optional, optional_owned, required, required_owned, taken, write_optional, write_required};
+use oci_text_base::{OciSpecError, Result};
+use oci_text_names::{Arch, Os};
+use serde_json::{Map, Value};
+use std::alloc::Global;
+use std::io::{Read, Write};
+use std::rt::Files;
+
+const NAME: &str = "ImageConfiguration";
+
+/// An image's configuration: its machine, its layers and what a container runs with (image specification, "Image Configuration").
+#[derive(Debug, PartialEq, Eq, Drop)]
+pub struct ImageConfiguration {
+    created: Option<String>,
+    author: Option<String>,
+    architecture: Arch,
+    os: Os,
+    os_version: Option<String>,
+    os_features: Option<Vec<String>>,
+    variant: Option<String>,
+    config: Option<Config>,
+    rootfs: RootFs,
+    history: Option<Vec<History>>,
+}
+
+impl ImageConfiguration {
+    ghost use Rattle.std.specs.Borrow.{sem};
+    ghost use Rattle.std.specs.Prelude.{IfSome, OnOk, ℕ, List, string_bytes};
+    ghost use Rattle.std.specs.Io.KnownBytes.{Appends, Keeps};
+    ghost use Rattle.serde_json.specs.Written.{compact_text};
+    ghost use Rattle.oci_text_base.specs.Refused.{IsSchema, IsJson, IsIo, IsMemoryOrSchema, IsMemorySerDeOrIo, IsMemorySchemaOrIo};
+    ghost use Rattle.oci_json_schema.specs.Value.{value as json_of};
+    ghost use Rattle.oci_json_engines.specs.Engines.{MeansBytes, IsNoJson, IsNoDocument, IsPretty, AppendsSome};
+    ghost use Rattle.oci_image_config.specs.ImageConfiguration.{default_image_configuration, image_configuration_plain, image_configuration, lends_rootfs, lends_history};
+
+    /// An equal document.
+    pub fn clone(&self, alloc: Global) -> Result<ImageConfiguration>
+        ensures ok { IfOk result (λ x. image_configuration_plain x ≡ image_configuration_plain self.now) }
+        ensures err { IfErr result (λ e. e ≡ OciSpecError.Memory) }
+    {
+        self.duplicate(alloc)
+    }
+
+    /// The default document.
+    pub fn try_default(alloc: Global) -> Result<ImageConfiguration>
+        ensures ok { IfOk result (λ x. image_configuration_plain x ≡ default_image_configuration) }
+        ensures err { IfErr result (λ e. e ≡ OciSpecError.Memory) }
+    {
+        Ok(ImageConfiguration {
+            created: None,
+            author: None,
+            architecture: Arch::Amd64,
+            os: Os::Linux,
+            os_version: None,
+            os_features: None,
+            variant: None,
+            config: None,
+            rootfs: RootFs::try_default(alloc)?,
+            history: None,
+        })
+    }
+
+    /// When the image was made, as an RFC 3339 date and time.
+    pub fn created(&self) -> &Option<String>
+        ensures { result.now ≡ self.now.created }
+    {
+        &self.created
+    }
+
+    /// Sets `created` alone.
+    pub fn set_created(&mut self, created: Option<String>) -> &mut Self
+        ensures set { result.now ≡ record self.old { created = created } }
+        ensures same { result.ghost_name ≡ self.entry.ghost_name }
+    {
+        self.created = created;
+        self
+    }
+
+    /// Who made the image.
+    pub fn author(&self) -> &Option<String>
+        ensures { result.now ≡ self.now.author }
+    {
+        &self.author
+    }
+
+    /// Sets `author` alone.
+    pub fn set_author(&mut self, author: Option<String>) -> &mut Self
+        ensures set { result.now ≡ record self.old { author = author } }
+        ensures same { result.ghost_name ≡ self.entry.ghost_name }
+    {
+        self.author = author;
+        self
+    }
+
+    /// The processor that the image is for, by its name in Go's `GOARCH` where that lists it.
+    pub fn architecture(&self) -> &Arch
+        ensures { result.now ≡ self.now.architecture }
+    {
+        &self.architecture
+    }
+
+    /// Sets `architecture` alone.
+    pub fn set_architecture(&mut self, architecture: Arch) -> &mut Self
+        ensures set { result.now ≡ record self.old { architecture = architecture } }
+        ensures same { result.ghost_name ≡ self.entry.ghost_name }
+    {
+        self.architecture = architecture;
+        self
+    }
+
+    /// The operating system that the image is for, by its name in Go's `GOOS` where that lists it.
+    pub fn os(&self) -> &Os
+        ensures { result.now ≡ self.now.os }
+    {
+        &self.os
+    }
+
+    /// Sets `os` alone.
+    pub fn set_os(&mut self, os: Os) -> &mut Self
+        ensures set { result.now ≡ record self.old { os = os } }
+        ensures same { result.ghost_name ≡ self.entry.ghost_name }
+    {
+        self.os = os;
+        self
+    }
+
+    /// The version of the operating system that the image asks for.
+    pub fn os_version(&self) -> &Option<String>
+        ensures { result.now ≡ self.now.os_version }
+    {
+        &self.os_version
+    }
+
+    /// Sets `os_version` alone.
+    pub fn set_os_version(&mut self, os_version: Option<String>) -> &mut Self
+        ensures set { result.now ≡ record self.old { os_version = os_version } }
+        ensures same { result.ghost_name ≡ self.entry.ghost_name }
+    {
+        self.os_version = os_version;
+        self
+    }
+
+    /// The features of the operating system that the image asks for.
+    pub fn os_features(&self) -> &Option<Vec<String>>
+        ensures { result.now ≡ self.now.os_features }
+    {
+        &self.os_features
+    }
+
+    /// Sets `os_features` alone.
+    pub fn set_os_features(&mut self, os_features: Option<Vec<String>>) -> &mut Self
+        ensures set { result.now ≡ record self.old { os_features = os_features } }
+        ensures same { result.ghost_name ≡ self.entry.ghost_name }
+    {
+        self.os_features = os_features;
+        self
+    }
+
+    /// The variant of the processor.
+    pub fn variant(&self) -> &Option<String>
+        ensures { result.now ≡ self.now.variant }
+    {
+        &self.variant
+    }
+
+    /// Sets `variant` alone.
+    pub fn set_variant(&mut self, variant: Option<String>) -> &mut Self
+        ensures set { result.now ≡ record self.old { variant = variant } }
+        ensures same { result.ghost_name ≡ self.entry.ghost_name }
+    {
+        self.variant = variant;
+        self
+    }
+
+    /// What a container of the image runs with.
+    pub fn config(&self) -> &Option<Config>
+        ensures { result.now ≡ self.now.config }
+    {
+        &self.config
+    }
+
+    /// Sets `config` alone.
+    pub fn set_config(&mut self, config: Option<Config>) -> &mut Self
+        ensures set { result.now ≡ record self.old { config = config } }
+        ensures same { result.ghost_name ≡ self.entry.ghost_name }
+    {
+        self.config = config;
+        self
+    }
+
+    /// The layers that make up the image's file system.
+    pub fn rootfs(&self) -> &RootFs
+        ensures { result.now ≡ self.now.rootfs }
+    {
+        &self.rootfs
+    }
+
+    /// The same, to be changed.
+    pub fn rootfs_mut(&mut self) -> &mut RootFs
+        ensures* writes_back { sem 𝓛 (lends_rootfs self.entry result) }
+        ensures value { result.now ≡ self.old.rootfs }
+    {
+        &mut self.rootfs
+    }
+
+    /// Sets `rootfs` alone.
+    pub fn set_rootfs(&mut self, rootfs: RootFs) -> &mut Self
+        ensures set { result.now ≡ record self.old { rootfs = rootfs } }
+        ensures same { result.ghost_name ≡ self.entry.ghost_name }
+    {
+        self.rootfs = rootfs;
+        self
+    }
+
+    /// How the layers came about, the base layer first.
+    pub fn history(&self) -> &Option<Vec<History>>
+        ensures { result.now ≡ self.now.history }
+    {
+        &self.history
+    }
+
+    /// The same, to be changed.
+    pub fn history_mut(&mut self) -> &mut Option<Vec<History>>
+        ensures* writes_back { sem 𝓛 (lends_history self.entry result) }
+        ensures value { result.now ≡ self.old.history }
+    {
+        &mut self.history
+    }
+
+    /// Sets `history` alone.
+    pub fn set_history(&mut self, history: Option<Vec<History>>) -> &mut Self
+        ensures set { result.now ≡ record self.old { history = history } }
+        ensures same { result.ghost_name ≡ self.entry.ghost_name }
+    {
+        self.history = history;
+        self
+    }
+
+    /// Reads a document of a file, which the runtime opens.
+    pub fn from_file<R: Files>(rt: &R, alloc: Global, path: &str) -> Result<ImageConfiguration>
+        ensures kind { IfErr result IsMemorySerDeOrIo }
+    {
+        oci_json_engines::from_file(rt, alloc, path)
+    }
+
+    /// Reads a document of all that is left to read: `Io` where a read fails, `SerDe` where the bytes are no JSON or no document.
+    pub fn from_reader<R: Read + Drop>(alloc: Global, reader: R) -> Result<ImageConfiguration>
+        ensures ok { IfOk result (λ x. IfSome (R.remaining reader) (λ bytes. MeansBytes image_configuration bytes (image_configuration_plain x))) }
+        ensures json { IfErr result (λ e. IsJson e → IfSome (R.remaining reader) IsNoJson) }
+        ensures schema { IfErr result (λ e. IsSchema e → IfSome (R.remaining reader) (IsNoDocument image_configuration)) }
+        ensures kind { IfErr result IsMemorySerDeOrIo }
+    {
+        oci_json_engines::from_reader(alloc, reader)
+    }
+
+    /// Writes the compact text to a file, which is created or emptied once the text is made.
+    pub fn to_file<R: Files>(&self, rt: &R, alloc: Global, path: &str) -> Result<()>
+        ensures kind { IfErr result IsMemorySchemaOrIo }
+    {
+        oci_json_engines::to_file(rt, self, alloc, path)
+    }
+
+    /// Writes the pretty text to a file, which is created or emptied once the text is made.
+    pub fn to_file_pretty<R: Files>(&self, rt: &R, alloc: Global, path: &str) -> Result<()>
+        ensures kind { IfErr result IsMemorySchemaOrIo }
+    {
+        oci_json_engines::to_file_pretty(rt, self, alloc, path)
+    }
+
+    /// Writes the compact text. After `Io` a beginning of it was written, after `Memory` nothing.
+    pub fn to_writer<W: Write>(&self, alloc: Global, writer: &mut W) -> Result<()>
+        ensures ok { OnOk result (Appends (W.contents writer.old) (W.contents writer.new) (compact_text (json_of image_configuration (image_configuration_plain self.now)))) }
+        ensures begun { IfErr result (λ e. IsIo e → AppendsSome (W.contents writer.old) (W.contents writer.new) (compact_text (json_of image_configuration (image_configuration_plain self.now)))) }
+        ensures unwritten { IfErr result (λ e. ¬ IsIo e → Keeps (W.contents writer.old) (W.contents writer.new)) }
+        ensures kind { IfErr result IsMemorySchemaOrIo }
+    {
+        oci_json_engines::to_writer(self, alloc, writer)
+    }
+
+    /// Writes the pretty text. After `Io` a beginning of it was written, after `Memory` nothing.
+    pub fn to_writer_pretty<W: Write>(&self, alloc: Global, writer: &mut W) -> Result<()>
+        ensures ok { OnOk result ((text : List ℕ) × IsPretty (json_of image_configuration (image_configuration_plain self.now)) text × Appends (W.contents writer.old) (W.contents writer.new) text) }
+        ensures begun { IfErr result (λ e. IsIo e → (text : List ℕ) × IsPretty (json_of image_configuration (image_configuration_plain self.now)) text × AppendsSome (W.contents writer.old) (W.contents writer.new) text) }
+        ensures unwritten { IfErr result (λ e. ¬ IsIo e → Keeps (W.contents writer.old) (W.contents writer.new)) }
+        ensures kind { IfErr result IsMemorySchemaOrIo }
+    {
+        oci_json_engines::to_writer_pretty(self, alloc, writer)
+    }
+
+    /// The compact text.
+    pub fn to_string(&self, alloc: Global) -> Result<String>
+        ensures ok { IfOk result (λ s. string_bytes s ≡ compact_text (json_of image_configuration (image_configuration_plain self.now))) }
+        ensures kind { IfErr result IsMemoryOrSchema }
+    {
+        oci_json_engines::to_string(self, alloc)
+    }
+
+    /// The pretty text: a line a member or item, two spaces a level, no line feed at the end.
+    pub fn to_string_pretty(&self, alloc: Global) -> Result<String>
+        ensures ok { IfOk result (λ s. IsPretty (json_of image_configuration (image_configuration_plain self.now)) (string_bytes s)) }
+        ensures kind { IfErr result IsMemoryOrSchema }
+    {
+        oci_json_engines::to_string_pretty(self, alloc)
+    }
+}
+
+impl OciRecord for ImageConfiguration {
+    ghost use Rattle.oci_text_names.specs.Arch.{arch_name};
+    ghost use Rattle.oci_text_names.specs.Os.{os_name};
+    ghost use Rattle.oci_json_schema.specs.Same.{same_document, same_more, same_last, same_given, same_perhaps, same_texts, same_lists, same_named};
+    ghost use Rattle.oci_image_config.specs.ImageConfiguration.{image_configuration, image_configuration_plain};
+    ghost use Rattle.oci_image_config.specs.contracts.config.ConfigOciRecord.TheImpl.Laws.{same-law as config_same};
+    ghost use Rattle.oci_image_config.specs.contracts.root_fs.RootFsOciRecord.TheImpl.Laws.{same-law as root_fs_same};
+    ghost use Rattle.oci_image_config.specs.contracts.history.HistoryOciRecord.TheImpl.Laws.{same-law as history_same};
+
+    ghost shape = { image_configuration };
+
+    ghost plain = { image_configuration_plain };
+
+    #[tactic(auto, using(oci_json_schema::proofs::Readers::refuses_others))]
+    fn from_value(alloc: Global, value: &Value) -> Result<ImageConfiguration> {
+        if !value.is_object() {
+            return Err(fault::refused(NAME, ""));
+        }
+        Ok(ImageConfiguration {
+            created: optional(alloc, value, NAME, "created")?,
+            author: optional(alloc, value, NAME, "author")?,
+            architecture: required(alloc, value, NAME, "architecture")?,
+            os: required(alloc, value, NAME, "os")?,
+            os_version: optional(alloc, value, NAME, "os.version")?,
+            os_features: optional(alloc, value, NAME, "os.features")?,
+            variant: optional(alloc, value, NAME, "variant")?,
+            config: optional(alloc, value, NAME, "config")?,
+            rootfs: required(alloc, value, NAME, "rootfs")?,
+            history: optional(alloc, value, NAME, "history")?,
+        })
+    }
+
+    #[tactic(auto, using(oci_json_schema::proofs::Readers::refuses_others))]
+    fn from_value_owned(alloc: Global, value: Value) -> Result<ImageConfiguration> {
+        let Some([created, author, architecture, os, os_version, os_features, variant, config, rootfs, history]) = taken::<10>(alloc, value, &["created", "author", "architecture", "os", "os.version", "os.features", "variant", "config", "rootfs", "history"])? else {
+            return Err(fault::refused(NAME, ""));
+        };
+        Ok(ImageConfiguration {
+            created: optional_owned(alloc, created, NAME, "created")?,
+            author: optional_owned(alloc, author, NAME, "author")?,
+            architecture: required_owned(alloc, architecture, NAME, "architecture")?,
+            os: required_owned(alloc, os, NAME, "os")?,
+            os_version: optional_owned(alloc, os_version, NAME, "os.version")?,
+            os_features: optional_owned(alloc, os_features, NAME, "os.features")?,
+            variant: optional_owned(alloc, variant, NAME, "variant")?,
+            config: optional_owned(alloc, config, NAME, "config")?,
+            rootfs: required_owned(alloc, rootfs, NAME, "rootfs")?,
+            history: optional_owned(alloc, history, NAME, "history")?,
+        })
+    }
+
+    fn to_value(&self, alloc: Global) -> Result<Value> {
+        let mut members = Map::new(alloc);
+        write_optional(&mut members, alloc, "created", &self.created)?;
+        write_optional(&mut members, alloc, "author", &self.author)?;
+        write_required(&mut members, alloc, "architecture", &self.architecture)?;
+        write_required(&mut members, alloc, "os", &self.os)?;
+        write_optional(&mut members, alloc, "os.version", &self.os_version)?;
+        write_optional(&mut members, alloc, "os.features", &self.os_features)?;
+        write_optional(&mut members, alloc, "variant", &self.variant)?;
+        write_optional(&mut members, alloc, "config", &self.config)?;
+        write_required(&mut members, alloc, "rootfs", &self.rootfs)?;
+        write_optional(&mut members, alloc, "history", &self.history)?;
+        Ok(Value::Object(members))
+    }
+
+    fn duplicate(&self, alloc: Global) -> Result<ImageConfiguration> {
+        Ok(ImageConfiguration {
+            created: copy_optional(&self.created, alloc)?,
+            author: copy_optional(&self.author, alloc)?,
+            architecture: self.architecture.copy(alloc)?,
+            os: self.os.copy(alloc)?,
+            os_version: copy_optional(&self.os_version, alloc)?,
+            os_features: copy_optional(&self.os_features, alloc)?,
+            variant: copy_optional(&self.variant, alloc)?,
+            config: copy_optional(&self.config, alloc)?,
+            rootfs: self.rootfs.copy(alloc)?,
+            history: copy_optional(&self.history, alloc)?,
+        })
+    }
+
+    ghost well_formed = { Prim.search };
+
+    ghost same = { λ x y. same_document (
+        same_more (same_perhaps same_texts x.created y.created) (
+        same_more (same_perhaps same_texts x.author y.author) (
+        same_more (same_given (same_named arch_name) x.architecture y.architecture) (
+        same_more (same_given (same_named os_name) x.os y.os) (
+        same_more (same_perhaps same_texts x.os_version y.os_version) (
+        same_more (same_perhaps (same_lists same_texts) x.os_features y.os_features) (
+        same_more (same_perhaps same_texts x.variant y.variant) (
+        same_more (same_perhaps config_same x.config y.config) (
+        same_more (same_given root_fs_same x.rootfs y.rootfs) (
+        same_last (same_perhaps (same_lists history_same) x.history y.history))))))))))) };
+}
+
+/// Puts a `ImageConfiguration` together.
+#[derive(Debug, Default, Drop)]
+pub struct ImageConfigurationBuilder {
+    created: Option<String>,
+    author: Option<String>,
+    architecture: Option<Arch>,
+    os: Option<Os>,
+    os_version: Option<String>,
+    os_features: Option<Vec<String>>,
+    variant: Option<String>,
+    config: Option<Config>,
+    rootfs: Option<RootFs>,
+    history: Option<Vec<History>>,
+}
+
+impl ImageConfigurationBuilder {
+    ghost use Rattle.std.specs.Prelude.{Some, unwrap_or, option_map, codes};
+    ghost use Rattle.oci_text_names.specs.Arch.{arch_name};
+    ghost use Rattle.oci_text_names.specs.Os.{os_name};
+    ghost use Rattle.oci_json_schema.specs.Plain as plain;
+    ghost use Rattle.oci_json_schema.specs.Types.{name_plain};
+    ghost use Rattle.oci_image_config.specs.RootFs.{root_fs_plain, default_root_fs};
+
+    /// When the image was made, as an RFC 3339 date and time.
+    pub fn created(self, created: String) -> Self
+        ensures { result ≡ record self { created = Some created } }
+    {
+        ImageConfigurationBuilder {
+            created: Some(created),
+            ..self
+        }
+    }
+
+    /// Who made the image.
+    pub fn author(self, author: String) -> Self
+        ensures { result ≡ record self { author = Some author } }
+    {
+        ImageConfigurationBuilder {
+            author: Some(author),
+            ..self
+        }
+    }
+
+    /// The processor that the image is for, by its name in Go's `GOARCH` where that lists it.
+    pub fn architecture(self, architecture: Arch) -> Self
+        ensures { result ≡ record self { architecture = Some architecture } }
+    {
+        ImageConfigurationBuilder {
+            architecture: Some(architecture),
+            ..self
+        }
+    }
+
+    /// The operating system that the image is for, by its name in Go's `GOOS` where that lists it.
+    pub fn os(self, os: Os) -> Self
+        ensures { result ≡ record self { os = Some os } }
+    {
+        ImageConfigurationBuilder {
+            os: Some(os),
+            ..self
+        }
+    }
+
+    /// The version of the operating system that the image asks for.
+    pub fn os_version(self, os_version: String) -> Self
+        ensures { result ≡ record self { os_version = Some os_version } }
+    {
+        ImageConfigurationBuilder {
+            os_version: Some(os_version),
+            ..self
+        }
+    }
+
+    /// The features of the operating system that the image asks for.
+    pub fn os_features(self, os_features: Vec<String>) -> Self
+        ensures { result ≡ record self { os_features = Some os_features } }
+    {
+        ImageConfigurationBuilder {
+            os_features: Some(os_features),
+            ..self
+        }
+    }
+
+    /// The variant of the processor.
+    pub fn variant(self, variant: String) -> Self
+        ensures { result ≡ record self { variant = Some variant } }
+    {
+        ImageConfigurationBuilder {
+            variant: Some(variant),
+            ..self
+        }
+    }
+
+    /// What a container of the image runs with.
+    pub fn config(self, config: Config) -> Self
+        ensures { result ≡ record self { config = Some config } }
+    {
+        ImageConfigurationBuilder {
+            config: Some(config),
+            ..self
+        }
+    }
+
+    /// The layers that make up the image's file system.
+    pub fn rootfs(self, rootfs: RootFs) -> Self
+        ensures { result ≡ record self { rootfs = Some rootfs } }
+    {
+        ImageConfigurationBuilder {
+            rootfs: Some(rootfs),
+            ..self
+        }
+    }
+
+    /// How the layers came about, the base layer first.
+    pub fn history(self, history: Vec<History>) -> Self
+        ensures { result ≡ record self { history = Some history } }
+    {
+        ImageConfigurationBuilder {
+            history: Some(history),
+            ..self
+        }
+    }
+
+    /// The document of the fields that were set; the others have their defaults.
+    pub fn build(self, alloc: Global) -> Result<ImageConfiguration>
+        ensures created { IfOk result (λ x. x.created ≡ self.created) }
+        ensures author { IfOk result (λ x. x.author ≡ self.author) }
+        ensures architecture { IfOk result (λ x. name_plain (arch_name x.architecture) ≡ unwrap_or (option_map (λ m. name_plain (arch_name m)) self.architecture) (plain.variant (codes "amd64"))) }
+        ensures os { IfOk result (λ x. name_plain (os_name x.os) ≡ unwrap_or (option_map (λ m. name_plain (os_name m)) self.os) (plain.variant (codes "linux"))) }
+        ensures os_version { IfOk result (λ x. x.os_version ≡ self.os_version) }
+        ensures os_features { IfOk result (λ x. x.os_features ≡ self.os_features) }
+        ensures variant { IfOk result (λ x. x.variant ≡ self.variant) }
+        ensures config { IfOk result (λ x. x.config ≡ self.config) }
+        ensures rootfs { IfOk result (λ x. root_fs_plain x.rootfs ≡ unwrap_or (option_map root_fs_plain self.rootfs) (default_root_fs)) }
+        ensures history { IfOk result (λ x. x.history ≡ self.history) }
+        ensures err { IfErr result (λ e. e ≡ OciSpecError.Memory) }
+    {
+        let ImageConfigurationBuilder { created, author, architecture, os, os_version, os_features, variant, config, rootfs, history } = self;
+        let architecture = match architecture {
+            Some(architecture) => architecture,
+            None => Arch::Amd64,
+        };
+        let os = match os {
+            Some(os) => os,
+            None => Os::Linux,
+        };
+        let rootfs = match rootfs {
+            Some(rootfs) => rootfs,
+            None => RootFs::try_default(alloc)?,
+        };
+        Ok(ImageConfiguration {
+            created,
+            author,
+            architecture,
+            os,
+            os_version,
+            os_features,
+            variant,
+            config,
+            rootfs,
+            history,
+        })
+    }
+}
