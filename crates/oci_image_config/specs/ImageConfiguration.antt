@@ -1,5 +1,7 @@
 -- An image's configuration: its machine, its layers and what a container runs with (image specification, "Image Configuration").
-use Rattle.std.specs.Prelude.{[], ◌∷◌, codes, Option, Vec}
+use Rattle.std.specs.Prelude.{[], ◌∷◌, codes, Option, Vec, ℕ, List, String, string_bytes, option_map, option_and_then}
+use Rattle.std.specs.Option.{option_or}
+use Rattle.std.specs.BTreeMap.{BTreeMap, get_by_text}
 use Rattle.std.specs.Borrow.{Lends, MutBor, Fml}
 use Rattle.std.specs.declared.alloc.Global.{Global}
 use Rattle.oci_text_names.specs.Arch.{arches, arch_name}
@@ -71,3 +73,15 @@ lends_rootfs x r = Lends the_row root_fs.the_row x r (λ w. record x.now { rootf
 -- what a document becomes where its `history` is lent
 abbrev pub lends_history : MutBor ImageConfiguration → MutBor (Option (Vec History Global)) → Fml
 lends_history x r = Lends the_row (option_row (list_row history.the_row)) x r (λ w. record x.now { history = w })
+
+-- the labels of the container, where both are there
+abbrev pub labels_of : ImageConfiguration → Option (BTreeMap (String Global) (String Global))
+labels_of x = option_and_then (λ c. c.labels) x.config
+
+-- the label of a key
+abbrev pub label_of : ImageConfiguration → List ℕ → Option (List ℕ)
+label_of x key = option_map string_bytes (option_and_then (λ m. get_by_text m key) (labels_of x))
+
+-- the label of the specification's own key, else that of the older one
+abbrev pub version_of : ImageConfiguration → Option (List ℕ)
+version_of x = option_or (label_of x (codes "org.opencontainers.image.version")) (label_of x (codes "version"))

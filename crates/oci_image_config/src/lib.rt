@@ -1,6 +1,7 @@
 //! Image configurations.
 #![tactic(auto)]
 
+pub mod annotations;
 pub mod config;
 pub mod history;
 pub mod image_configuration;

@@ -1,5 +1,6 @@
 -- What a document points to: its media type, its digest and its size (image specification, "Content Descriptors").
-use Rattle.std.specs.Prelude.{[], ◌∷◌, codes}
+use Rattle.std.specs.Prelude.{[], ◌∷◌, codes, ℕ, List, Option, Some, None, bytes_eq, if◌then◌else◌}
+use Rattle.oci_text_names.specs.declared.media_type.MediaType.{MediaType}
 use Rattle.oci_text_names.specs.MediaType.{media_types, media_type_name}
 use Rattle.oci_json_schema.specs.Plain as plain
 use Rattle.oci_json_schema.specs.Plain.{Plain, document, slots}
@@ -33,3 +34,20 @@ descriptor_plain x = document (slots (
     ∷ perhaps (λ m. name_plain (media_type_name m)) x.artifact_type
     ∷ perhaps text_plain x.embedded_data
     ∷ []))
+
+-- a descriptor of these three members
+abbrev pub described : MediaType → ℕ → List ℕ → Descriptor
+described media_type size digest = record {
+  media_type = media_type;
+  digest = digest;
+  size = size;
+  urls = None;
+  annotations = None;
+  platform = None;
+  artifact_type = None;
+  embedded_data = None;
+}
+
+-- the encoded part of a digest whose algorithm is `sha256`
+abbrev pub sha256_part : List ℕ → List ℕ → Option (List ℕ)
+sha256_part algorithm encoded = if bytes_eq algorithm (codes "sha256") then Some encoded else None

@@ -26,7 +26,36 @@ pub struct Descriptor {
 }
 
 impl Descriptor {
-    ghost use Rattle.oci_image_descriptor.specs.Descriptor.{descriptor_plain};
+    ghost use Rattle.std.specs.Prelude.{ℕ, List, option_map};
+    ghost use Rattle.oci_text_base.specs.Digest.{IsDigest};
+    ghost use Rattle.oci_image_descriptor.specs.Descriptor.{descriptor_plain, described, sha256_part};
+
+    /// A descriptor of these three members; the others are none.
+    pub fn new(media_type: MediaType, size: u64, digest: Digest) -> Descriptor
+        ensures { result ≡ described media_type size digest }
+    {
+        Descriptor {
+            media_type,
+            digest,
+            size,
+            urls: None,
+            annotations: None,
+            platform: None,
+            artifact_type: None,
+            embedded_data: None,
+        }
+    }
+
+    /// The encoded part of the digest where its algorithm is `sha256`, else none.
+    pub fn as_digest_sha256(&self) -> Option<&str>
+        ensures { (a e : List ℕ) → IsDigest self.now.digest a e → option_map (λ t. t.now) result ≡ sha256_part a e }
+    {
+        if self.digest.algorithm().as_ref() == "sha256" {
+            Some(self.digest.digest())
+        } else {
+            None
+        }
+    }
 
     /// An equal document.
     pub fn clone(&self, alloc: Global) -> Result<Descriptor>
