@@ -2,6 +2,9 @@ use Rattle.std.proofs.Common.{codes, refl}
 use Rattle.oci_json_schema.proofs.Readers.{exit, exit_kind}
 use Rattle.oci_image_manifest.proofs.image_manifest.ImageManifestOciRecord.from_value.Goals as goal
 
+pub returns-in_err-required-3-clause-err : goal.returns-in_err-required-3-clause-err
+returns-in_err-required-3-clause-err c = exit _ _ (codes "layers") _ _ _ c.from_residual-in_err-required-3.ensures.1 c.in_err-required-3.ensures.err refl
+
 pub returns-in_err-optional-3-clause-err : goal.returns-in_err-optional-3-clause-err
 returns-in_err-optional-3-clause-err c = exit _ _ (codes "subject") _ _ _ c.from_residual-in_err-optional-3.ensures.1 c.in_err-optional-3.ensures.err refl
 
@@ -10,6 +13,3 @@ returns-in_err-optional-4-clause-err c = exit _ _ (codes "annotations") _ _ _ c.
 
 pub returns-in_err-optional-4-clause-kind : goal.returns-in_err-optional-4-clause-kind
 returns-in_err-optional-4-clause-kind c = exit_kind _ _ c.from_residual-in_err-optional-4.ensures.1 c.in_err-optional-4.ensures.kind
-
-pub returns-in_err-required-3-clause-err : goal.returns-in_err-required-3-clause-err
-returns-in_err-required-3-clause-err c = exit _ _ (codes "layers") _ _ _ c.from_residual-in_err-required-3.ensures.1 c.in_err-required-3.ensures.err refl
