@@ -1,0 +1,4 @@
+pub mod Commands
+pub mod Kinds
+pub mod Outputs
+pub mod Refusals

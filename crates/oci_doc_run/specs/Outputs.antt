@@ -1,0 +1,55 @@
+-- What each command writes.
+use Rattle.std.specs.Prelude.{ℕ, List, [], ◌∷◌, ◌++◌, codes, Option, Some, None, IfSome}
+use Rattle.oci_json_schema.specs.Plain.{Plain}
+use Rattle.oci_json_schema.specs.Shape.{Shape}
+use Rattle.oci_json_schema.specs.Value.{value}
+use Rattle.oci_json_engines.specs.Engines.{MeansBytes, WritesDocument, IsPretty}
+use Rattle.oci_reference.specs.Accepted.{Accepted}
+use Rattle.oci_reference.specs.Parts.{Parts, resolved}
+use Rattle.oci_reference.specs.Whole.{whole}
+use Rattle.oci_text_base.specs.Digest.{IsDigest}
+use Rattle.oci_doc_run.specs.Commands.{Asked, norm, pretty, reference, digest}
+use Rattle.oci_doc_run.specs.Kinds.{shape_of}
+
+-- a word, a space, the value and a line feed
+abbrev pub line : List ℕ → List ℕ → List ℕ
+line word value = word ++ 32 ∷ (value ++ 10 ∷ [])
+
+-- the line of a value, where there is one
+abbrev pub line_if : List ℕ → Option (List ℕ) → List ℕ
+line_if word None = []
+line_if word (Some value) = line word value
+
+-- the lines on a reference
+abbrev pub reference_lines : Parts → List ℕ
+reference_lines r =
+    line (codes "registry") r.registry
+    ++ line (codes "repository") r.repository
+    ++ line_if (codes "tag") r.tag
+    ++ line_if (codes "digest") r.digest
+    ++ line (codes "whole") (whole r)
+    ++ line (codes "resolve") (resolved r)
+
+-- the lines on a digest
+abbrev pub digest_lines : List ℕ → List ℕ → List ℕ
+digest_lines algorithm encoded = line (codes "algorithm") algorithm ++ line (codes "encoded") encoded
+
+-- the pretty text of a document is written, which the bytes mean where they are known
+abbrev pub WritesPretty : Shape → Option (List ℕ) → (List ℕ → Type 0) → Type 0
+WritesPretty s input Wrote =
+    (p : Plain) × IfSome input (λ bytes. MeansBytes s bytes p) × ((text : List ℕ) × IsPretty (value s p) text × Wrote text)
+
+-- the lines on the reference that the text is
+abbrev pub WritesReference : List ℕ → (List ℕ → Type 0) → Type 0
+WritesReference text Wrote = (parts : Parts) × Accepted text parts × Wrote (reference_lines parts)
+
+-- the lines on the digest that the text is
+abbrev pub WritesDigest : List ℕ → (List ℕ → Type 0) → Type 0
+WritesDigest text Wrote = (algorithm : List ℕ) × (encoded : List ℕ) × IsDigest text algorithm encoded × Wrote (digest_lines algorithm encoded)
+
+-- the command's output is written
+abbrev pub Writes : Asked → Option (List ℕ) → (List ℕ → Type 0) → Type 0
+Writes (norm kind) input Wrote = WritesDocument (shape_of kind) input Wrote
+Writes (pretty kind) input Wrote = WritesPretty (shape_of kind) input Wrote
+Writes (reference text) input Wrote = WritesReference text Wrote
+Writes (digest text) input Wrote = WritesDigest text Wrote

@@ -1,0 +1,14 @@
+//! The commands of the program `ocidoc`.
+#![tactic(auto)]
+
+pub mod command;
+pub mod document;
+pub mod kind;
+pub mod program;
+pub mod refusal;
+pub mod text;
+
+pub use command::Command;
+pub use kind::Kind;
+pub use program::run;
+pub use refusal::Refusal;

@@ -1,0 +1,5 @@
+//! Tests of the commands of `ocidoc`.
+#![tactic(auto)]
+
+#[cfg(test)]
+mod tests;
