@@ -2,7 +2,10 @@
 ghost use Rattle.std.specs.Prelude.{◌≡◌, IfOk, IfErr};
 
 use oci_json_kinds::{Detail, copy_optional_as, optional_as, optional_as_owned, write_optional_as};
-use oci_json_schema::{OciMember, OciRecord, copy_optional, fault, optional, optional_owned, required, required_owned, taken, write_optional, write_required};
+use oci_json_schema::{
+    OciMember, OciRecord, copy_optional, fault, optional, optional_owned, required, required_owned,
+    taken, write_optional, write_required,
+};
 use oci_text_base::{OciSpecError, Result, UninitializedFieldError};
 use oci_text_names::ErrorCode;
 use serde_json::{Map, Value};
@@ -74,7 +77,12 @@ impl OciRecord for ErrorInfo {
 
     #[tactic(auto, using(oci_json_schema::proofs::Readers::refuses_others))]
     fn from_value_owned(alloc: Global, value: Value) -> Result<ErrorInfo> {
-        let Some([code, message, detail]) = taken::<3>(alloc, value, &["code", "message", "detail"])? else {
+        let Some([code, message, detail]) = taken::<3>(
+            alloc,
+            value,
+            &["code", "message", "detail"],
+        )?
+        else {
             return Err(fault::refused(NAME, ""));
         };
         Ok(ErrorInfo {
@@ -156,7 +164,11 @@ impl ErrorInfoBuilder {
         ensures built { IfOk result (λ x. self ≡ record { code = Some x.code; message = x.message; detail = x.detail }) }
         ensures unset { IfErr result (λ e. IsUnset (error_info_unset self) e) }
     {
-        let ErrorInfoBuilder { code, message, detail } = self;
+        let ErrorInfoBuilder {
+            code,
+            message,
+            detail,
+        } = self;
         let Some(code) = code else {
             return Err(UninitializedFieldError::new("code").into());
         };

@@ -2,7 +2,9 @@
 ghost use Rattle.std.specs.Prelude.{◌≡◌, IfOk, IfErr};
 
 use crate::error_info::ErrorInfo;
-use oci_json_schema::{OciMember, OciRecord, fault, required, required_owned, taken, write_required};
+use oci_json_schema::{
+    OciMember, OciRecord, fault, required, required_owned, taken, write_required,
+};
 use oci_text_base::{OciSpecError, Result, UninitializedFieldError};
 use serde_json::{Map, Value};
 use std::alloc::Global;
@@ -135,8 +137,6 @@ impl ErrorResponseBuilder {
         let Some(errors) = errors else {
             return Err(UninitializedFieldError::new("errors").into());
         };
-        Ok(ErrorResponse {
-            errors,
-        })
+        Ok(ErrorResponse { errors })
     }
 }

@@ -1,7 +1,9 @@
 //! The repositories of a registry (distribution specification, "Listing Repositories").
 ghost use Rattle.std.specs.Prelude.{◌≡◌, IfOk, IfErr};
 
-use oci_json_schema::{OciMember, OciRecord, fault, required, required_owned, taken, write_required};
+use oci_json_schema::{
+    OciMember, OciRecord, fault, required, required_owned, taken, write_required,
+};
 use oci_text_base::{OciSpecError, Result, UninitializedFieldError};
 use serde_json::{Map, Value};
 use std::alloc::Global;
@@ -118,8 +120,6 @@ impl RepositoryListBuilder {
         let Some(repositories) = repositories else {
             return Err(UninitializedFieldError::new("repositories").into());
         };
-        Ok(RepositoryList {
-            repositories,
-        })
+        Ok(RepositoryList { repositories })
     }
 }

@@ -1,7 +1,9 @@
 //! The tags of a repository (distribution specification, "Listing Tags").
 ghost use Rattle.std.specs.Prelude.{◌≡◌, IfOk, IfErr};
 
-use oci_json_schema::{OciMember, OciRecord, fault, required, required_owned, taken, write_required};
+use oci_json_schema::{
+    OciMember, OciRecord, fault, required, required_owned, taken, write_required,
+};
 use oci_text_base::{OciSpecError, Result, UninitializedFieldError};
 use serde_json::{Map, Value};
 use std::alloc::Global;
@@ -154,9 +156,6 @@ impl TagListBuilder {
         let Some(tags) = tags else {
             return Err(UninitializedFieldError::new("tags").into());
         };
-        Ok(TagList {
-            name,
-            tags,
-        })
+        Ok(TagList { name, tags })
     }
 }

@@ -2,15 +2,42 @@
 use Rattle.std.specs.Prelude.{ℕ, List, codes, bytes_eq, Option, Some, None, if◌then◌else◌}
 use Rattle.oci_json_schema.specs.Shape.{Shape}
 use Rattle.oci_image_manifest.specs.ImageManifest.{image_manifest}
+use Rattle.oci_image_index.specs.ImageIndex.{image_index}
+use Rattle.oci_image_config.specs.ImageConfiguration.{image_configuration}
+use Rattle.oci_image_manifest.specs.ArtifactManifest.{artifact_manifest}
+use Rattle.oci_image_index.specs.OciLayout.{oci_layout}
+use Rattle.oci_image_descriptor.specs.Descriptor.{descriptor}
+use Rattle.oci_distribution_records.specs.ErrorResponse.{error_response}
+use Rattle.oci_distribution_records.specs.RepositoryList.{repository_list}
+use Rattle.oci_distribution_records.specs.TagList.{tag_list}
+use Rattle.oci_reference.specs.Record.{reference}
 use Rattle.oci_doc_run.specs.declared.kind.Kind.{Kind}
-use Rattle.oci_doc_run.specs.declared.kind.Kind.TheVariants.{Manifest}
+use Rattle.oci_doc_run.specs.declared.kind.Kind.TheVariants.{Manifest, Index, Config, Artifact, Layout, Descriptor, Error, Repositories, Tags, Reference}
 
 -- the kind that a word names
 abbrev pub kind_of : List ℕ → Option Kind
 kind_of word =
     if bytes_eq word (codes "manifest") then Some Manifest
-    else None
+    else (if bytes_eq word (codes "index") then Some Index
+    else (if bytes_eq word (codes "config") then Some Config
+    else (if bytes_eq word (codes "artifact") then Some Artifact
+    else (if bytes_eq word (codes "layout") then Some Layout
+    else (if bytes_eq word (codes "descriptor") then Some Descriptor
+    else (if bytes_eq word (codes "error") then Some Error
+    else (if bytes_eq word (codes "repositories") then Some Repositories
+    else (if bytes_eq word (codes "tags") then Some Tags
+    else (if bytes_eq word (codes "reference") then Some Reference
+    else None)))))))))
 
 -- the JSON that is allowed for a kind
 abbrev pub shape_of : Kind → Shape
 shape_of Manifest = image_manifest
+shape_of Index = image_index
+shape_of Config = image_configuration
+shape_of Artifact = artifact_manifest
+shape_of Layout = oci_layout
+shape_of Descriptor = descriptor
+shape_of Error = error_response
+shape_of Repositories = repository_list
+shape_of Tags = tag_list
+shape_of Reference = reference

@@ -5,11 +5,10 @@ ghost use Rattle.oci_doc_run.specs.Commands.{asked, asked_of, command_of};
 ghost use Rattle.oci_doc_run.specs.Outputs.{Writes};
 ghost use Rattle.oci_doc_run.specs.Refusals.{Tells};
 
-use crate::document::{normal, pretty};
+use crate::document::{normal_of_kind, pretty_of_kind};
 use crate::kind::Kind;
 use crate::refusal::Refusal;
 use crate::text::{digest, reference};
-use oci_image_manifest::ImageManifest;
 use std::alloc::Global;
 use std::io::{Read, Write};
 
@@ -66,12 +65,8 @@ impl<'a> Command<'a> {
         ensures err { IfErr result (λ r. Tells (asked self.entry) (R.remaining reader.old) (W.contents writer.old) (W.contents writer.new) r) }
     {
         match self {
-            Command::Normalize(kind) => match kind {
-                Kind::Manifest => normal::<ImageManifest, _, _>(alloc, reader, writer),
-            },
-            Command::Pretty(kind) => match kind {
-                Kind::Manifest => pretty::<ImageManifest, _, _>(alloc, reader, writer),
-            },
+            Command::Normalize(kind) => normal_of_kind(kind, alloc, reader, writer),
+            Command::Pretty(kind) => pretty_of_kind(kind, alloc, reader, writer),
             Command::Reference(text) => reference(alloc, text, writer),
             Command::Digest(text) => digest(alloc, text, writer),
         }

@@ -2,17 +2,25 @@
 ghost use Rattle.std.specs.Prelude.{OnOk, IfErr};
 ghost use Rattle.std.specs.Io.KnownBytes.{Appends};
 ghost use Rattle.oci_json_engines.specs.Engines.{WritesDocument};
+ghost use Rattle.oci_doc_run.specs.Kinds.{shape_of};
 ghost use Rattle.oci_doc_run.specs.Outputs.{WritesPretty};
 ghost use Rattle.oci_doc_run.specs.Refusals.{TellsOfNormal, TellsOfPretty};
 
+use crate::kind::Kind;
 use crate::refusal::Refusal;
+use oci_distribution_records::{ErrorResponse, RepositoryList, TagList};
+use oci_image_config::ImageConfiguration;
+use oci_image_descriptor::Descriptor;
+use oci_image_index::{ImageIndex, OciLayout};
+use oci_image_manifest::{ArtifactManifest, ImageManifest};
 use oci_json_engines::{from_reader, normalize, to_writer_pretty};
 use oci_json_schema::OciRecord;
+use oci_reference::Reference;
 use std::alloc::Global;
 use std::io::{Read, Write};
 
 /// Reads a document, and writes its compact text.
-pub fn normal<T: OciRecord, R: Read, W: Write>(
+fn normal<T: OciRecord, R: Read, W: Write>(
     alloc: Global,
     reader: &mut R,
     writer: &mut W,
@@ -25,7 +33,7 @@ pub fn normal<T: OciRecord, R: Read, W: Write>(
 }
 
 /// Reads a document, and writes its pretty text.
-pub fn pretty<T: OciRecord, R: Read, W: Write>(
+fn pretty<T: OciRecord, R: Read, W: Write>(
     alloc: Global,
     reader: &mut R,
     writer: &mut W,
@@ -36,4 +44,52 @@ pub fn pretty<T: OciRecord, R: Read, W: Write>(
     let document: T = from_reader(alloc, &mut *reader)?;
     to_writer_pretty(&document, alloc, writer)?;
     Ok(())
+}
+
+/// Reads a document of a kind, and writes its compact text.
+pub fn normal_of_kind<R: Read, W: Write>(
+    kind: Kind,
+    alloc: Global,
+    reader: &mut R,
+    writer: &mut W,
+) -> Result<(), Refusal>
+    ensures ok { OnOk result (WritesDocument (shape_of kind) (R.remaining reader.old) (Appends (W.contents writer.old) (W.contents writer.new))) }
+    ensures err { IfErr result (λ r. TellsOfNormal (shape_of kind) (R.remaining reader.old) (W.contents writer.old) (W.contents writer.new) r) }
+{
+    match kind {
+        Kind::Manifest => normal::<ImageManifest, _, _>(alloc, reader, writer),
+        Kind::Index => normal::<ImageIndex, _, _>(alloc, reader, writer),
+        Kind::Config => normal::<ImageConfiguration, _, _>(alloc, reader, writer),
+        Kind::Artifact => normal::<ArtifactManifest, _, _>(alloc, reader, writer),
+        Kind::Layout => normal::<OciLayout, _, _>(alloc, reader, writer),
+        Kind::Descriptor => normal::<Descriptor, _, _>(alloc, reader, writer),
+        Kind::Error => normal::<ErrorResponse, _, _>(alloc, reader, writer),
+        Kind::Repositories => normal::<RepositoryList, _, _>(alloc, reader, writer),
+        Kind::Tags => normal::<TagList, _, _>(alloc, reader, writer),
+        Kind::Reference => normal::<Reference, _, _>(alloc, reader, writer),
+    }
+}
+
+/// Reads a document of a kind, and writes its pretty text.
+pub fn pretty_of_kind<R: Read, W: Write>(
+    kind: Kind,
+    alloc: Global,
+    reader: &mut R,
+    writer: &mut W,
+) -> Result<(), Refusal>
+    ensures ok { OnOk result (WritesPretty (shape_of kind) (R.remaining reader.old) (Appends (W.contents writer.old) (W.contents writer.new))) }
+    ensures err { IfErr result (λ r. TellsOfPretty (shape_of kind) (R.remaining reader.old) (W.contents writer.old) (W.contents writer.new) r) }
+{
+    match kind {
+        Kind::Manifest => pretty::<ImageManifest, _, _>(alloc, reader, writer),
+        Kind::Index => pretty::<ImageIndex, _, _>(alloc, reader, writer),
+        Kind::Config => pretty::<ImageConfiguration, _, _>(alloc, reader, writer),
+        Kind::Artifact => pretty::<ArtifactManifest, _, _>(alloc, reader, writer),
+        Kind::Layout => pretty::<OciLayout, _, _>(alloc, reader, writer),
+        Kind::Descriptor => pretty::<Descriptor, _, _>(alloc, reader, writer),
+        Kind::Error => pretty::<ErrorResponse, _, _>(alloc, reader, writer),
+        Kind::Repositories => pretty::<RepositoryList, _, _>(alloc, reader, writer),
+        Kind::Tags => pretty::<TagList, _, _>(alloc, reader, writer),
+        Kind::Reference => pretty::<Reference, _, _>(alloc, reader, writer),
+    }
 }

@@ -7,6 +7,24 @@ ghost use Rattle.oci_doc_run.specs.Kinds.{kind_of};
 pub enum Kind {
     /// `manifest`: an image manifest.
     Manifest,
+    /// `index`: an image index.
+    Index,
+    /// `config`: an image configuration.
+    Config,
+    /// `artifact`: an artifact manifest.
+    Artifact,
+    /// `layout`: the marker of an image layout.
+    Layout,
+    /// `descriptor`: a content descriptor.
+    Descriptor,
+    /// `error`: a registry's reply to a request that failed.
+    Error,
+    /// `repositories`: a registry's list of repositories.
+    Repositories,
+    /// `tags`: a repository's list of tags.
+    Tags,
+    /// `reference`: a reference to an image, in its parts.
+    Reference,
 }
 
 impl Kind {
@@ -16,6 +34,15 @@ impl Kind {
     {
         match word {
             "manifest" => Some(Kind::Manifest),
+            "index" => Some(Kind::Index),
+            "config" => Some(Kind::Config),
+            "artifact" => Some(Kind::Artifact),
+            "layout" => Some(Kind::Layout),
+            "descriptor" => Some(Kind::Descriptor),
+            "error" => Some(Kind::Error),
+            "repositories" => Some(Kind::Repositories),
+            "tags" => Some(Kind::Tags),
+            "reference" => Some(Kind::Reference),
             _ => None,
         }
     }

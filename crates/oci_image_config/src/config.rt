@@ -2,7 +2,9 @@
 ghost use Rattle.std.specs.Prelude.{◌≡◌, IfOk, IfErr};
 
 use oci_json_kinds::{Keys, copy_optional_as, optional_as, optional_as_owned, write_optional_as};
-use oci_json_schema::{OciRecord, copy_optional, fault, optional, optional_owned, taken, write_optional};
+use oci_json_schema::{
+    OciRecord, copy_optional, fault, optional, optional_owned, taken, write_optional,
+};
 use oci_text_base::{OciSpecError, Result};
 use serde_json::{Map, Value};
 use std::alloc::Global;
@@ -236,12 +238,44 @@ impl OciRecord for Config {
 
     #[tactic(auto, using(oci_json_schema::proofs::Readers::refuses_others))]
     fn from_value_owned(alloc: Global, value: Value) -> Result<Config> {
-        let Some([user, exposed_ports, env, entrypoint, cmd, volumes, working_dir, labels, stop_signal]) = taken::<9>(alloc, value, &["User", "ExposedPorts", "Env", "Entrypoint", "Cmd", "Volumes", "WorkingDir", "Labels", "StopSignal"])? else {
+        let Some(
+            [
+                user,
+                exposed_ports,
+                env,
+                entrypoint,
+                cmd,
+                volumes,
+                working_dir,
+                labels,
+                stop_signal,
+            ],
+        ) = taken::<9>(
+            alloc,
+            value,
+            &[
+                "User",
+                "ExposedPorts",
+                "Env",
+                "Entrypoint",
+                "Cmd",
+                "Volumes",
+                "WorkingDir",
+                "Labels",
+                "StopSignal",
+            ],
+        )?
+        else {
             return Err(fault::refused(NAME, ""));
         };
         Ok(Config {
             user: optional_owned(alloc, user, NAME, "User")?,
-            exposed_ports: optional_as_owned::<Keys, Vec<String>>(alloc, exposed_ports, NAME, "ExposedPorts")?,
+            exposed_ports: optional_as_owned::<Keys, Vec<String>>(
+                alloc,
+                exposed_ports,
+                NAME,
+                "ExposedPorts",
+            )?,
             env: optional_owned(alloc, env, NAME, "Env")?,
             entrypoint: optional_owned(alloc, entrypoint, NAME, "Entrypoint")?,
             cmd: optional_owned(alloc, cmd, NAME, "Cmd")?,
@@ -255,11 +289,23 @@ impl OciRecord for Config {
     fn to_value(&self, alloc: Global) -> Result<Value> {
         let mut members = Map::new(alloc);
         write_optional(&mut members, alloc, "User", &self.user)?;
-        write_optional_as::<Keys, Vec<String>>(&mut members, alloc, NAME, "ExposedPorts", &self.exposed_ports)?;
+        write_optional_as::<Keys, Vec<String>>(
+            &mut members,
+            alloc,
+            NAME,
+            "ExposedPorts",
+            &self.exposed_ports,
+        )?;
         write_optional(&mut members, alloc, "Env", &self.env)?;
         write_optional(&mut members, alloc, "Entrypoint", &self.entrypoint)?;
         write_optional(&mut members, alloc, "Cmd", &self.cmd)?;
-        write_optional_as::<Keys, Vec<String>>(&mut members, alloc, NAME, "Volumes", &self.volumes)?;
+        write_optional_as::<Keys, Vec<String>>(
+            &mut members,
+            alloc,
+            NAME,
+            "Volumes",
+            &self.volumes,
+        )?;
         write_optional(&mut members, alloc, "WorkingDir", &self.working_dir)?;
         write_optional(&mut members, alloc, "Labels", &self.labels)?;
         write_optional(&mut members, alloc, "StopSignal", &self.stop_signal)?;

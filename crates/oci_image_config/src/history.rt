@@ -1,7 +1,9 @@
 //! How one layer of an image came about (image specification, "Image Configuration", `history`).
 ghost use Rattle.std.specs.Prelude.{◌≡◌, IfOk, IfErr};
 
-use oci_json_schema::{OciRecord, copy_optional, fault, optional, optional_owned, taken, write_optional};
+use oci_json_schema::{
+    OciRecord, copy_optional, fault, optional, optional_owned, taken, write_optional,
+};
 use oci_text_base::{OciSpecError, Result};
 use serde_json::{Map, Value};
 use std::alloc::Global;
@@ -148,7 +150,12 @@ impl OciRecord for History {
 
     #[tactic(auto, using(oci_json_schema::proofs::Readers::refuses_others))]
     fn from_value_owned(alloc: Global, value: Value) -> Result<History> {
-        let Some([created, author, created_by, comment, empty_layer]) = taken::<5>(alloc, value, &["created", "author", "created_by", "comment", "empty_layer"])? else {
+        let Some([created, author, created_by, comment, empty_layer]) = taken::<5>(
+            alloc,
+            value,
+            &["created", "author", "created_by", "comment", "empty_layer"],
+        )?
+        else {
             return Err(fault::refused(NAME, ""));
         };
         Ok(History {

@@ -5,7 +5,10 @@ use crate::annotations::{ANNOTATION_VERSION, LABEL_VERSION};
 use crate::config::Config;
 use crate::history::History;
 use crate::root_fs::RootFs;
-use oci_json_schema::{OciMember, OciRecord, copy_optional, fault, optional, optional_owned, required, required_owned, taken, write_optional, write_required};
+use oci_json_schema::{
+    OciMember, OciRecord, copy_optional, fault, optional, optional_owned, required, required_owned,
+    taken, write_optional, write_required,
+};
 use oci_text_base::{OciSpecError, Result};
 use oci_text_names::{Arch, Os};
 use serde_json::{Map, Value};
@@ -381,7 +384,36 @@ impl OciRecord for ImageConfiguration {
 
     #[tactic(auto, using(oci_json_schema::proofs::Readers::refuses_others))]
     fn from_value_owned(alloc: Global, value: Value) -> Result<ImageConfiguration> {
-        let Some([created, author, architecture, os, os_version, os_features, variant, config, rootfs, history]) = taken::<10>(alloc, value, &["created", "author", "architecture", "os", "os.version", "os.features", "variant", "config", "rootfs", "history"])? else {
+        let Some(
+            [
+                created,
+                author,
+                architecture,
+                os,
+                os_version,
+                os_features,
+                variant,
+                config,
+                rootfs,
+                history,
+            ],
+        ) = taken::<10>(
+            alloc,
+            value,
+            &[
+                "created",
+                "author",
+                "architecture",
+                "os",
+                "os.version",
+                "os.features",
+                "variant",
+                "config",
+                "rootfs",
+                "history",
+            ],
+        )?
+        else {
             return Err(fault::refused(NAME, ""));
         };
         Ok(ImageConfiguration {
@@ -580,7 +612,18 @@ impl ImageConfigurationBuilder {
         ensures history { IfOk result (λ x. x.history ≡ self.history) }
         ensures err { IfErr result (λ e. e ≡ OciSpecError.Memory) }
     {
-        let ImageConfigurationBuilder { created, author, architecture, os, os_version, os_features, variant, config, rootfs, history } = self;
+        let ImageConfigurationBuilder {
+            created,
+            author,
+            architecture,
+            os,
+            os_version,
+            os_features,
+            variant,
+            config,
+            rootfs,
+            history,
+        } = self;
         let architecture = match architecture {
             Some(architecture) => architecture,
             None => Arch::Amd64,

@@ -1,7 +1,9 @@
 //! The layers that make up an image's file system (image specification, "Image Configuration", `rootfs`).
 ghost use Rattle.std.specs.Prelude.{◌≡◌, IfOk, IfErr};
 
-use oci_json_schema::{OciMember, OciRecord, fault, required, required_owned, taken, write_required};
+use oci_json_schema::{
+    OciMember, OciRecord, fault, required, required_owned, taken, write_required,
+};
 use oci_text_base::{OciSpecError, Result};
 use serde_json::{Map, Value};
 use std::alloc::Global;
@@ -177,9 +179,6 @@ impl RootFsBuilder {
             Some(diff_ids) => diff_ids,
             None => Vec::new(alloc),
         };
-        Ok(RootFs {
-            typ,
-            diff_ids,
-        })
+        Ok(RootFs { typ, diff_ids })
     }
 }

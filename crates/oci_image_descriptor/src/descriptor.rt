@@ -2,7 +2,10 @@
 ghost use Rattle.std.specs.Prelude.{◌≡◌, IfOk, IfErr};
 
 use crate::platform::Platform;
-use oci_json_schema::{OciMember, OciRecord, copy_optional, fault, optional, optional_owned, required, required_owned, split_8, taken, write_optional, write_required};
+use oci_json_schema::{
+    OciMember, OciRecord, copy_optional, fault, optional, optional_owned, required, required_owned,
+    split_8, taken, write_optional, write_required,
+};
 use oci_text_base::{OciSpecError, Result, UninitializedFieldError};
 use oci_text_digest::Digest;
 use oci_text_names::MediaType;
@@ -223,10 +226,25 @@ impl OciRecord for Descriptor {
 
     #[tactic(auto, using(oci_json_schema::proofs::Readers::refuses_others))]
     fn from_value_owned(alloc: Global, value: Value) -> Result<Descriptor> {
-        let Some(found) = taken::<8>(alloc, value, &["mediaType", "digest", "size", "urls", "annotations", "platform", "artifactType", "data"])? else {
+        let Some(found) = taken::<8>(
+            alloc,
+            value,
+            &[
+                "mediaType",
+                "digest",
+                "size",
+                "urls",
+                "annotations",
+                "platform",
+                "artifactType",
+                "data",
+            ],
+        )?
+        else {
             return Err(fault::refused(NAME, ""));
         };
-        let (media_type, digest, size, urls, annotations, platform, artifact_type, embedded_data) = split_8(found);
+        let (media_type, digest, size, urls, annotations, platform, artifact_type, embedded_data) =
+            split_8(found);
         Ok(Descriptor {
             media_type: required_owned(alloc, media_type, NAME, "mediaType")?,
             digest: required_owned(alloc, digest, NAME, "digest")?,
@@ -381,7 +399,16 @@ impl DescriptorBuilder {
         ensures built { IfOk result (λ x. self ≡ record { media_type = Some x.media_type; digest = Some x.digest; size = Some x.size; urls = x.urls; annotations = x.annotations; platform = x.platform; artifact_type = x.artifact_type; embedded_data = x.embedded_data }) }
         ensures unset { IfErr result (λ e. IsUnset (descriptor_unset self) e) }
     {
-        let DescriptorBuilder { media_type, digest, size, urls, annotations, platform, artifact_type, embedded_data } = self;
+        let DescriptorBuilder {
+            media_type,
+            digest,
+            size,
+            urls,
+            annotations,
+            platform,
+            artifact_type,
+            embedded_data,
+        } = self;
         let Some(media_type) = media_type else {
             return Err(UninitializedFieldError::new("media_type").into());
         };

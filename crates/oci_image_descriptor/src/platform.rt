@@ -1,7 +1,10 @@
 //! The machine that an image is for (image specification, "Image Index", `platform`).
 ghost use Rattle.std.specs.Prelude.{◌≡◌, IfOk, IfErr};
 
-use oci_json_schema::{OciMember, OciRecord, copy_optional, fault, optional, optional_either, optional_either_owned, optional_owned, required, required_owned, taken, write_optional, write_required};
+use oci_json_schema::{
+    OciMember, OciRecord, copy_optional, fault, optional, optional_either, optional_either_owned,
+    optional_owned, required, required_owned, taken, write_optional, write_required,
+};
 use oci_text_base::{OciSpecError, Result, UninitializedFieldError};
 use oci_text_names::{Arch, Os};
 use serde_json::{Map, Value};
@@ -170,14 +173,53 @@ impl OciRecord for Platform {
 
     #[tactic(auto, using(oci_json_schema::proofs::Readers::refuses_others))]
     fn from_value_owned(alloc: Global, value: Value) -> Result<Platform> {
-        let Some([architecture, os, os_version, other_os_version, os_features, other_os_features, variant, features]) = taken::<8>(alloc, value, &["architecture", "os", "os.version", "os_version", "os.features", "os_features", "variant", "features"])? else {
+        let Some(
+            [
+                architecture,
+                os,
+                os_version,
+                other_os_version,
+                os_features,
+                other_os_features,
+                variant,
+                features,
+            ],
+        ) = taken::<8>(
+            alloc,
+            value,
+            &[
+                "architecture",
+                "os",
+                "os.version",
+                "os_version",
+                "os.features",
+                "os_features",
+                "variant",
+                "features",
+            ],
+        )?
+        else {
             return Err(fault::refused(NAME, ""));
         };
         Ok(Platform {
             architecture: required_owned(alloc, architecture, NAME, "architecture")?,
             os: required_owned(alloc, os, NAME, "os")?,
-            os_version: optional_either_owned(alloc, os_version, other_os_version, NAME, "os.version", "os_version")?,
-            os_features: optional_either_owned(alloc, os_features, other_os_features, NAME, "os.features", "os_features")?,
+            os_version: optional_either_owned(
+                alloc,
+                os_version,
+                other_os_version,
+                NAME,
+                "os.version",
+                "os_version",
+            )?,
+            os_features: optional_either_owned(
+                alloc,
+                os_features,
+                other_os_features,
+                NAME,
+                "os.features",
+                "os_features",
+            )?,
             variant: optional_owned(alloc, variant, NAME, "variant")?,
             features: optional_owned(alloc, features, NAME, "features")?,
         })
@@ -297,7 +339,14 @@ impl PlatformBuilder {
         ensures built { IfOk result (λ x. self ≡ record { architecture = Some x.architecture; os = Some x.os; os_version = x.os_version; os_features = x.os_features; variant = x.variant; features = x.features }) }
         ensures unset { IfErr result (λ e. IsUnset (platform_unset self) e) }
     {
-        let PlatformBuilder { architecture, os, os_version, os_features, variant, features } = self;
+        let PlatformBuilder {
+            architecture,
+            os,
+            os_version,
+            os_features,
+            variant,
+            features,
+        } = self;
         let Some(architecture) = architecture else {
             return Err(UninitializedFieldError::new("architecture").into());
         };

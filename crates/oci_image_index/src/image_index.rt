@@ -2,7 +2,10 @@
 ghost use Rattle.std.specs.Prelude.{◌≡◌, IfOk, IfErr};
 
 use oci_image_descriptor::Descriptor;
-use oci_json_schema::{OciMember, OciRecord, copy_optional, fault, optional, optional_owned, required, required_owned, split_6, taken, write_optional, write_required};
+use oci_json_schema::{
+    OciMember, OciRecord, copy_optional, fault, optional, optional_owned, required, required_owned,
+    split_6, taken, write_optional, write_required,
+};
 use oci_text_base::{OciSpecError, Result, UninitializedFieldError};
 use oci_text_names::MediaType;
 use serde_json::{Map, Value};
@@ -247,10 +250,24 @@ impl OciRecord for ImageIndex {
 
     #[tactic(auto, using(oci_json_schema::proofs::Readers::refuses_others))]
     fn from_value_owned(alloc: Global, value: Value) -> Result<ImageIndex> {
-        let Some(found) = taken::<6>(alloc, value, &["schemaVersion", "mediaType", "artifactType", "manifests", "subject", "annotations"])? else {
+        let Some(found) = taken::<6>(
+            alloc,
+            value,
+            &[
+                "schemaVersion",
+                "mediaType",
+                "artifactType",
+                "manifests",
+                "subject",
+                "annotations",
+            ],
+        )?
+        else {
             return Err(fault::refused(NAME, ""));
         };
-        let (schema_version, media_type, artifact_type, manifests, subject, annotations) = split_6(found);
+        let (schema_version, media_type, artifact_type, manifests, subject, annotations) = split_6(
+            found,
+        );
         Ok(ImageIndex {
             schema_version: required_owned(alloc, schema_version, NAME, "schemaVersion")?,
             media_type: optional_owned(alloc, media_type, NAME, "mediaType")?,
@@ -375,7 +392,14 @@ impl ImageIndexBuilder {
         ensures built { IfOk result (λ x. self ≡ record { schema_version = Some x.schema_version; media_type = x.media_type; artifact_type = x.artifact_type; manifests = Some x.manifests; subject = x.subject; annotations = x.annotations }) }
         ensures unset { IfErr result (λ e. IsUnset (image_index_unset self) e) }
     {
-        let ImageIndexBuilder { schema_version, media_type, artifact_type, manifests, subject, annotations } = self;
+        let ImageIndexBuilder {
+            schema_version,
+            media_type,
+            artifact_type,
+            manifests,
+            subject,
+            annotations,
+        } = self;
         let Some(schema_version) = schema_version else {
             return Err(UninitializedFieldError::new("schema_version").into());
         };

@@ -1,7 +1,9 @@
 //! The file `oci-layout` of an image's folder (image specification, "Image Layout", "oci-layout file").
 ghost use Rattle.std.specs.Prelude.{◌≡◌, IfOk, IfErr};
 
-use oci_json_schema::{OciMember, OciRecord, fault, required, required_owned, taken, write_required};
+use oci_json_schema::{
+    OciMember, OciRecord, fault, required, required_owned, taken, write_required,
+};
 use oci_text_base::{OciSpecError, Result, UninitializedFieldError};
 use serde_json::{Map, Value};
 use std::alloc::Global;
@@ -141,13 +143,23 @@ impl OciRecord for OciLayout {
             return Err(fault::refused(NAME, ""));
         };
         Ok(OciLayout {
-            image_layout_version: required_owned(alloc, image_layout_version, NAME, "imageLayoutVersion")?,
+            image_layout_version: required_owned(
+                alloc,
+                image_layout_version,
+                NAME,
+                "imageLayoutVersion",
+            )?,
         })
     }
 
     fn to_value(&self, alloc: Global) -> Result<Value> {
         let mut members = Map::new(alloc);
-        write_required(&mut members, alloc, "imageLayoutVersion", &self.image_layout_version)?;
+        write_required(
+            &mut members,
+            alloc,
+            "imageLayoutVersion",
+            &self.image_layout_version,
+        )?;
         Ok(Value::Object(members))
     }
 
@@ -189,7 +201,9 @@ impl OciLayoutBuilder {
         ensures built { IfOk result (λ x. self ≡ record { image_layout_version = Some x.image_layout_version }) }
         ensures unset { IfErr result (λ e. IsUnset (oci_layout_unset self) e) }
     {
-        let OciLayoutBuilder { image_layout_version } = self;
+        let OciLayoutBuilder {
+            image_layout_version,
+        } = self;
         let Some(image_layout_version) = image_layout_version else {
             return Err(UninitializedFieldError::new("image_layout_version").into());
         };

@@ -2,7 +2,10 @@
 ghost use Rattle.std.specs.Prelude.{◌≡◌, IfOk, IfErr};
 
 use oci_image_descriptor::Descriptor;
-use oci_json_schema::{OciMember, OciRecord, copy_optional, fault, optional, optional_owned, required, required_owned, split_5, taken, write_optional, write_required};
+use oci_json_schema::{
+    OciMember, OciRecord, copy_optional, fault, optional, optional_owned, required, required_owned,
+    split_5, taken, write_optional, write_required,
+};
 use oci_text_base::{OciSpecError, Result, UninitializedFieldError};
 use oci_text_names::MediaType;
 use serde_json::{Map, Value};
@@ -222,7 +225,18 @@ impl OciRecord for ArtifactManifest {
 
     #[tactic(auto, using(oci_json_schema::proofs::Readers::refuses_others))]
     fn from_value_owned(alloc: Global, value: Value) -> Result<ArtifactManifest> {
-        let Some(found) = taken::<5>(alloc, value, &["mediaType", "artifactType", "blobs", "subject", "annotations"])? else {
+        let Some(found) = taken::<5>(
+            alloc,
+            value,
+            &[
+                "mediaType",
+                "artifactType",
+                "blobs",
+                "subject",
+                "annotations",
+            ],
+        )?
+        else {
             return Err(fault::refused(NAME, ""));
         };
         let (media_type, artifact_type, blobs, subject, annotations) = split_5(found);
@@ -332,7 +346,12 @@ impl ArtifactManifestBuilder {
         ensures annotations { IfOk result (λ x. x.annotations ≡ self.annotations) }
         ensures unset { IfErr result (λ e. IsUnset (artifact_manifest_unset self) e) }
     {
-        let ArtifactManifestBuilder { artifact_type, blobs, subject, annotations } = self;
+        let ArtifactManifestBuilder {
+            artifact_type,
+            blobs,
+            subject,
+            annotations,
+        } = self;
         let Some(artifact_type) = artifact_type else {
             return Err(UninitializedFieldError::new("artifact_type").into());
         };

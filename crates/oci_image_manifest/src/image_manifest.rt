@@ -2,7 +2,10 @@
 ghost use Rattle.std.specs.Prelude.{◌≡◌, IfOk, IfErr};
 
 use oci_image_descriptor::Descriptor;
-use oci_json_schema::{OciMember, OciRecord, copy_optional, fault, optional, optional_owned, required, required_owned, split_7, taken, write_optional, write_required};
+use oci_json_schema::{
+    OciMember, OciRecord, copy_optional, fault, optional, optional_owned, required, required_owned,
+    split_7, taken, write_optional, write_required,
+};
 use oci_text_base::{OciSpecError, Result, UninitializedFieldError};
 use oci_text_names::MediaType;
 use serde_json::{Map, Value};
@@ -267,10 +270,24 @@ impl OciRecord for ImageManifest {
 
     #[tactic(auto, using(oci_json_schema::proofs::Readers::refuses_others))]
     fn from_value_owned(alloc: Global, value: Value) -> Result<ImageManifest> {
-        let Some(found) = taken::<7>(alloc, value, &["schemaVersion", "mediaType", "artifactType", "config", "layers", "subject", "annotations"])? else {
+        let Some(found) = taken::<7>(
+            alloc,
+            value,
+            &[
+                "schemaVersion",
+                "mediaType",
+                "artifactType",
+                "config",
+                "layers",
+                "subject",
+                "annotations",
+            ],
+        )?
+        else {
             return Err(fault::refused(NAME, ""));
         };
-        let (schema_version, media_type, artifact_type, config, layers, subject, annotations) = split_7(found);
+        let (schema_version, media_type, artifact_type, config, layers, subject, annotations) =
+            split_7(found);
         Ok(ImageManifest {
             schema_version: required_owned(alloc, schema_version, NAME, "schemaVersion")?,
             media_type: optional_owned(alloc, media_type, NAME, "mediaType")?,
@@ -410,7 +427,15 @@ impl ImageManifestBuilder {
         ensures built { IfOk result (λ x. self ≡ record { schema_version = Some x.schema_version; media_type = x.media_type; artifact_type = x.artifact_type; config = Some x.config; layers = Some x.layers; subject = x.subject; annotations = x.annotations }) }
         ensures unset { IfErr result (λ e. IsUnset (image_manifest_unset self) e) }
     {
-        let ImageManifestBuilder { schema_version, media_type, artifact_type, config, layers, subject, annotations } = self;
+        let ImageManifestBuilder {
+            schema_version,
+            media_type,
+            artifact_type,
+            config,
+            layers,
+            subject,
+            annotations,
+        } = self;
         let Some(schema_version) = schema_version else {
             return Err(UninitializedFieldError::new("schema_version").into());
         };

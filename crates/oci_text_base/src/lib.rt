@@ -4,9 +4,6 @@
 pub mod classes;
 pub mod error;
 
-pub use error::OciSpecError;
-pub use error::Result;
-pub use error::SchemaFault;
-pub use error::SerDeError;
-pub use error::UninitializedFieldError;
-pub use error::UnknownName;
+pub use error::{
+    OciSpecError, Result, SchemaFault, SerDeError, UninitializedFieldError, UnknownName,
+};

@@ -8,13 +8,13 @@ use Rattle.oci_image_config.proofs.config.ConfigOciRecord.to_value.Goals as goal
 pub returns-clause-ok : goal.returns-clause-ok
 returns-clause-ok c =
     view-Object _ ∙ ap object (
-        c.in_ok-write_optional-7.ensures.ok ∙ ap (with_member (codes "StopSignal") _) (
-        c.in_ok-write_optional-6.ensures.ok ∙ ap (with_member (codes "Labels") _) (
-        c.in_ok-write_optional-5.ensures.ok ∙ ap (with_member (codes "WorkingDir") _) (
-        c.in_ok-write_optional_as-2.ensures.ok ∙ ap (with_member (codes "Volumes") _) (
-        c.in_ok-write_optional-4.ensures.ok ∙ ap (with_member (codes "Cmd") _) (
-        c.in_ok-write_optional-3.ensures.ok ∙ ap (with_member (codes "Entrypoint") _) (
-        c.in_ok-write_optional-2.ensures.ok ∙ ap (with_member (codes "Env") _) (
-        c.in_ok-write_optional_as.ensures.ok ∙ ap (with_member (codes "ExposedPorts") _) (
-        c.in_ok-write_optional.ensures.ok ∙ ap (with_member (codes "User") _) (
-        ap members_view c.new-members.ensures.empty))))))))))
+    c.in_ok-write_optional-7.ensures.ok ∙ ap (with_member (codes "StopSignal") _) (
+    c.in_ok-write_optional-6.ensures.ok ∙ ap (with_member (codes "Labels") _) (
+    c.in_ok-write_optional-5.ensures.ok ∙ ap (with_member (codes "WorkingDir") _) (
+    c.in_ok-write_optional_as-2.ensures.ok ∙ ap (with_member (codes "Volumes") _) (
+    c.in_ok-write_optional-4.ensures.ok ∙ ap (with_member (codes "Cmd") _) (
+    c.in_ok-write_optional-3.ensures.ok ∙ ap (with_member (codes "Entrypoint") _) (
+    c.in_ok-write_optional-2.ensures.ok ∙ ap (with_member (codes "Env") _) (
+    c.in_ok-write_optional_as.ensures.ok ∙ ap (with_member (codes "ExposedPorts") _) (
+    c.in_ok-write_optional.ensures.ok ∙ ap (with_member (codes "User") _) (
+    ap members_view c.new-members.ensures.empty))))))))))

@@ -37,15 +37,39 @@ pub returns-in_err-optional_owned-7-clause-kind : goal.returns-in_err-optional_o
 returns-in_err-optional_owned-7-clause-kind c = exit_kind _ _ c.from_residual-in_err-optional_owned-7.ensures.1 c.in_err-optional_owned-7.ensures.kind
 
 pub returns-clause-ok : goal.returns-clause-ok
-returns-clause-ok c = (_, search rules, refl,
-    (c.in_ok-optional_owned.ensures.ok (view c.args.value) (search rules),
-    (c.in_ok-optional_owned-2.ensures.ok (view c.args.value) (search rules),
-    (c.in_ok-required_owned.ensures.ok (view c.args.value) (search rules),
-    (c.in_ok-required_owned-2.ensures.ok (view c.args.value) (search rules),
-    (c.in_ok-optional_owned-3.ensures.ok (view c.args.value) (search rules),
-    (c.in_ok-optional_owned-4.ensures.ok (view c.args.value) (search rules),
-    (c.in_ok-optional_owned-5.ensures.ok (view c.args.value) (search rules),
-    (c.in_ok-optional_owned-6.ensures.ok (view c.args.value) (search rules),
-    (c.in_ok-required_owned-3.ensures.ok (view c.args.value) (search rules),
-    (c.in_ok-optional_owned-7.ensures.ok (view c.args.value) (search rules),
-    tt)))))))))))
+returns-clause-ok c = (
+  _,
+  search rules,
+  refl,
+  (
+    c.in_ok-optional_owned.ensures.ok (view c.args.value) (search rules),
+    (
+      c.in_ok-optional_owned-2.ensures.ok (view c.args.value) (search rules),
+      (
+        c.in_ok-required_owned.ensures.ok (view c.args.value) (search rules),
+        (
+          c.in_ok-required_owned-2.ensures.ok (view c.args.value) (search rules),
+          (
+            c.in_ok-optional_owned-3.ensures.ok (view c.args.value) (search rules),
+            (
+              c.in_ok-optional_owned-4.ensures.ok (view c.args.value) (search rules),
+              (
+                c.in_ok-optional_owned-5.ensures.ok (view c.args.value) (search rules),
+                (
+                  c.in_ok-optional_owned-6.ensures.ok (view c.args.value) (search rules),
+                  (
+                    c.in_ok-required_owned-3.ensures.ok (view c.args.value) (search rules),
+                    (
+                      c.in_ok-optional_owned-7.ensures.ok (view c.args.value) (search rules),
+                      tt,
+                    ),
+                  ),
+                ),
+              ),
+            ),
+          ),
+        ),
+      ),
+    ),
+  ),
+)
