@@ -11,6 +11,7 @@ use oci_text_names::MediaType;
 use serde_json::{Map, Value};
 use std::alloc::Global;
 use std::collections::BTreeMap;
+use std::fmt;
 use std::io::{Read, Write};
 use std::rt::Files;
 
@@ -223,6 +224,21 @@ impl ImageIndex {
     }
 }
 
+impl fmt::Display for ImageIndex {
+    ghost use Rattle.std.specs.Prelude.{OnOk};
+    ghost use Rattle.oci_json_schema.specs.Value.{value as json_of};
+    ghost use Rattle.oci_json_engines.specs.Engines.{DisplaysPretty};
+    ghost use Rattle.oci_image_index.specs.ImageIndex.{image_index, image_index_plain};
+
+    /// The pretty text, made in the memory of the manifests; a formatting error where memory or the formatter refuses. Widths are not
+    /// looked at.
+    fn fmt<W: fmt::Write>(&self, f: &mut fmt::Formatter<W>) -> fmt::Result
+        ensures pretty { OnOk result (DisplaysPretty W.write_str_gives f.old (json_of image_index (image_index_plain self.now)) f.new) }
+    {
+        oci_json_engines::display_pretty(self, *self.manifests.allocator(), f)
+    }
+}
+
 impl OciRecord for ImageIndex {
     ghost use Rattle.oci_text_names.specs.MediaType.{media_type_name};
     ghost use Rattle.oci_json_schema.specs.Same.{same_document, same_more, same_last, same_given, same_perhaps, same_texts, same_lists, same_maps, same_named, same_numbers};
@@ -311,7 +327,7 @@ impl OciRecord for ImageIndex {
         same_last (same_perhaps (same_maps same_texts) x.annotations y.annotations))))))) };
 }
 
-/// Puts a `ImageIndex` together.
+/// Puts an `ImageIndex` together.
 #[derive(Debug, Default, Drop)]
 pub struct ImageIndexBuilder {
     schema_version: Option<u32>,

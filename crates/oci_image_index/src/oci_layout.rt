@@ -175,7 +175,7 @@ impl OciRecord for OciLayout {
         same_last (same_given same_texts x.image_layout_version y.image_layout_version)) };
 }
 
-/// Puts a `OciLayout` together.
+/// Puts an `OciLayout` together.
 #[derive(Debug, Default, Drop)]
 pub struct OciLayoutBuilder {
     image_layout_version: Option<String>,

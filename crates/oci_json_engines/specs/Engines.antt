@@ -1,5 +1,7 @@
 -- What bytes are read as, and what is written for a document (RFC 8259).
 use Rattle.std.specs.Prelude.{◌≡◌, ◌⊎◌, ◌≤◌, IfSome, ℕ, List, Option, Some, None, IsUtf8, take}
+use Rattle.std.specs.Fmt.{IsPlainFormatter, HasWritten}
+use Rattle.std.specs.declared.fmt.Formatter.{Formatter}
 use Rattle.std.specs.Io.KnownBytes.{Appends}
 use Rattle.json.specs.Layout.{pretty}
 use Rattle.json.specs.Lex.{tokens}
@@ -46,6 +48,10 @@ pub record IsPretty (d : Data) (text : List ℕ) : Type 0 where
 -- known bytes grow by a beginning of bs
 abbrev pub AppendsSome : Option (List ℕ) → Option (List ℕ) → List ℕ → Type 0
 AppendsSome old new bs = (n : ℕ) × Appends old new (take n bs)
+
+-- where f formats as `{}` does, it became g by taking a pretty text of the tree
+abbrev pub DisplaysPretty : {W : Type 0} → (W → List ℕ → W → Type 0) → Formatter W → Data → Formatter W → Type 0
+DisplaysPretty took f d g = IsPlainFormatter f → (text : List ℕ) × IsPretty d text × HasWritten took f text g
 
 -- ---- from bytes to bytes
 

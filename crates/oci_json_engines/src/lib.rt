@@ -1,11 +1,13 @@
-//! From bytes to documents and back: readers, writers and files.
+//! From bytes to documents and back: readers, writers, files and formatters.
 #![tactic(auto)]
 
+pub mod display;
 pub mod file;
 pub mod normal;
 pub mod reading;
 pub mod writing;
 
+pub use display::display_pretty;
 pub use file::{from_file, to_file, to_file_pretty};
 pub use normal::normalize;
 pub use reading::{from_reader, from_slice};
