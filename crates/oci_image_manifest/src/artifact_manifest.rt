@@ -279,7 +279,7 @@ impl OciRecord for ArtifactManifest {
         same_last (same_perhaps (same_maps same_texts) x.annotations y.annotations)))))) };
 }
 
-/// Puts a `ArtifactManifest` together.
+/// Puts an `ArtifactManifest` together.
 #[derive(Debug, Default, Drop)]
 pub struct ArtifactManifestBuilder {
     artifact_type: Option<MediaType>,

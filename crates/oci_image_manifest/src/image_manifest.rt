@@ -11,6 +11,7 @@ use oci_text_names::MediaType;
 use serde_json::{Map, Value};
 use std::alloc::Global;
 use std::collections::BTreeMap;
+use std::fmt;
 use std::io::{Read, Write};
 use std::rt::Files;
 
@@ -242,6 +243,21 @@ impl ImageManifest {
     }
 }
 
+impl fmt::Display for ImageManifest {
+    ghost use Rattle.std.specs.Prelude.{OnOk};
+    ghost use Rattle.oci_json_schema.specs.Value.{value as json_of};
+    ghost use Rattle.oci_json_engines.specs.Engines.{DisplaysPretty};
+    ghost use Rattle.oci_image_manifest.specs.ImageManifest.{image_manifest, image_manifest_plain};
+
+    /// The pretty text, made in the memory of the layers; a formatting error where memory or the formatter refuses. Widths are not
+    /// looked at.
+    fn fmt<W: fmt::Write>(&self, f: &mut fmt::Formatter<W>) -> fmt::Result
+        ensures pretty { OnOk result (DisplaysPretty W.write_str_gives f.old (json_of image_manifest (image_manifest_plain self.now)) f.new) }
+    {
+        oci_json_engines::display_pretty(self, *self.layers.allocator(), f)
+    }
+}
+
 impl OciRecord for ImageManifest {
     ghost use Rattle.oci_text_names.specs.MediaType.{media_type_name};
     ghost use Rattle.oci_json_schema.specs.Same.{same_document, same_more, same_last, same_given, same_perhaps, same_texts, same_lists, same_maps, same_named, same_numbers};
@@ -335,7 +351,7 @@ impl OciRecord for ImageManifest {
         same_last (same_perhaps (same_maps same_texts) x.annotations y.annotations)))))))) };
 }
 
-/// Puts a `ImageManifest` together.
+/// Puts an `ImageManifest` together.
 #[derive(Debug, Default, Drop)]
 pub struct ImageManifestBuilder {
     schema_version: Option<u32>,
