@@ -1,0 +1,36 @@
+-- The words that the program knows.
+use Rattle.std.specs.Prelude.{◌≡◌, ℕ, List, [], ◌∷◌, codes, bytes_eq, Option, Some, None, if◌then◌else◌}
+use Rattle.oci_doc_run.specs.Kinds.{kind_of}
+use Rattle.oci_bench.specs.declared.arguments.Task.{Task}
+use Rattle.oci_bench.specs.declared.arguments.Task.TheVariants.{Documents, Texts}
+use Rattle.oci_bench.specs.declared.documents.DocumentCall.{DocumentCall}
+use Rattle.oci_bench.specs.declared.documents.DocumentCall.TheVariants as document
+use Rattle.oci_bench.specs.declared.references.TextCall.{TextCall}
+use Rattle.oci_bench.specs.declared.references.TextCall.TheVariants as text
+
+-- the call on a document that a word names
+abbrev pub document_call_of : List ℕ → Option DocumentCall
+document_call_of word =
+    if bytes_eq word (codes "floor") then Some document.Floor
+    else (if bytes_eq word (codes "from_slice") then Some document.Read
+    else (if bytes_eq word (codes "to_value") then Some document.Write
+    else (if bytes_eq word (codes "normalize") then Some document.Normalize
+    else None)))
+
+-- the call on a text that a word names
+abbrev pub text_call_of : List ℕ → Option TextCall
+text_call_of word =
+    if bytes_eq word (codes "from_str") then Some text.Read
+    else (if bytes_eq word (codes "parts") then Some text.Parts
+    else (if bytes_eq word (codes "scanner") then Some text.Scanner
+    else None))
+
+-- the first two words name what the task times: the kind, or texts, and the file
+abbrev pub Names : Task → List ℕ → List ℕ → Type 0
+Names (Documents kind path run) first second = (kind_of first ≡ Some kind) × (path.now ≡ second)
+Names (Texts path run) first second = (first ≡ codes "texts") × (path.now ≡ second)
+
+-- so of the first two of all words
+abbrev pub NamesWords : Task → List (List ℕ) → Type 0
+NamesWords task (first ∷ second ∷ others) = Names task first second
+NamesWords task _ = ⊥
