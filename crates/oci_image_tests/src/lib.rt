@@ -1,0 +1,5 @@
+//! Tests of the image documents.
+#![tactic(auto)]
+
+#[cfg(test)]
+mod tests;
