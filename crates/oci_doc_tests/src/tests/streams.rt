@@ -1,92 +1,97 @@
-//! Streams that give and take little at once, and fail where a test asks for it.
+use super::rows::{COMPACT_MANIFEST, MANIFEST};
+use super::{Asked, check_untouched, status};
+use oci_test_streams::{Input, Output};
+use std::alloc::{AllocError, Global};
+use std::io::ErrorKind;
+use std::process::Abort;
+use std::test::Fail;
 
-use std::alloc::Global;
-use std::io;
-use std::io::{ErrorKind, Read, Write};
+const MANIFESTS: Asked<'_> = Asked {
+    command: "norm",
+    word: "manifest",
+};
 
-/// Gives its bytes.
-#[derive(Drop)]
-pub struct Input<'a> {
-    bytes: &'a [u8],
-    /// The most bytes of one read.
-    most: usize,
-    /// The read that fails, from 1; none does at 0.
-    bad_read: u32,
-    pub reads: u32,
+/// The manifest's compact text is asked for, with streams that fail.
+fn check_failing(
+    rt: &impl Abort,
+    alloc: Global,
+    input: Input<'_>,
+    mut output: Output,
+    written: &str,
+) -> Result<(), AllocError> {
+    let mut errors = Output::new(alloc);
+    let answer = status(MANIFESTS, alloc, input, &mut output, &mut errors)?;
+    assert_eq!(rt; answer, 1, "{written}");
+    assert_eq!(rt; output.taken(), written.as_bytes());
+    assert_eq!(rt; errors.taken(), "refused: Io\n".as_bytes());
+    Ok(())
 }
 
-impl<'a> Input<'a> {
-    pub fn new(text: &'a str) -> Input<'a> {
-        Input::failing(text, usize::MAX, 0)
+/// A read that fails: nothing is written.
+#[test]
+fn failing_readers(rt: HostRuntime) -> Result<(), Fail> {
+    let alloc = rt.alloc();
+    for (most, read, fault) in [
+        (100, 3, ErrorKind::BrokenPipe),
+        (100, 3, ErrorKind::Interrupted),
+        (usize::MAX, 1, ErrorKind::Interrupted),
+        (usize::MAX, 2, ErrorKind::Other),
+    ] {
+        let input = Input::new(MANIFEST.as_bytes())
+            .at_most(most)
+            .failing(read, fault);
+        check_failing(&rt, alloc, input, Output::new(alloc), "")?;
     }
-
-    pub fn failing(text: &'a str, most: usize, bad_read: u32) -> Input<'a> {
-        Input {
-            bytes: text.as_bytes(),
-            most,
-            bad_read,
-            reads: 0,
-        }
-    }
+    Ok(())
 }
 
-impl Read for Input<'_> {
-    fn read(&mut self, buf: &mut [u8]) -> io::Result<usize> {
-        self.reads = self.reads.saturating_add(1);
-        if self.reads == self.bad_read {
-            return Err(io::Error::from(ErrorKind::Interrupted));
-        }
-        let count = buf.len().min(self.bytes.len()).min(self.most);
-        buf[..count].copy_from_slice(&self.bytes[..count]);
-        self.bytes = &self.bytes[count..];
-        Ok(count)
+/// A write that fails, or takes no byte: a beginning of the text is written.
+#[test]
+fn failing_writers(rt: HostRuntime) -> Result<(), Fail> {
+    let alloc = rt.alloc();
+    for (most, write, fault, written) in [
+        (10, 3, ErrorKind::BrokenPipe, "{\"config\":{\"digest\":"),
+        (10, 3, ErrorKind::Interrupted, "{\"config\":{\"digest\":"),
+        (usize::MAX, 1, ErrorKind::StorageFull, ""),
+        (0, 0, ErrorKind::Other, ""),
+    ] {
+        let input = Input::new(MANIFEST.as_bytes());
+        let output = Output::new(alloc).at_most(most).failing(write, fault);
+        check_failing(&rt, alloc, input, output, written)?;
     }
+    Ok(())
 }
 
-/// Keeps what it takes.
-#[derive(Drop)]
-pub struct Output {
-    pub taken: Vec<u8>,
-    /// The most bytes of one write.
-    most: usize,
-    /// The write that fails, from 1; none does at 0.
-    bad_write: u32,
-    bad_flush: bool,
-    writes: u32,
+/// A flush that fails: the whole text is written.
+#[test]
+fn failing_flushes(rt: HostRuntime) -> Result<(), Fail> {
+    let alloc = rt.alloc();
+    for fault in [ErrorKind::BrokenPipe, ErrorKind::Interrupted] {
+        let input = Input::new(MANIFEST.as_bytes());
+        let output = Output::new(alloc).at_most(10).failing_flush(fault);
+        check_failing(&rt, alloc, input, output, COMPACT_MANIFEST)?;
+    }
+    Ok(())
 }
 
-impl Output {
-    pub fn new(alloc: Global) -> Output {
-        Output::failing(alloc, usize::MAX, 0, false)
+/// A writer of errors that fails changes neither the status nor the output.
+#[test]
+fn failing_errors(rt: HostRuntime) -> Result<(), Fail> {
+    let alloc = rt.alloc();
+    for (command, word, expected) in [
+        ("norm", "manifest", 1),
+        ("digest", "blah+", 1),
+        ("other", "words", 2),
+    ] {
+        let mut output = Output::new(alloc);
+        let mut errors = Output::new(alloc)
+            .at_most(3)
+            .failing(2, ErrorKind::BrokenPipe);
+        let asked = Asked { command, word };
+        let answer = status(asked, alloc, Input::new(b""), &mut output, &mut errors)?;
+        assert_eq!(rt; answer, expected, "{command} {word}");
+        check_untouched(&rt, &output, word);
+        assert_eq!(rt; errors.taken().len(), 3, "{command} {word}");
     }
-
-    pub fn failing(alloc: Global, most: usize, bad_write: u32, bad_flush: bool) -> Output {
-        Output {
-            taken: Vec::new(alloc),
-            most,
-            bad_write,
-            bad_flush,
-            writes: 0,
-        }
-    }
-}
-
-impl Write for Output {
-    fn write(&mut self, buf: &[u8]) -> io::Result<usize> {
-        self.writes = self.writes.saturating_add(1);
-        if self.writes == self.bad_write {
-            return Err(io::Error::from(ErrorKind::BrokenPipe));
-        }
-        let count = buf.len().min(self.most);
-        self.taken.extend_from_slice(&buf[..count])?;
-        Ok(count)
-    }
-
-    fn flush(&mut self) -> io::Result<()> {
-        if self.bad_flush {
-            Err(io::Error::from(ErrorKind::BrokenPipe))
-        } else {
-            Ok(())
-        }
-    }
+    Ok(())
 }
