@@ -1,11 +1,14 @@
 //! From bytes to bytes.
-ghost use Rattle.std.specs.Prelude.{◌⊎◌, IfErr, IfSome, OnOk};
+ghost use Rattle.std.specs.Prelude.{◌≡◌, ◌⊎◌, IfOk, IfErr, IfSome, OnOk, string_bytes};
 ghost use Rattle.std.specs.Io.KnownBytes.{Appends, Keeps};
-ghost use Rattle.oci_text_base.specs.Refused.{IsSchema, IsJson, IsMemorySerDeOrIo, IsIo};
-ghost use Rattle.oci_json_engines.specs.Engines.{AppendsSome, WritesDocument, ReadsBackDocument, IsNotNormalized, IsNoJson};
+ghost use Rattle.serde_json.specs.Written.{compact_text};
+ghost use Rattle.oci_text_base.specs.Refused.{IsSchema, IsJson, IsMemoryOrSchema, IsMemorySerDeOrIo, IsIo};
+ghost use Rattle.oci_json_schema.specs.Value.{value as json_of};
+ghost use Rattle.oci_json_schema.specs.Writable.{Writable};
+ghost use Rattle.oci_json_engines.specs.Engines.{AppendsSome, WritesDocument, ReadsBack, ReadsBackDocument, IsNotNormalized, IsNoJson};
 
 use crate::reading::from_reader;
-use crate::writing::to_writer;
+use crate::writing::write_text;
 use oci_json_schema::OciRecord;
 use oci_text_base::Result;
 use std::alloc::Global;
@@ -29,5 +32,21 @@ pub fn normalize<T: OciRecord, R: Read + Drop, W: Write>(
     ensures kind { IfErr result IsMemorySerDeOrIo }
 {
     let document: T = from_reader(alloc, reader)?;
-    to_writer(&document, alloc, writer)
+    let text = text_of(document, alloc)?;
+    write_text(text.as_bytes(), writer)?;
+    Ok(())
+}
+
+/// The compact text of a document, which is let go of before the text is made; refused as by `to_string`.
+#[tactic(auto, using(crate::proofs::Texts::none_in, crate::proofs::Texts::read_back))]
+fn text_of<T: OciRecord>(document: T, alloc: Global) -> Result<String>
+    ensures ok { IfOk result (λ s. string_bytes s ≡ compact_text (json_of T.shape (T.plain document))) }
+    ensures reads_back { OnOk result (ReadsBack (json_of T.shape (T.plain document))) }
+    ensures writable { OnOk result (Writable T.shape (T.plain document)) }
+    ensures err { IfErr result (λ e. IsSchema e → ¬ Writable T.shape (T.plain document)) }
+    ensures kind { IfErr result IsMemoryOrSchema }
+{
+    let value = document.to_value(alloc)?;
+    drop(document);
+    Ok(value.to_string(alloc)?)
 }

@@ -1,7 +1,8 @@
 //! From bytes to documents.
 ghost use Rattle.std.specs.Prelude.{◌≡◌, IfOk, IfErr, IfSome};
 ghost use Rattle.oci_text_base.specs.Refused.{IsSchema, IsJson, IsMemoryOrSerDe, IsMemorySerDeOrIo, IsMemoryOrIo};
-ghost use Rattle.oci_json_engines.specs.Engines.{MeansBytes, IsNoJson, IsNoDocument};
+ghost use Rattle.serde_json.specs.View.{view};
+ghost use Rattle.oci_json_engines.specs.Engines.{ReadsAs, MeansBytes, IsNoJson, IsNoDocument};
 
 use oci_json_schema::OciRecord;
 use oci_text_base::{OciSpecError, Result, SerDeError};
@@ -17,8 +18,19 @@ pub fn from_slice<T: OciRecord>(alloc: Global, bytes: &[u8]) -> Result<T>
     ensures schema { IfErr result (λ e. IsSchema e → IsNoDocument T.shape bytes.now) }
     ensures kind { IfErr result IsMemoryOrSerDe }
 {
+    let value = value_of(alloc, bytes)?;
+    T::from_value_owned(alloc, value)
+}
+
+/// The value of a JSON text; `SerDe(Json)` where it is none.
+fn value_of(alloc: Global, bytes: &[u8]) -> Result<Value>
+    ensures ok { IfOk result (λ v. ReadsAs bytes.now (view v)) }
+    ensures json { IfErr result (λ e. IsJson e → IsNoJson bytes.now) }
+    ensures no_schema { IfErr result (λ e. ¬ IsSchema e) }
+    ensures kind { IfErr result IsMemoryOrSerDe }
+{
     match Value::from_slice(alloc, bytes) {
-        Ok(value) => T::from_value_owned(alloc, value),
+        Ok(value) => Ok(value),
         Err(fault) => {
             if fault.is_memory() {
                 Err(OciSpecError::Memory)
@@ -54,5 +66,7 @@ pub fn from_reader<T: OciRecord, R: Read + Drop>(alloc: Global, mut reader: R) -
     ensures kind { IfErr result IsMemorySerDeOrIo }
 {
     let bytes = read_all(alloc, &mut reader)?;
-    from_slice(alloc, bytes.as_slice())
+    let value = value_of(alloc, bytes.as_slice())?;
+    drop(bytes);
+    T::from_value_owned(alloc, value)
 }

@@ -18,11 +18,11 @@ impl<T: OciMember> OciMember for Vec<T> {
     fn read(alloc: Global, value: &Value) -> Result<Vec<T>> {
         match value.as_array() {
             Some(items) => {
-                let mut read = Vec::new(alloc);
+                let mut listed = Vec::with_capacity(alloc, items.len())?;
                 for item in items {
-                    read.push(T::read(alloc, item)?)?;
+                    listed.push(T::read(alloc, item)?)?;
                 }
-                Ok(read)
+                Ok(listed)
             }
             None => Err(refused("", "")),
         }
@@ -31,18 +31,18 @@ impl<T: OciMember> OciMember for Vec<T> {
     fn read_owned(alloc: Global, value: Value) -> Result<Vec<T>> {
         match into_items(value) {
             Some(items) => {
-                let mut read = Vec::new(alloc);
+                let mut listed = Vec::with_capacity(alloc, items.len())?;
                 for item in items {
-                    read.push(T::read_owned(alloc, item)?)?;
+                    listed.push(T::read_owned(alloc, item)?)?;
                 }
-                Ok(read)
+                Ok(listed)
             }
             None => Err(refused("", "")),
         }
     }
 
     fn write(&self, alloc: Global) -> Result<Value> {
-        let mut written = Vec::new(alloc);
+        let mut written = Vec::with_capacity(alloc, self.len())?;
         for item in self {
             written.push(item.write(alloc)?)?;
         }
@@ -50,7 +50,7 @@ impl<T: OciMember> OciMember for Vec<T> {
     }
 
     fn copy(&self, alloc: Global) -> Result<Vec<T>> {
-        let mut copies = Vec::new(alloc);
+        let mut copies = Vec::with_capacity(alloc, self.len())?;
         for item in self {
             copies.push(item.copy(alloc)?)?;
         }

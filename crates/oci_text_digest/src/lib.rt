@@ -6,8 +6,6 @@ pub mod digest_algorithm;
 mod fault;
 pub mod laws;
 pub mod sha256_digest;
-#[cfg(test)]
-mod tests;
 
 pub use digest::{Digest, is_digest};
 pub use digest_algorithm::DigestAlgorithm;

@@ -8,8 +8,6 @@ pub mod json_name;
 pub mod laws;
 pub mod media_type;
 pub mod os;
-#[cfg(test)]
-mod tests;
 
 pub use arch::Arch;
 pub use error_code::ErrorCode;

@@ -5,4 +5,4 @@ use Rattle.oci_json_schema.specs.Plain.{plains}
 use Rattle.oci_json_schema.proofs.list.VecOciMember.read.Given as goal
 
 abbrev pub invariant-loop-item : goal.invariant-loop-item
-invariant-loop-item g l = EachMeans (Means g.T.OciMember.shape) (items_view (take l.item-index l.item-items)) (plains (map g.T.OciMember.plain l.read.items))
+invariant-loop-item g l = EachMeans (Means g.T.OciMember.shape) (items_view (take l.item-index l.item-items)) (plains (map g.T.OciMember.plain l.listed.items))

@@ -9,4 +9,4 @@ use Rattle.oci_json_schema.proofs.list.VecOciMember.read_owned.Given as goal
 abbrev pub invariant-loop-item : goal.invariant-loop-item
 invariant-loop-item g l =
     (done : List Value) × (into_iter_items l.initial.item-iterator ≡ done ++ into_iter_items l.item-iterator)
-    × EachMeans (Means g.T.OciMember.shape) (items_view done) (plains (map g.T.OciMember.plain l.read.items))
+    × EachMeans (Means g.T.OciMember.shape) (items_view done) (plains (map g.T.OciMember.plain l.listed.items))

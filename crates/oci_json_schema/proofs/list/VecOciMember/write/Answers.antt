@@ -11,7 +11,7 @@ use Rattle.oci_json_schema.proofs.list.VecOciMember.write.Goals as goal
 
 pub returns-in_err-write-clause-err : goal.returns-in_err-write-clause-err
 returns-in_err-write-clause-err g c =
-    exits _ _ _ c.from_residual.ensures.1 (λ h all.
+    exits _ _ _ c.from_residual-in_err-write.ensures.1 (λ h all.
     let e = c.deref-item-items.ensures.value in
     some_lacks (Writable g.T.OciMember.shape) g.T.OciMember.plain c.args.self.now.items c.loop-item.item-index c.item-item.result
     (subst (λ xs. c.loop-item.item-index < length xs) e c.loop-item-test.true)

@@ -1,6 +1,7 @@
-use crate::*;
 use oci_json_schema::OciMember;
-use oci_text_base::{OciSpecError, SerDeError, UnknownName};
+use oci_text::{
+    Arch, ErrorCode, JsonName, MediaType, OciSpecError, Os, SerDeError, ToDockerV2S2, UnknownName,
+};
 use serde_json::Value;
 use std::alloc::Global;
 use std::process::Abort;

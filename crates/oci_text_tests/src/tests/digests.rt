@@ -1,6 +1,8 @@
-use crate::*;
 use oci_json_schema::OciMember;
-use oci_text_base::{OciSpecError, SchemaFault, SerDeError, UninitializedFieldError};
+use oci_text::{
+    Digest, DigestAlgorithm, OciSpecError, SchemaFault, SerDeError, Sha256Digest,
+    UninitializedFieldError, is_digest,
+};
 use serde_json::Value;
 use std::alloc::{AllocError, Global};
 use std::io;
