@@ -3,9 +3,9 @@
 
 pub mod versions;
 
-pub use oci_image_config::{
-    Config, ConfigBuilder, History, HistoryBuilder, ImageConfiguration, ImageConfigurationBuilder,
-    RootFs, RootFsBuilder, annotations,
+pub use oci_image_config::{ImageConfiguration, ImageConfigurationBuilder, annotations};
+pub use oci_image_config_parts::{
+    Config, ConfigBuilder, History, HistoryBuilder, RootFs, RootFsBuilder,
 };
 pub use oci_image_descriptor::{Descriptor, DescriptorBuilder, Platform, PlatformBuilder};
 pub use oci_image_index::{ImageIndex, ImageIndexBuilder, OciLayout, OciLayoutBuilder};

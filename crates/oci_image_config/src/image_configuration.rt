@@ -4,10 +4,8 @@ ghost use Rattle.std.specs.Prelude.{◌≡◌, IfOk, IfErr};
 pub mod builder;
 
 use crate::annotations::{ANNOTATION_VERSION, LABEL_VERSION};
-use crate::config::Config;
-use crate::history::History;
-use crate::root_fs::RootFs;
 pub use builder::ImageConfigurationBuilder;
+use oci_image_config_parts::{Config, History, RootFs};
 use oci_json_schema::{
     OciMember, OciRecord, copy_optional, fault, optional, optional_owned, required, required_owned,
     taken, write_optional, write_required,
@@ -374,9 +372,9 @@ impl OciRecord for ImageConfiguration {
     ghost use Rattle.oci_text_names.specs.Os.{os_name};
     ghost use Rattle.oci_json_schema.specs.Same.{same_document, same_more, same_last, same_given, same_perhaps, same_texts, same_lists, same_named};
     ghost use Rattle.oci_image_config.specs.ImageConfiguration.{image_configuration, image_configuration_plain};
-    ghost use Rattle.oci_image_config.specs.contracts.config.ConfigOciRecord.TheImpl.Laws.{same-law as config_same};
-    ghost use Rattle.oci_image_config.specs.contracts.root_fs.RootFsOciRecord.TheImpl.Laws.{same-law as root_fs_same};
-    ghost use Rattle.oci_image_config.specs.contracts.history.HistoryOciRecord.TheImpl.Laws.{same-law as history_same};
+    ghost use Rattle.oci_image_config_parts.specs.contracts.config.ConfigOciRecord.TheImpl.Laws.{same-law as config_same};
+    ghost use Rattle.oci_image_config_parts.specs.contracts.root_fs.RootFsOciRecord.TheImpl.Laws.{same-law as root_fs_same};
+    ghost use Rattle.oci_image_config_parts.specs.contracts.history.HistoryOciRecord.TheImpl.Laws.{same-law as history_same};
 
     ghost shape = { image_configuration };
 

@@ -2,12 +2,6 @@
 #![tactic(auto)]
 
 pub mod annotations;
-pub mod config;
-pub mod history;
 pub mod image_configuration;
-pub mod root_fs;
 
-pub use config::{Config, ConfigBuilder};
-pub use history::{History, HistoryBuilder};
 pub use image_configuration::{ImageConfiguration, ImageConfigurationBuilder};
-pub use root_fs::{RootFs, RootFsBuilder};

@@ -1,3 +1,5 @@
+use oci_test_records::samples;
+
 mod artifact_manifest;
 mod config;
 mod constants;
@@ -10,4 +12,3 @@ mod oci_layout;
 mod platform;
 mod reading;
 mod root_fs;
-mod samples;

@@ -1,10 +1,8 @@
 //! The builder of image configurations.
 ghost use Rattle.std.specs.Prelude.{◌≡◌, IfOk, IfErr};
 
-use crate::config::Config;
-use crate::history::History;
 use crate::image_configuration::ImageConfiguration;
-use crate::root_fs::RootFs;
+use oci_image_config_parts::{Config, History, RootFs};
 use oci_text_base::{OciSpecError, Result};
 use oci_text_names::{Arch, Os};
 use std::alloc::Global;
@@ -30,7 +28,7 @@ impl ImageConfigurationBuilder {
     ghost use Rattle.oci_text_names.specs.Os.{os_name};
     ghost use Rattle.oci_json_schema.specs.Plain as plain;
     ghost use Rattle.oci_json_schema.specs.Types.{name_plain};
-    ghost use Rattle.oci_image_config.specs.RootFs.{root_fs_plain, default_root_fs};
+    ghost use Rattle.oci_image_config_parts.specs.RootFs.{root_fs_plain, default_root_fs};
 
     /// When the image was made, as an RFC 3339 date and time.
     pub fn created(self, created: String) -> Self

@@ -1,0 +1,82 @@
+use super::{check, check_equal, check_made, check_unequal, field_of, read, string};
+use oci_image::{OciLayout, OciLayoutBuilder};
+use oci_json_engines::to_string;
+use oci_text_base::Result;
+use std::alloc::Global;
+use std::test::Fail;
+
+/// All members.
+const WHOLE: &str = r#"{"imageLayoutVersion":"1.0.0"}"#;
+
+/// The same with its member changed.
+const CHANGED: [&str; 1] = [r#"{"imageLayoutVersion":"2"}"#];
+
+/// The document of all members.
+fn whole(alloc: Global) -> Result<OciLayout> {
+    read(alloc, WHOLE)
+}
+
+fn with_image_layout_version(alloc: Global) -> Result<String> {
+    let image_layout_version = string(alloc, "2")?;
+    let mut document = whole(alloc)?;
+    to_string(
+        document.set_image_layout_version(image_layout_version),
+        alloc,
+    )
+}
+
+/// A setter changes its member alone, and answers the document.
+#[test]
+fn setters(rt: HostRuntime) {
+    let alloc = rt.alloc();
+    check(&rt, with_image_layout_version(alloc), CHANGED[0]);
+}
+
+/// Documents of other texts are unequal.
+#[test]
+fn equality(rt: HostRuntime) {
+    check_unequal::<OciLayout>(&rt, rt.alloc(), WHOLE, &CHANGED);
+}
+
+/// The getters lend what was read.
+#[test]
+fn getters(rt: HostRuntime) -> std::result::Result<(), Fail> {
+    let alloc = rt.alloc();
+    let document = whole(alloc)?;
+    assert_eq!(rt; document.image_layout_version().as_str(), "1.0.0");
+    Ok(())
+}
+
+fn copied(alloc: Global) -> Result<OciLayout> {
+    let document = whole(alloc)?;
+    document.clone(alloc)
+}
+
+/// A clone is an equal document.
+#[test]
+fn clones(rt: HostRuntime) {
+    let alloc = rt.alloc();
+    check_equal(&rt, whole(alloc), copied(alloc), "clone");
+    check_made(&rt, alloc, copied(alloc), WHOLE);
+}
+
+/// What a builder makes of all members.
+fn built(alloc: Global) -> Result<OciLayout> {
+    let version = string(alloc, "1.0.0")?;
+    OciLayoutBuilder::default()
+        .image_layout_version(version)
+        .build(alloc)
+}
+
+/// What is set is in the document.
+#[test]
+fn builders(rt: HostRuntime) {
+    check_made(&rt, rt.alloc(), built(rt.alloc()), WHOLE);
+}
+
+/// The version has to be set.
+#[test]
+fn unset(rt: HostRuntime) {
+    let built = OciLayoutBuilder::default().build(rt.alloc());
+    assert_eq!(rt; field_of(built), "image_layout_version");
+}

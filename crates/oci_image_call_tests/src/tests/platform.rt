@@ -1,0 +1,168 @@
+use super::{
+    check, check_equal, check_made, check_unequal, field_of, read, shown, string, strings,
+};
+use oci_image::{Arch, Os, Platform, PlatformBuilder};
+use oci_json_engines::to_string;
+use oci_text_base::Result;
+use std::alloc::Global;
+use std::test::Fail;
+
+/// All members.
+const WHOLE: &str =
+    r#"{"architecture":"arm","features":["f"],"os":"windows","os.features":["win32k"],"os.version":"10.0","variant":"v7"}"#;
+
+/// The same with one member changed, in the order of the setters below.
+const CHANGED: [&str; 6] = [
+    r#"{"architecture":"amd64","features":["f"],"os":"windows","os.features":["win32k"],"os.version":"10.0","variant":"v7"}"#,
+    r#"{"architecture":"arm","features":["f"],"os":"linux","os.features":["win32k"],"os.version":"10.0","variant":"v7"}"#,
+    r#"{"architecture":"arm","features":["f"],"os":"windows","os.features":["win32k"],"variant":"v7"}"#,
+    r#"{"architecture":"arm","features":["f"],"os":"windows","os.features":["a","b"],"os.version":"10.0","variant":"v7"}"#,
+    r#"{"architecture":"arm","features":["f"],"os":"windows","os.features":["win32k"],"os.version":"10.0","variant":"v8"}"#,
+    r#"{"architecture":"arm","features":[],"os":"windows","os.features":["win32k"],"os.version":"10.0","variant":"v7"}"#,
+];
+
+/// The document of all members.
+fn whole(alloc: Global) -> Result<Platform> {
+    read(alloc, WHOLE)
+}
+
+fn with_architecture(alloc: Global) -> Result<String> {
+    let mut document = whole(alloc)?;
+    to_string(document.set_architecture(Arch::Amd64), alloc)
+}
+
+fn with_os(alloc: Global) -> Result<String> {
+    let mut document = whole(alloc)?;
+    to_string(document.set_os(Os::Linux), alloc)
+}
+
+fn with_os_version(alloc: Global) -> Result<String> {
+    let mut document = whole(alloc)?;
+    to_string(document.set_os_version(None), alloc)
+}
+
+fn with_os_features(alloc: Global) -> Result<String> {
+    let os_features = strings(alloc, &["a", "b"])?;
+    let mut document = whole(alloc)?;
+    to_string(document.set_os_features(Some(os_features)), alloc)
+}
+
+fn with_variant(alloc: Global) -> Result<String> {
+    let variant = string(alloc, "v8")?;
+    let mut document = whole(alloc)?;
+    to_string(document.set_variant(Some(variant)), alloc)
+}
+
+fn with_features(alloc: Global) -> Result<String> {
+    let mut document = whole(alloc)?;
+    to_string(document.set_features(Some(Vec::new(alloc))), alloc)
+}
+
+/// A setter changes its member alone, and answers the document.
+#[test]
+fn setters(rt: HostRuntime) {
+    let alloc = rt.alloc();
+    check(&rt, with_architecture(alloc), CHANGED[0]);
+    check(&rt, with_os(alloc), CHANGED[1]);
+    check(&rt, with_os_version(alloc), CHANGED[2]);
+    check(&rt, with_os_features(alloc), CHANGED[3]);
+    check(&rt, with_variant(alloc), CHANGED[4]);
+    check(&rt, with_features(alloc), CHANGED[5]);
+}
+
+/// Documents that differ in one member are unequal.
+#[test]
+fn equality(rt: HostRuntime) {
+    check_unequal::<Platform>(&rt, rt.alloc(), WHOLE, &CHANGED);
+}
+
+/// The getters lend what was read.
+#[test]
+fn getters(rt: HostRuntime) -> std::result::Result<(), Fail> {
+    let alloc = rt.alloc();
+    let document = whole(alloc)?;
+    assert_eq!(rt; document.architecture(), &Arch::ARM);
+    assert_eq!(rt; document.os(), &Os::Windows);
+    check(&rt, shown(alloc, document.os_version()), r#"Some("10.0")"#);
+    check(
+        &rt,
+        shown(alloc, document.os_features()),
+        r#"Some(["win32k"])"#,
+    );
+    check(&rt, shown(alloc, document.variant()), r#"Some("v7")"#);
+    check(&rt, shown(alloc, document.features()), r#"Some(["f"])"#);
+    Ok(())
+}
+
+fn copied(alloc: Global) -> Result<Platform> {
+    let document = whole(alloc)?;
+    document.clone(alloc)
+}
+
+/// A clone is an equal document.
+#[test]
+fn clones(rt: HostRuntime) {
+    let alloc = rt.alloc();
+    check_equal(&rt, whole(alloc), copied(alloc), "clone");
+    check_made(&rt, alloc, copied(alloc), WHOLE);
+}
+
+/// What a builder makes of all members.
+fn built(alloc: Global) -> Result<Platform> {
+    let os_version = string(alloc, "10.0")?;
+    let os_features = strings(alloc, &["win32k"])?;
+    let variant = string(alloc, "v7")?;
+    let features = strings(alloc, &["f"])?;
+    PlatformBuilder::default()
+        .architecture(Arch::ARM)
+        .os(Os::Windows)
+        .os_version(os_version)
+        .os_features(os_features)
+        .variant(variant)
+        .features(features)
+        .build(alloc)
+}
+
+/// What is set is in the document.
+#[test]
+fn builders(rt: HostRuntime) {
+    check_made(&rt, rt.alloc(), built(rt.alloc()), WHOLE);
+}
+
+/// The first member that has to be set and is not is named; the others may be absent.
+#[test]
+fn unset(rt: HostRuntime) {
+    let alloc = rt.alloc();
+    assert_eq!(rt;
+        field_of(PlatformBuilder::default().build(alloc)),
+        "architecture"
+    );
+    assert_eq!(rt;
+        field_of(PlatformBuilder::default().os(Os::Linux).build(alloc)),
+        "architecture"
+    );
+    assert_eq!(rt;
+        field_of(
+            PlatformBuilder::default()
+                .architecture(Arch::Wasm)
+                .build(alloc)
+        ),
+        "os"
+    );
+    let built = PlatformBuilder::default()
+        .architecture(Arch::Wasm)
+        .os(Os::Js)
+        .build(alloc);
+    check_made(&rt, alloc, built, r#"{"architecture":"wasm","os":"js"}"#);
+}
+
+/// The default document.
+#[test]
+fn defaults(rt: HostRuntime) {
+    check_made(
+        &rt,
+        rt.alloc(),
+        Platform::try_default(rt.alloc()),
+        r#"{"architecture":"amd64","os":"linux"}"#,
+    );
+}

@@ -1,0 +1,93 @@
+use super::samples::{LAYOUT, LAYOUT_FILE, LAYOUT_PRETTY};
+use super::{check, check_equal, check_file};
+use oci_image::{OciLayout, OciLayoutBuilder};
+use oci_test_streams::{Input, Output};
+use oci_text_base::Result;
+use std::alloc::Global;
+use std::fs;
+use std::rt::Files;
+
+/// The document that is built.
+fn made(alloc: Global) -> Result<OciLayout> {
+    OciLayoutBuilder::default()
+        .image_layout_version(String::from_str(alloc, "lorem ipsum")?)
+        .build(alloc)
+}
+
+/// What a reader gives is the document that is built.
+#[test]
+fn from_readers(rt: HostRuntime) {
+    let read = OciLayout::from_reader(rt.alloc(), Input::new(LAYOUT_FILE.as_bytes()));
+    check_equal(&rt, read, made(rt.alloc()), "reader");
+}
+
+/// What stands in a file is the document that is built.
+#[test]
+fn from_files(rt: HostRuntime) {
+    let path = "oci_layout_read.json";
+    assert!(rt; fs::write(&rt, path, LAYOUT_FILE).is_ok());
+    let read = OciLayout::from_file(&rt, rt.alloc(), path);
+    check_equal(&rt, read, made(rt.alloc()), "file");
+    assert!(rt; fs::remove_file(&rt, path).is_ok());
+}
+
+fn to_file(rt: &impl Files, alloc: Global, path: &str) -> Result<()> {
+    let document = made(alloc)?;
+    document.to_file(rt, alloc, path)
+}
+
+fn to_file_pretty(rt: &impl Files, alloc: Global, path: &str) -> Result<()> {
+    let document = made(alloc)?;
+    document.to_file_pretty(rt, alloc, path)
+}
+
+/// A file is the compact or the pretty text.
+#[test]
+fn to_files(rt: HostRuntime) {
+    let path = "oci_layout_written.json";
+    check_file(&rt, to_file(&rt, rt.alloc(), path), path, LAYOUT);
+    check_file(
+        &rt,
+        to_file_pretty(&rt, rt.alloc(), path),
+        path,
+        LAYOUT_PRETTY,
+    );
+}
+
+fn to_writer(alloc: Global, output: &mut Output) -> Result<()> {
+    let document = made(alloc)?;
+    document.to_writer(alloc, output)
+}
+
+fn to_writer_pretty(alloc: Global, output: &mut Output) -> Result<()> {
+    let document = made(alloc)?;
+    document.to_writer_pretty(alloc, output)
+}
+
+/// A writer takes the compact or the pretty text.
+#[test]
+fn to_writers(rt: HostRuntime) {
+    let mut output = Output::new(rt.alloc());
+    assert!(rt; to_writer(rt.alloc(), &mut output).is_ok());
+    assert_eq!(rt; output.taken(), LAYOUT.as_bytes());
+    let mut output = Output::new(rt.alloc());
+    assert!(rt; to_writer_pretty(rt.alloc(), &mut output).is_ok());
+    assert_eq!(rt; output.taken(), LAYOUT_PRETTY.as_bytes());
+}
+
+fn compact(alloc: Global) -> Result<String> {
+    let document = made(alloc)?;
+    document.to_string(alloc)
+}
+
+fn pretty(alloc: Global) -> Result<String> {
+    let document = made(alloc)?;
+    document.to_string_pretty(alloc)
+}
+
+/// The compact and the pretty text.
+#[test]
+fn texts(rt: HostRuntime) {
+    check(&rt, compact(rt.alloc()), LAYOUT);
+    check(&rt, pretty(rt.alloc()), LAYOUT_PRETTY);
+}
