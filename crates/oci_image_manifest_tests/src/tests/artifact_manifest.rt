@@ -97,15 +97,22 @@ fn clones(rt: HostRuntime) {
     check_made(&rt, alloc, copied(alloc), WHOLE);
 }
 
-/// What a builder makes of all members.
-fn built(alloc: Global) -> Result<ArtifactManifest> {
+/// The first half of the members.
+fn begun(alloc: Global) -> Result<ArtifactManifestBuilder> {
     let artifact_type = MediaType::from_text(alloc, "t")?;
     let blobs = single(alloc, content(alloc, "b:1"))?;
+    Ok(
+        ArtifactManifestBuilder::default()
+            .artifact_type(artifact_type)
+            .blobs(blobs),
+    )
+}
+
+/// What a builder makes of all members.
+fn built(alloc: Global) -> Result<ArtifactManifest> {
     let subject = content(alloc, "s:1")?;
     let annotations = map(alloc, "a", "1")?;
-    ArtifactManifestBuilder::default()
-        .artifact_type(artifact_type)
-        .blobs(blobs)
+    begun(alloc)?
         .subject(subject)
         .annotations(annotations)
         .build(alloc)

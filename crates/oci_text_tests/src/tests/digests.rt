@@ -30,6 +30,52 @@ fn repeated(
     Ok(text)
 }
 
+/// The parts of a digest, and its text.
+fn check_parts(
+    rt: &impl Abort,
+    alloc: Global,
+    digest: &Digest,
+    text: &str,
+    algorithm: &str,
+    encoded: &str,
+) -> std::result::Result<(), Fail> {
+    let named = DigestAlgorithm::from_text(alloc, algorithm)?;
+    assert!(rt; *digest.algorithm() == named, "{text}");
+    assert_eq!(rt; digest.algorithm().as_ref(), algorithm);
+    assert_eq!(rt; digest.digest(), encoded);
+    assert_eq!(rt; digest.as_ref(), text);
+    Ok(())
+}
+
+/// What is displayed, and read again, and what is copied is the same digest.
+fn check_copies(
+    rt: &impl Abort,
+    alloc: Global,
+    digest: &Digest,
+    text: &str,
+) -> std::result::Result<(), Fail> {
+    let shown = digest.to_string(alloc)?;
+    assert_eq!(rt; shown.as_str(), text);
+    assert!(rt; Digest::try_from(shown)? == *digest, "{text}");
+    assert!(rt; digest.clone()? == *digest, "{text}");
+    assert!(rt; digest.copy(alloc)? == *digest, "{text}");
+    Ok(())
+}
+
+/// What is written, and read again in both ways, is the same digest.
+fn check_member(
+    rt: &impl Abort,
+    alloc: Global,
+    digest: &Digest,
+    text: &str,
+) -> std::result::Result<(), Fail> {
+    let value = digest.write(alloc)?;
+    assert_eq!(rt; value.as_str(), Some(text));
+    assert!(rt; Digest::read(alloc, &value)? == *digest, "{text}");
+    assert!(rt; Digest::read_owned(alloc, value)? == *digest, "{text}");
+    Ok(())
+}
+
 fn check_accepted(
     rt: &impl Abort,
     alloc: Global,
@@ -37,27 +83,11 @@ fn check_accepted(
     algorithm: &str,
     encoded: &str,
 ) -> std::result::Result<(), Fail> {
-    let digest = Digest::from_str(alloc, text)?;
-    assert!(rt;
-        *digest.algorithm() == DigestAlgorithm::from_text(alloc, algorithm)?,
-        "{text}"
-    );
-    assert_eq!(rt; digest.algorithm().as_ref(), algorithm);
-    assert_eq!(rt; digest.digest(), encoded);
-    assert_eq!(rt; digest.as_ref(), text);
-    let shown = digest.to_string(alloc)?;
-    assert_eq!(rt; shown.as_str(), text);
     assert!(rt; is_digest(text), "{text}");
-    assert!(rt; Digest::try_from(shown)? == digest, "{text}");
-    assert!(rt; digest.clone()? == digest, "{text}");
-    let value = digest.write(alloc)?;
-    assert_eq!(rt; value.as_str(), Some(text));
-    assert!(rt; Digest::read(alloc, &value)? == digest, "{text}");
-    assert!(rt;
-        digest.copy(alloc)? == Digest::read_owned(alloc, value)?,
-        "{text}"
-    );
-    Ok(())
+    let digest = Digest::from_str(alloc, text)?;
+    check_parts(rt, alloc, &digest, text, algorithm, encoded)?;
+    check_copies(rt, alloc, &digest, text)?;
+    check_member(rt, alloc, &digest, text)
 }
 
 fn check_refused(
@@ -199,6 +229,21 @@ fn sha256_digests(rt: HostRuntime) -> std::result::Result<(), Fail> {
     Ok(())
 }
 
+fn check_algorithm(
+    rt: &impl Abort,
+    alloc: Global,
+    text: &str,
+    digits: Option<u32>,
+) -> std::result::Result<(), Fail> {
+    let algorithm = DigestAlgorithm::from_text(alloc, text)?;
+    assert_eq!(rt; algorithm.as_ref(), text);
+    assert!(rt; algorithm.digest_hexlen() == digits, "{text}");
+    assert!(rt; algorithm.clone(alloc)? == algorithm, "{text}");
+    let shown = algorithm.to_string(alloc)?;
+    assert_eq!(rt; shown.as_str(), text);
+    Ok(())
+}
+
 #[test]
 fn algorithms(rt: HostRuntime) -> std::result::Result<(), Fail> {
     let alloc = rt.alloc();
@@ -211,12 +256,7 @@ fn algorithms(rt: HostRuntime) -> std::result::Result<(), Fail> {
         ("", None),
     ];
     for (text, digits) in cases {
-        let algorithm = DigestAlgorithm::from_text(alloc, text)?;
-        assert_eq!(rt; algorithm.as_ref(), text);
-        assert!(rt; algorithm.digest_hexlen() == digits, "{text}");
-        assert!(rt; algorithm.clone(alloc)? == algorithm, "{text}");
-        let shown = algorithm.to_string(alloc)?;
-        assert_eq!(rt; shown.as_str(), text);
+        check_algorithm(&rt, alloc, text, digits)?;
     }
     let other = DigestAlgorithm::Other(String::from_str(alloc, "sha256")?);
     assert!(rt; other != DigestAlgorithm::Sha256);
