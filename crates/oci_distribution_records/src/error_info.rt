@@ -14,11 +14,21 @@ use std::alloc::Global;
 const NAME: &str = "ErrorInfo";
 
 /// One error of a registry's reply (distribution specification, "Error Codes").
-#[derive(Debug, PartialEq, Eq, Drop)]
+#[derive(Debug, PartialEq, Eq)]
 pub struct ErrorInfo {
     code: ErrorCode,
     message: Option<String>,
     detail: Option<String>,
+}
+
+impl Drop for ErrorInfo {
+    fn drop(self) {
+        let ErrorInfo {
+            code,
+            message,
+            detail,
+        } = self;
+    }
 }
 
 impl ErrorInfo {

@@ -17,9 +17,15 @@ const NAME: &str = "ErrorResponse";
 pub const ERR_REGISTRY: &str = "distribution: registry returned error";
 
 /// A registry's reply to a request that failed (distribution specification, "Error Codes").
-#[derive(Debug, PartialEq, Eq, Drop)]
+#[derive(Debug, PartialEq, Eq)]
 pub struct ErrorResponse {
     errors: Vec<ErrorInfo>,
+}
+
+impl Drop for ErrorResponse {
+    fn drop(self) {
+        let ErrorResponse { errors } = self;
+    }
 }
 
 impl fmt::Display for ErrorResponse {

@@ -11,9 +11,15 @@ use std::alloc::Global;
 const NAME: &str = "RepositoryList";
 
 /// The repositories of a registry (distribution specification, "Listing Repositories").
-#[derive(Debug, PartialEq, Eq, Drop)]
+#[derive(Debug, PartialEq, Eq)]
 pub struct RepositoryList {
     repositories: Vec<String>,
+}
+
+impl Drop for RepositoryList {
+    fn drop(self) {
+        let RepositoryList { repositories } = self;
+    }
 }
 
 impl RepositoryList {

@@ -11,10 +11,16 @@ use std::alloc::Global;
 const NAME: &str = "TagList";
 
 /// The tags of a repository (distribution specification, "Listing Tags").
-#[derive(Debug, PartialEq, Eq, Drop)]
+#[derive(Debug, PartialEq, Eq)]
 pub struct TagList {
     name: String,
     tags: Vec<String>,
+}
+
+impl Drop for TagList {
+    fn drop(self) {
+        let TagList { name, tags } = self;
+    }
 }
 
 impl TagList {

@@ -2,8 +2,8 @@
 ghost use Rattle.std.specs.Prelude.{◌≡◌, IfOk, IfErr};
 
 pub mod builder;
+mod labels;
 
-use crate::annotations::{ANNOTATION_VERSION, LABEL_VERSION};
 pub use builder::ImageConfigurationBuilder;
 use oci_image_config_parts::{Config, History, RootFs};
 use oci_json_schema::{
@@ -14,7 +14,6 @@ use oci_text_base::{OciSpecError, Result};
 use oci_text_names::{Arch, Os};
 use serde_json::{Map, Value};
 use std::alloc::Global;
-use std::collections::BTreeMap;
 use std::fmt;
 use std::io::{Read, Write};
 use std::rt::Files;
@@ -22,7 +21,7 @@ use std::rt::Files;
 const NAME: &str = "ImageConfiguration";
 
 /// An image's configuration: its machine, its layers and what a container runs with (image specification, "Image Configuration").
-#[derive(Debug, PartialEq, Eq, Drop)]
+#[derive(Debug, PartialEq, Eq)]
 pub struct ImageConfiguration {
     created: Option<String>,
     author: Option<String>,
@@ -36,6 +35,23 @@ pub struct ImageConfiguration {
     history: Option<Vec<History>>,
 }
 
+impl Drop for ImageConfiguration {
+    fn drop(self) {
+        let ImageConfiguration {
+            created,
+            author,
+            architecture,
+            os,
+            os_version,
+            os_features,
+            variant,
+            config,
+            rootfs,
+            history,
+        } = self;
+    }
+}
+
 impl ImageConfiguration {
     ghost use Rattle.std.specs.Borrow.{sem};
     ghost use Rattle.std.specs.Prelude.{IfSome, OnOk, ℕ, List, string_bytes};
@@ -44,9 +60,7 @@ impl ImageConfiguration {
     ghost use Rattle.oci_text_base.specs.Refused.{IsSchema, IsJson, IsIo, IsMemoryOrSchema, IsMemorySerDeOrIo, IsMemorySchemaOrIo};
     ghost use Rattle.oci_json_schema.specs.Value.{value as json_of};
     ghost use Rattle.oci_json_engines.specs.Engines.{MeansBytes, IsNoJson, IsNoDocument, IsPretty, AppendsSome};
-    ghost use Rattle.std.specs.Prelude.{option_map};
-    ghost use Rattle.std.specs.Option.{option_copied};
-    ghost use Rattle.oci_image_config.specs.ImageConfiguration.{labels_of, label_of, version_of, default_image_configuration, image_configuration_plain, image_configuration, lends_rootfs, lends_history};
+    ghost use Rattle.oci_image_config.specs.ImageConfiguration.{default_image_configuration, image_configuration_plain, image_configuration, lends_rootfs, lends_history};
 
     /// An equal document.
     pub fn clone(&self, alloc: Global) -> Result<ImageConfiguration>
@@ -249,39 +263,6 @@ impl ImageConfiguration {
     {
         self.history = history;
         self
-    }
-
-    /// The labels of `config`, where both are there.
-    pub fn labels_of_config(&self) -> Option<&BTreeMap<String, String>>
-        ensures { option_copied result ≡ labels_of self.now }
-    {
-        match &self.config {
-            Some(config) => config.labels().as_ref(),
-            None => None,
-        }
-    }
-
-    /// The label of this key, where there is one.
-    pub fn get_config_annotation(&self, key: &str) -> Option<&str>
-        ensures { option_map (λ t. t.now) result ≡ label_of self.now key.now }
-    {
-        match self.labels_of_config() {
-            Some(labels) => match labels.get(key) {
-                Some(label) => Some(label.as_str()),
-                None => None,
-            },
-            None => None,
-        }
-    }
-
-    /// The version of the packaged software: the label `org.opencontainers.image.version`, else the label `version`.
-    pub fn version(&self) -> Option<&str>
-        ensures { option_map (λ t. t.now) result ≡ version_of self.now }
-    {
-        match self.get_config_annotation(ANNOTATION_VERSION) {
-            Some(version) => Some(version),
-            None => self.get_config_annotation(LABEL_VERSION),
-        }
     }
 
     /// Reads a document of a file, which the runtime opens.

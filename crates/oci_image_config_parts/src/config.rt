@@ -13,7 +13,7 @@ use std::collections::BTreeMap;
 const NAME: &str = "Config";
 
 /// What a container of an image runs with (image specification, "Image Configuration", `config`).
-#[derive(Debug, PartialEq, Eq, Drop)]
+#[derive(Debug, PartialEq, Eq)]
 pub struct Config {
     user: Option<String>,
     exposed_ports: Option<Vec<String>>,
@@ -24,6 +24,22 @@ pub struct Config {
     working_dir: Option<String>,
     labels: Option<BTreeMap<String, String>>,
     stop_signal: Option<String>,
+}
+
+impl Drop for Config {
+    fn drop(self) {
+        let Config {
+            user,
+            exposed_ports,
+            env,
+            entrypoint,
+            cmd,
+            volumes,
+            working_dir,
+            labels,
+            stop_signal,
+        } = self;
+    }
 }
 
 impl Config {

@@ -11,13 +11,25 @@ use std::alloc::Global;
 const NAME: &str = "History";
 
 /// How one layer of an image came about (image specification, "Image Configuration", `history`).
-#[derive(Debug, PartialEq, Eq, Drop)]
+#[derive(Debug, PartialEq, Eq)]
 pub struct History {
     created: Option<String>,
     author: Option<String>,
     created_by: Option<String>,
     comment: Option<String>,
     empty_layer: Option<bool>,
+}
+
+impl Drop for History {
+    fn drop(self) {
+        let History {
+            created,
+            author,
+            created_by,
+            comment,
+            empty_layer,
+        } = self;
+    }
 }
 
 impl History {

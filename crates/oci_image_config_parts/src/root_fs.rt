@@ -11,10 +11,16 @@ use std::alloc::Global;
 const NAME: &str = "RootFs";
 
 /// The layers that make up an image's file system (image specification, "Image Configuration", `rootfs`).
-#[derive(Debug, PartialEq, Eq, Drop)]
+#[derive(Debug, PartialEq, Eq)]
 pub struct RootFs {
     typ: String,
     diff_ids: Vec<String>,
+}
+
+impl Drop for RootFs {
+    fn drop(self) {
+        let RootFs { typ, diff_ids } = self;
+    }
 }
 
 impl RootFs {

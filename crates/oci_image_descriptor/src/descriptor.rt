@@ -16,7 +16,7 @@ use std::collections::BTreeMap;
 const NAME: &str = "Descriptor";
 
 /// What a document points to: its media type, its digest and its size (image specification, "Content Descriptors").
-#[derive(Debug, PartialEq, Eq, Drop)]
+#[derive(Debug, PartialEq, Eq)]
 pub struct Descriptor {
     media_type: MediaType,
     digest: Digest,
@@ -26,6 +26,21 @@ pub struct Descriptor {
     platform: Option<Platform>,
     artifact_type: Option<MediaType>,
     embedded_data: Option<String>,
+}
+
+impl Drop for Descriptor {
+    fn drop(self) {
+        let Descriptor {
+            media_type,
+            digest,
+            size,
+            urls,
+            annotations,
+            platform,
+            artifact_type,
+            embedded_data,
+        } = self;
+    }
 }
 
 impl Descriptor {

@@ -13,7 +13,7 @@ use std::alloc::Global;
 const NAME: &str = "Platform";
 
 /// The machine that an image is for (image specification, "Image Index", `platform`).
-#[derive(Debug, PartialEq, Eq, Drop)]
+#[derive(Debug, PartialEq, Eq)]
 pub struct Platform {
     architecture: Arch,
     os: Os,
@@ -21,6 +21,19 @@ pub struct Platform {
     os_features: Option<Vec<String>>,
     variant: Option<String>,
     features: Option<Vec<String>>,
+}
+
+impl Drop for Platform {
+    fn drop(self) {
+        let Platform {
+            architecture,
+            os,
+            os_version,
+            os_features,
+            variant,
+            features,
+        } = self;
+    }
 }
 
 impl Platform {

@@ -18,7 +18,7 @@ use std::rt::Files;
 const NAME: &str = "ImageIndex";
 
 /// Manifests of one image for several machines (image specification, "Image Index").
-#[derive(Debug, PartialEq, Eq, Drop)]
+#[derive(Debug, PartialEq, Eq)]
 pub struct ImageIndex {
     schema_version: u32,
     media_type: Option<MediaType>,
@@ -26,6 +26,19 @@ pub struct ImageIndex {
     manifests: Vec<Descriptor>,
     subject: Option<Descriptor>,
     annotations: Option<BTreeMap<String, String>>,
+}
+
+impl Drop for ImageIndex {
+    fn drop(self) {
+        let ImageIndex {
+            schema_version,
+            media_type,
+            artifact_type,
+            manifests,
+            subject,
+            annotations,
+        } = self;
+    }
 }
 
 impl ImageIndex {

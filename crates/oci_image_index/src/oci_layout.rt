@@ -13,9 +13,17 @@ use std::rt::Files;
 const NAME: &str = "OciLayout";
 
 /// The file `oci-layout` of an image's folder (image specification, "Image Layout", "oci-layout file").
-#[derive(Debug, PartialEq, Eq, Drop)]
+#[derive(Debug, PartialEq, Eq)]
 pub struct OciLayout {
     image_layout_version: String,
+}
+
+impl Drop for OciLayout {
+    fn drop(self) {
+        let OciLayout {
+            image_layout_version,
+        } = self;
+    }
 }
 
 impl OciLayout {

@@ -17,13 +17,25 @@ use std::rt::Files;
 const NAME: &str = "ArtifactManifest";
 
 /// Content of any type and what it is related to (image specification 1.1.0-rc2, "Artifact Manifest").
-#[derive(Debug, PartialEq, Eq, Drop)]
+#[derive(Debug, PartialEq, Eq)]
 pub struct ArtifactManifest {
     media_type: MediaType,
     artifact_type: MediaType,
     blobs: Vec<Descriptor>,
     subject: Option<Descriptor>,
     annotations: Option<BTreeMap<String, String>>,
+}
+
+impl Drop for ArtifactManifest {
+    fn drop(self) {
+        let ArtifactManifest {
+            media_type,
+            artifact_type,
+            blobs,
+            subject,
+            annotations,
+        } = self;
+    }
 }
 
 impl ArtifactManifest {

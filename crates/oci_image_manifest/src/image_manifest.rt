@@ -18,7 +18,7 @@ use std::rt::Files;
 const NAME: &str = "ImageManifest";
 
 /// A configuration and layers for one image on one machine (image specification, "Image Manifest").
-#[derive(Debug, PartialEq, Eq, Drop)]
+#[derive(Debug, PartialEq, Eq)]
 pub struct ImageManifest {
     schema_version: u32,
     media_type: Option<MediaType>,
@@ -27,6 +27,20 @@ pub struct ImageManifest {
     layers: Vec<Descriptor>,
     subject: Option<Descriptor>,
     annotations: Option<BTreeMap<String, String>>,
+}
+
+impl Drop for ImageManifest {
+    fn drop(self) {
+        let ImageManifest {
+            schema_version,
+            media_type,
+            artifact_type,
+            config,
+            layers,
+            subject,
+            annotations,
+        } = self;
+    }
 }
 
 impl ImageManifest {
