@@ -109,7 +109,7 @@ fn texts(rt: HostRuntime) -> Result<(), Fail> {
 }
 
 /// Words that ask for nothing.
-const UNKNOWN: [&[&str]; 22] = [
+static UNKNOWN: [&[&str]; 22] = [
     &[],
     &[""],
     &["norm"],

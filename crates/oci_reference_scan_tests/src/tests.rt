@@ -71,7 +71,7 @@ fn a_long_name(rt: HostRuntime) {
     assert!(rt; scanner.finish() == found_at(100_000, None, None));
 }
 
-const LETTERS: [u8; 8] = *b"aA0._-:/";
+static LETTERS: [u8; 8] = *b"aA0._-:/";
 
 fn check_prefixes(rt: &impl Abort, number: usize) -> Result<(), Fail> {
     let mut scanner = Scanner::new();
@@ -100,7 +100,7 @@ fn as_the_cutting_reader(rt: HostRuntime) -> Result<(), Fail> {
     Ok(())
 }
 
-const DIGESTS: [(&str, Result<Places, ParseError>); 8] = [
+static DIGESTS: [(&str, Result<Places, ParseError>); 8] = [
     (
         "a.b/c:d@sha256:ffffffffffffffffffffffffffffffff",
         Ok(Places {
@@ -159,7 +159,7 @@ fn pieces(rt: HostRuntime) {
     assert!(rt; parts("a:/b") == Err(ParseError::ReferenceInvalidFormat));
 }
 
-const PRINTED: [(ParseError, &str); 9] = [
+static PRINTED: [(ParseError, &str); 9] = [
     (
         ParseError::DigestInvalidFormat,
         "invalid checksum digest format",

@@ -63,7 +63,7 @@ fn repeated(
 }
 
 /// A front, how many times a part follows, and an end; and the length of the repository, or the refusal.
-const LENGTHS: [(&str, &str, u32, &str, Result<usize, ParseError>); 12] = [
+static LENGTHS: [(&str, &str, u32, &str, Result<usize, ParseError>); 12] = [
     ("", "a", 247, "", Ok(255)),
     ("", "a", 248, "", Err(ParseError::NameTooLong)),
     ("", "a", 100_000, "", Err(ParseError::NameTooLong)),

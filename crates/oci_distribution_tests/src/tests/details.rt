@@ -6,7 +6,7 @@ use oci_text_base::Result;
 use std::alloc::Global;
 
 /// A text that code sets as `detail`, what is written of the error, and the `detail` that is read of that again.
-const WRITTEN: [(&str, &str, &str); 7] = [
+static WRITTEN: [(&str, &str, &str); 7] = [
     (
         r#"{ "b": 1, "a": null }"#,
         r#"{"code":"UNAUTHORIZED","detail":{"a":null,"b":1}}"#,
@@ -33,7 +33,7 @@ const WRITTEN: [(&str, &str, &str); 7] = [
 ];
 
 /// Texts that are no JSON, or hold a number that is no 64-bit whole one.
-const UNREADABLE: [&str; 8] = [
+static UNREADABLE: [&str; 8] = [
     "abcd",
     "",
     "{ \"key\": }",

@@ -1,5 +1,5 @@
 /// A JSON text, and what is written of it.
-pub(super) const INFOS: [(&str, &str); 12] = [
+pub(super) static INFOS: [(&str, &str); 12] = [
     (r#"{"code":"DENIED"}"#, r#"{"code":"DENIED"}"#),
     (
         r#"{"detail":{"b":1,"a":null},"other":1.5,"message":"m","code":"UNAUTHORIZED"}"#,
@@ -48,7 +48,7 @@ pub(super) const INFOS: [(&str, &str); 12] = [
 ];
 
 /// A JSON text, and the refused record and member.
-pub(super) const REFUSED_INFOS: [(&str, (&str, &str)); 23] = [
+pub(super) static REFUSED_INFOS: [(&str, (&str, &str)); 23] = [
     ("[]", ("ErrorInfo", "")),
     ("null", ("ErrorInfo", "")),
     (r#""DENIED""#, ("ErrorInfo", "")),
@@ -89,7 +89,7 @@ pub(super) const REFUSED_INFOS: [(&str, (&str, &str)); 23] = [
     ),
 ];
 
-pub(super) const RESPONSES: [(&str, &str); 4] = [
+pub(super) static RESPONSES: [(&str, &str); 4] = [
     (r#"{"errors":[]}"#, r#"{"errors":[]}"#),
     (
         r#"{"errors":[{"code":"DENIED","detail":{"b":1,"a":null}}]}"#,
@@ -105,7 +105,7 @@ pub(super) const RESPONSES: [(&str, &str); 4] = [
     ),
 ];
 
-pub(super) const REFUSED_RESPONSES: [(&str, (&str, &str)); 11] = [
+pub(super) static REFUSED_RESPONSES: [(&str, (&str, &str)); 11] = [
     ("[]", ("ErrorResponse", "")),
     ("5", ("ErrorResponse", "")),
     ("{}", ("ErrorResponse", "errors")),
@@ -134,7 +134,7 @@ pub(super) const REFUSED_RESPONSES: [(&str, (&str, &str)); 11] = [
     ),
 ];
 
-pub(super) const REPOSITORIES: [(&str, &str); 3] = [
+pub(super) static REPOSITORIES: [(&str, &str); 3] = [
     (r#"{"repositories":[]}"#, r#"{"repositories":[]}"#),
     (
         r#"{"repositories":["busybox"]}"#,
@@ -146,7 +146,7 @@ pub(super) const REPOSITORIES: [(&str, &str); 3] = [
     ),
 ];
 
-pub(super) const REFUSED_REPOSITORIES: [(&str, (&str, &str)); 7] = [
+pub(super) static REFUSED_REPOSITORIES: [(&str, (&str, &str)); 7] = [
     ("[]", ("RepositoryList", "")),
     (r#"["busybox"]"#, ("RepositoryList", "")),
     ("{}", ("RepositoryList", "repositories")),
@@ -168,7 +168,7 @@ pub(super) const REFUSED_REPOSITORIES: [(&str, (&str, &str)); 7] = [
     ),
 ];
 
-pub(super) const TAGS: [(&str, &str); 3] = [
+pub(super) static TAGS: [(&str, &str); 3] = [
     (r#"{"tags":[],"name":""}"#, r#"{"name":"","tags":[]}"#),
     (
         r#"{"name":"n","tags":["latest","1.0","latest"]}"#,
@@ -180,7 +180,7 @@ pub(super) const TAGS: [(&str, &str); 3] = [
     ),
 ];
 
-pub(super) const REFUSED_TAGS: [(&str, (&str, &str)); 10] = [
+pub(super) static REFUSED_TAGS: [(&str, (&str, &str)); 10] = [
     ("[]", ("TagList", "")),
     ("true", ("TagList", "")),
     ("{}", ("TagList", "name")),

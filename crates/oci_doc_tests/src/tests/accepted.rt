@@ -1,7 +1,7 @@
 use super::rows::{COMPACT_MANIFEST, INDEX, MANIFEST};
 
 /// A kind, a document, and its compact text.
-pub(super) const ACCEPTED: [(&str, &str, &str); 33] = [
+pub(super) static ACCEPTED: [(&str, &str, &str); 33] = [
     ("manifest", MANIFEST, COMPACT_MANIFEST),
     (
         "manifest",

@@ -1,5 +1,5 @@
 /// A kind, and a text that is no JSON.
-pub(super) const NO_JSON: [(&str, &str); 20] = [
+pub(super) static NO_JSON: [(&str, &str); 20] = [
     ("manifest", r#""#),
     ("manifest", r#"{"#),
     ("index", r#"{"schemaVersion":2,"manifests":[],}"#),
@@ -24,7 +24,7 @@ pub(super) const NO_JSON: [(&str, &str); 20] = [
 
 /// Bytes that are no UTF-8: a lone byte of a sequence, one cut short, one longer than needed, half of a surrogate pair, and bytes
 /// behind the document.
-pub(super) const NOT_UTF8: [&[u8]; 5] = [
+pub(super) static NOT_UTF8: [&[u8]; 5] = [
     b"{\"imageLayoutVersion\":\"\xff\"}",
     b"{\"imageLayoutVersion\":\"\xe9\"}",
     b"{\"imageLayoutVersion\":\"\xc0\xaf\"}",

@@ -1,5 +1,5 @@
 /// A kind, a document, and its pretty text.
-pub(super) const PRETTY: [(&str, &str, &str); 10] = [
+pub(super) static PRETTY: [(&str, &str, &str); 10] = [
     (
         "manifest",
         r#"{"schemaVersion":2,"config":{"mediaType":"m","digest":"foo:bar","size":0},"layers":[]}"#,

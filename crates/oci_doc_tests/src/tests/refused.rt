@@ -1,5 +1,5 @@
 /// JSON that is not an image manifest.
-pub(super) const MANIFEST: [&str; 23] = [
+pub(super) static MANIFEST: [&str; 23] = [
     r#"[]"#,
     r#"null"#,
     r#""manifest""#,
@@ -26,7 +26,7 @@ pub(super) const MANIFEST: [&str; 23] = [
 ];
 
 /// JSON that is not an image index.
-pub(super) const INDEX: [&str; 14] = [
+pub(super) static INDEX: [&str; 14] = [
     r#"[]"#,
     r#"{"schemaVersion":2}"#,
     r#"{"schemaVersion":2,"manifests":null}"#,
@@ -44,7 +44,7 @@ pub(super) const INDEX: [&str; 14] = [
 ];
 
 /// JSON that is not an image configuration.
-pub(super) const CONFIG: [&str; 22] = [
+pub(super) static CONFIG: [&str; 22] = [
     r#"5"#,
     r#"{"os":"linux","rootfs":{"type":"layers","diff_ids":[]}}"#,
     r#"{"architecture":"amd64","os":null,"rootfs":5}"#,
@@ -70,7 +70,7 @@ pub(super) const CONFIG: [&str; 22] = [
 ];
 
 /// JSON that is not an artifact manifest.
-pub(super) const ARTIFACT: [&str; 6] = [
+pub(super) static ARTIFACT: [&str; 6] = [
     r#"[]"#,
     r#"{"mediaType":"application/vnd.oci.artifact.manifest.v1+json","artifactType":"m"}"#,
     r#"{"mediaType":"m","artifactType":"t","blobs":null}"#,
@@ -80,7 +80,7 @@ pub(super) const ARTIFACT: [&str; 6] = [
 ];
 
 /// JSON that is not an image layout.
-pub(super) const LAYOUT: [&str; 4] = [
+pub(super) static LAYOUT: [&str; 4] = [
     r#"[]"#,
     r#"{}"#,
     r#"{"imageLayoutVersion":1}"#,
@@ -88,7 +88,7 @@ pub(super) const LAYOUT: [&str; 4] = [
 ];
 
 /// JSON that is not a descriptor.
-pub(super) const DESCRIPTOR: [&str; 25] = [
+pub(super) static DESCRIPTOR: [&str; 25] = [
     r#"[]"#,
     r#"{"digest":"foo:bar","size":0}"#,
     r#"{"mediaType":"m","size":0}"#,
@@ -117,7 +117,7 @@ pub(super) const DESCRIPTOR: [&str; 25] = [
 ];
 
 /// JSON that is not an error reply.
-pub(super) const ERROR: [&str; 8] = [
+pub(super) static ERROR: [&str; 8] = [
     r#"[]"#,
     r#"{}"#,
     r#"{"errors":[5]}"#,
@@ -129,14 +129,14 @@ pub(super) const ERROR: [&str; 8] = [
 ];
 
 /// JSON that is not a list of repositories.
-pub(super) const REPOSITORIES: [&str; 3] = [
+pub(super) static REPOSITORIES: [&str; 3] = [
     r#"[]"#,
     r#"{"repositories":null}"#,
     r#"{"repositories":[5]}"#,
 ];
 
 /// JSON that is not a list of tags.
-pub(super) const TAGS: [&str; 4] = [
+pub(super) static TAGS: [&str; 4] = [
     r#"[]"#,
     r#"{"name":"n"}"#,
     r#"{"name":"n","tags":null}"#,
@@ -144,7 +144,7 @@ pub(super) const TAGS: [&str; 4] = [
 ];
 
 /// JSON that is not a reference.
-pub(super) const REFERENCE: [&str; 4] = [
+pub(super) static REFERENCE: [&str; 4] = [
     r#"[]"#,
     r#"{"registry":"r.io"}"#,
     r#"{"repository":"a","tag":5}"#,

@@ -12,7 +12,7 @@ pub const INDEX: &str =
     r#"{"manifests":[{"digest":"sha256:e692418e4cbaf90ca69d05a66403747baa33ee08806650b51fab815ad7fc331f","mediaType":"application/vnd.oci.image.manifest.v1+json","platform":{"architecture":"ppc64le","os":"linux"},"size":7143},{"digest":"sha256:5b0bcabd1ed22e9fb1310cf6c2dec7cdef19f0ad69efa1f392e94a4333501270","mediaType":"application/vnd.oci.image.manifest.v1+json","platform":{"architecture":"amd64","os":"linux"},"size":7682}],"schemaVersion":2}"#;
 
 /// A reference, the lines on it, or the line of its refusal.
-pub const REFERENCES: [(&str, Result<&str, &str>); 14] = [
+pub static REFERENCES: [(&str, Result<&str, &str>); 14] = [
     (
         "busybox",
         Ok(
@@ -64,7 +64,7 @@ pub const REFERENCES: [(&str, Result<&str, &str>); 14] = [
 ];
 
 /// A digest, the lines on it, or the line of its refusal.
-pub const DIGESTS: [(&str, Result<&str, &str>); 11] = [
+pub static DIGESTS: [(&str, Result<&str, &str>); 11] = [
     ("foo:bar", Ok("algorithm foo\nencoded bar\n")),
     (
         "multihash+base58:QmRZxt2b1FVZPNqd8hsiykDL3TdBDeTSPX9Kv46HmX4Gx8",

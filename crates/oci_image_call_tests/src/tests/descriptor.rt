@@ -16,7 +16,7 @@ const WHOLE: &str =
     r#"{"annotations":{"a":"1"},"artifactType":"application/spdx+json","data":"e30=","digest":"foo:bar","mediaType":"application/vnd.oci.empty.v1+json","platform":{"architecture":"amd64","os":"linux"},"size":2,"urls":["u"]}"#;
 
 /// The same with one member changed, in the order of the setters below.
-const CHANGED: [&str; 8] = [
+static CHANGED: [&str; 8] = [
     r#"{"annotations":{"a":"1"},"artifactType":"application/spdx+json","data":"e30=","digest":"foo:bar","mediaType":"application/vnd.oci.image.layer.v1.tar","platform":{"architecture":"amd64","os":"linux"},"size":2,"urls":["u"]}"#,
     r#"{"annotations":{"a":"1"},"artifactType":"application/spdx+json","data":"e30=","digest":"baz:bar","mediaType":"application/vnd.oci.empty.v1+json","platform":{"architecture":"amd64","os":"linux"},"size":2,"urls":["u"]}"#,
     r#"{"annotations":{"a":"1"},"artifactType":"application/spdx+json","data":"e30=","digest":"foo:bar","mediaType":"application/vnd.oci.empty.v1+json","platform":{"architecture":"amd64","os":"linux"},"size":18446744073709551615,"urls":["u"]}"#,
@@ -193,7 +193,7 @@ fn part(alloc: Global, media_type: bool, digest: bool, size: bool) -> Result<Des
 }
 
 /// Which members are set, and the first that is not.
-const PARTS: [(bool, bool, bool, &str); 7] = [
+static PARTS: [(bool, bool, bool, &str); 7] = [
     (false, false, false, "media_type"),
     (false, true, true, "media_type"),
     (true, false, false, "digest"),

@@ -13,7 +13,7 @@ const WHOLE: &str =
     r#"{"annotations":{"a":"1"},"artifactType":"t","manifests":[{"digest":"m:1","mediaType":"application/vnd.oci.empty.v1+json","size":1},{"digest":"m:2","mediaType":"application/vnd.oci.empty.v1+json","size":1}],"mediaType":"application/vnd.oci.image.index.v1+json","schemaVersion":2,"subject":{"digest":"s:1","mediaType":"application/vnd.oci.empty.v1+json","size":1}}"#;
 
 /// The same with one member changed, in the order of the setters below.
-const CHANGED: [&str; 6] = [
+static CHANGED: [&str; 6] = [
     r#"{"annotations":{"a":"1"},"artifactType":"t","manifests":[{"digest":"m:1","mediaType":"application/vnd.oci.empty.v1+json","size":1},{"digest":"m:2","mediaType":"application/vnd.oci.empty.v1+json","size":1}],"mediaType":"application/vnd.oci.image.index.v1+json","schemaVersion":4294967295,"subject":{"digest":"s:1","mediaType":"application/vnd.oci.empty.v1+json","size":1}}"#,
     r#"{"annotations":{"a":"1"},"artifactType":"t","manifests":[{"digest":"m:1","mediaType":"application/vnd.oci.empty.v1+json","size":1},{"digest":"m:2","mediaType":"application/vnd.oci.empty.v1+json","size":1}],"mediaType":"application/vnd.oci.image.manifest.v1+json","schemaVersion":2,"subject":{"digest":"s:1","mediaType":"application/vnd.oci.empty.v1+json","size":1}}"#,
     r#"{"annotations":{"a":"1"},"manifests":[{"digest":"m:1","mediaType":"application/vnd.oci.empty.v1+json","size":1},{"digest":"m:2","mediaType":"application/vnd.oci.empty.v1+json","size":1}],"mediaType":"application/vnd.oci.image.index.v1+json","schemaVersion":2,"subject":{"digest":"s:1","mediaType":"application/vnd.oci.empty.v1+json","size":1}}"#,

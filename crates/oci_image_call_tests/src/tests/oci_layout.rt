@@ -9,7 +9,7 @@ use std::test::Fail;
 const WHOLE: &str = r#"{"imageLayoutVersion":"1.0.0"}"#;
 
 /// The same with its member changed.
-const CHANGED: [&str; 1] = [r#"{"imageLayoutVersion":"2"}"#];
+static CHANGED: [&str; 1] = [r#"{"imageLayoutVersion":"2"}"#];
 
 /// The document of all members.
 fn whole(alloc: Global) -> Result<OciLayout> {

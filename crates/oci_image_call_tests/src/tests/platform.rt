@@ -12,7 +12,7 @@ const WHOLE: &str =
     r#"{"architecture":"arm","features":["f"],"os":"windows","os.features":["win32k"],"os.version":"10.0","variant":"v7"}"#;
 
 /// The same with one member changed, in the order of the setters below.
-const CHANGED: [&str; 6] = [
+static CHANGED: [&str; 6] = [
     r#"{"architecture":"amd64","features":["f"],"os":"windows","os.features":["win32k"],"os.version":"10.0","variant":"v7"}"#,
     r#"{"architecture":"arm","features":["f"],"os":"linux","os.features":["win32k"],"os.version":"10.0","variant":"v7"}"#,
     r#"{"architecture":"arm","features":["f"],"os":"windows","os.features":["win32k"],"variant":"v7"}"#,

@@ -10,7 +10,7 @@ const WHOLE: &str =
     r#"{"author":"alice","comment":"first","created":"2015-10-31T22:22:54Z","created_by":"/bin/sh","empty_layer":false}"#;
 
 /// The same with one member changed, in the order of the setters below.
-const CHANGED: [&str; 5] = [
+static CHANGED: [&str; 5] = [
     r#"{"author":"alice","comment":"first","created":"2016-10-31T22:22:54Z","created_by":"/bin/sh","empty_layer":false}"#,
     r#"{"comment":"first","created":"2015-10-31T22:22:54Z","created_by":"/bin/sh","empty_layer":false}"#,
     r#"{"author":"alice","comment":"first","created":"2015-10-31T22:22:54Z","created_by":"","empty_layer":false}"#,

@@ -26,7 +26,7 @@ const OTHER: &str =
     r#"{"architecture":"amd64","config":{"Labels":{"version ":"1"}},"os":"linux","rootfs":{"diff_ids":[],"type":"layers"}}"#;
 
 /// The number of labels, where there is a map of them; the label `version`; and the version.
-const ROWS: [(&str, Option<usize>, Option<&str>, Option<&str>); 5] = [
+static ROWS: [(&str, Option<usize>, Option<&str>, Option<&str>); 5] = [
     (BARE, None, None, None),
     (UNLABELLED, None, None, None),
     (OLDER, Some(1), Some("1"), Some("1")),

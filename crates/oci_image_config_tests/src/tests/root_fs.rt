@@ -9,7 +9,7 @@ use std::test::Fail;
 const WHOLE: &str = r#"{"diff_ids":["sha256:abc123"],"type":"others"}"#;
 
 /// The same with one member changed, in the order of the setters below.
-const CHANGED: [&str; 2] = [
+static CHANGED: [&str; 2] = [
     r#"{"diff_ids":["sha256:abc123"],"type":"layers"}"#,
     r#"{"diff_ids":["b","a"],"type":"others"}"#,
 ];

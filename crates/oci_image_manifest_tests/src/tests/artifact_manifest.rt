@@ -13,7 +13,7 @@ const WHOLE: &str =
     r#"{"annotations":{"a":"1"},"artifactType":"t","blobs":[{"digest":"b:1","mediaType":"application/vnd.oci.empty.v1+json","size":1}],"mediaType":"application/vnd.oci.artifact.manifest.v1+json","subject":{"digest":"s:1","mediaType":"application/vnd.oci.empty.v1+json","size":1}}"#;
 
 /// The same with one member changed, in the order of the setters below.
-const CHANGED: [&str; 4] = [
+static CHANGED: [&str; 4] = [
     r#"{"annotations":{"a":"1"},"artifactType":"application/vnd.oci.empty.v1+json","blobs":[{"digest":"b:1","mediaType":"application/vnd.oci.empty.v1+json","size":1}],"mediaType":"application/vnd.oci.artifact.manifest.v1+json","subject":{"digest":"s:1","mediaType":"application/vnd.oci.empty.v1+json","size":1}}"#,
     r#"{"annotations":{"a":"1"},"artifactType":"t","blobs":[{"digest":"x:1","mediaType":"application/vnd.oci.empty.v1+json","size":1}],"mediaType":"application/vnd.oci.artifact.manifest.v1+json","subject":{"digest":"s:1","mediaType":"application/vnd.oci.empty.v1+json","size":1}}"#,
     r#"{"annotations":{"a":"1"},"artifactType":"t","blobs":[{"digest":"b:1","mediaType":"application/vnd.oci.empty.v1+json","size":1}],"mediaType":"application/vnd.oci.artifact.manifest.v1+json"}"#,

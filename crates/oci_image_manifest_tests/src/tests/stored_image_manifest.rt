@@ -8,7 +8,7 @@ use std::fs;
 use std::rt::Files;
 
 /// The sizes of the layers, and the digits of their digests.
-const LAYERS: [(u64, &str); 3] = [
+static LAYERS: [(u64, &str); 3] = [
     (
         32654,
         "9834876dcfb05cb167a5c24953eba58c4ac89b1adf57f28f2f9d09af107ee8f0",

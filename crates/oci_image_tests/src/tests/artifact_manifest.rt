@@ -3,7 +3,7 @@ use super::samples::{ARTIFACT, ARTIFACT_FILE, ARTIFACT_PRETTY};
 use oci_image::ArtifactManifest;
 
 /// Texts, and the record and the member that refuse them.
-const REFUSED: [Refusal; 22] = [
+static REFUSED: [Refusal; 22] = [
     ("[]", "ArtifactManifest", ""),
     (r#""a""#, "ArtifactManifest", ""),
     ("{}", "ArtifactManifest", "mediaType"),
@@ -101,7 +101,7 @@ const REFUSED: [Refusal; 22] = [
 ];
 
 /// Texts, and what is written of them.
-const READ: [(&str, &str); 5] = [
+static READ: [(&str, &str); 5] = [
     (ARTIFACT_FILE, ARTIFACT),
     (ARTIFACT_PRETTY, ARTIFACT),
     (WHOLE, WHOLE),

@@ -9,7 +9,7 @@ use oci_image::{
 };
 
 /// Keys of annotations, and their last part.
-const ANNOTATIONS: [(&str, &str); 14] = [
+static ANNOTATIONS: [(&str, &str); 14] = [
     (ANNOTATION_CREATED, "created"),
     (ANNOTATION_AUTHORS, "authors"),
     (ANNOTATION_URL, "url"),

@@ -2,7 +2,7 @@ use super::reading::{Refusal, check_read, check_refused};
 use oci_image::Descriptor;
 
 /// Texts, and the record and the member that refuse them.
-const REFUSED: [Refusal; 38] = [
+static REFUSED: [Refusal; 38] = [
     ("[]", "Descriptor", ""),
     (r#""foo:bar""#, "Descriptor", ""),
     ("true", "Descriptor", ""),
@@ -181,7 +181,7 @@ const REFUSED: [Refusal; 38] = [
 ];
 
 /// Texts, and what is written of them.
-const READ: [(&str, &str); 7] = [
+static READ: [(&str, &str); 7] = [
     (
         r#"{"mediaType":"m","digest":"foo:bar","size":0}"#,
         r#"{"digest":"foo:bar","mediaType":"m","size":0}"#,

@@ -2,7 +2,7 @@ use super::reading::{Refusal, check_read, check_refused};
 use oci_image::History;
 
 /// Texts, and the record and the member that refuse them.
-const REFUSED: [Refusal; 9] = [
+static REFUSED: [Refusal; 9] = [
     ("[]", "History", ""),
     ("true", "History", ""),
     (r#"{"created":5,"author":5}"#, "History", "created"),
@@ -15,7 +15,7 @@ const REFUSED: [Refusal; 9] = [
 ];
 
 /// Texts, and what is written of them.
-const READ: [(&str, &str); 4] = [
+static READ: [(&str, &str); 4] = [
     ("{}", "{}"),
     (
         r#"{"created":null,"author":null,"created_by":null,"comment":null,"empty_layer":null,"x":5}"#,

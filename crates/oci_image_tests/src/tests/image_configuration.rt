@@ -3,7 +3,7 @@ use super::samples::{CONFIGURATION, CONFIGURATION_FILE, CONFIGURATION_PRETTY};
 use oci_image::ImageConfiguration;
 
 /// Texts, and the record and the member that refuse them.
-const REFUSED: [Refusal; 32] = [
+static REFUSED: [Refusal; 32] = [
     ("[]", "ImageConfiguration", ""),
     ("5", "ImageConfiguration", ""),
     ("null", "ImageConfiguration", ""),
@@ -147,7 +147,7 @@ const REFUSED: [Refusal; 32] = [
 ];
 
 /// Texts, and what is written of them.
-const READ: [(&str, &str); 7] = [
+static READ: [(&str, &str); 7] = [
     (WHOLE, WHOLE),
     (CONFIGURATION_FILE, CONFIGURATION),
     (CONFIGURATION_PRETTY, CONFIGURATION),

@@ -3,7 +3,7 @@ use super::samples::{INDEX, INDEX_FILE, INDEX_PRETTY};
 use oci_image::ImageIndex;
 
 /// Texts, and the record and the member that refuse them.
-const REFUSED: [Refusal; 25] = [
+static REFUSED: [Refusal; 25] = [
     ("[]", "ImageIndex", ""),
     ("null", "ImageIndex", ""),
     ("{}", "ImageIndex", "schemaVersion"),
@@ -116,7 +116,7 @@ const REFUSED: [Refusal; 25] = [
 ];
 
 /// Texts, and what is written of them.
-const READ: [(&str, &str); 7] = [
+static READ: [(&str, &str); 7] = [
     (INDEX_FILE, INDEX),
     (INDEX_PRETTY, INDEX),
     (INDEX, INDEX),

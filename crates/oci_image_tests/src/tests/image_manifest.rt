@@ -3,7 +3,7 @@ use super::samples::{MANIFEST, MANIFEST_FILE, MANIFEST_PRETTY};
 use oci_image::ImageManifest;
 
 /// Texts, and the record and the member that refuse them.
-const REFUSED: [Refusal; 37] = [
+static REFUSED: [Refusal; 37] = [
     ("[]", "ImageManifest", ""),
     ("2", "ImageManifest", ""),
     ("{}", "ImageManifest", "schemaVersion"),
@@ -168,7 +168,7 @@ const NOTED: &str =
     r#"{"note":null,"schemaVersion":2,"config":{"mediaType":"application/vnd.oci.image.config.v1+json","digest":"sha256:b5b2b2c507a0944348e0303114d8d93aaaa081732b86451d9bce1f432a537bc7","size":7023},"layers":[{"mediaType":"application/vnd.oci.image.layer.v1.tar+gzip","digest":"sha256:9834876dcfb05cb167a5c24953eba58c4ac89b1adf57f28f2f9d09af107ee8f0","size":32654},{"mediaType":"application/vnd.oci.image.layer.v1.tar+gzip","digest":"sha256:3c3a4604a545cdc127456d94e421cd355bca5b528f4a9c1905b15da2eb4a4c6b","size":16724},{"mediaType":"application/vnd.oci.image.layer.v1.tar+gzip","digest":"sha256:ec4b8955958665577945c89419d1af06b5f7636b4ac3da7f12184802ad867736","size":73109}]}"#;
 
 /// Texts, and what is written of them.
-const READ: [(&str, &str); 6] = [
+static READ: [(&str, &str); 6] = [
     (NOTED, MANIFEST),
     (MANIFEST_FILE, MANIFEST),
     (MANIFEST_PRETTY, MANIFEST),

@@ -3,7 +3,7 @@ use super::samples::{LAYOUT, LAYOUT_FILE, LAYOUT_PRETTY};
 use oci_image::OciLayout;
 
 /// Texts, and the record and the member that refuse them.
-const REFUSED: [Refusal; 8] = [
+static REFUSED: [Refusal; 8] = [
     ("[]", "OciLayout", ""),
     (r#""1.0.0""#, "OciLayout", ""),
     ("null", "OciLayout", ""),
@@ -31,7 +31,7 @@ const REFUSED: [Refusal; 8] = [
 ];
 
 /// Texts, and what is written of them.
-const READ: [(&str, &str); 4] = [
+static READ: [(&str, &str); 4] = [
     (LAYOUT_FILE, LAYOUT),
     (LAYOUT_PRETTY, LAYOUT),
     (

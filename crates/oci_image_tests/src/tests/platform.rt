@@ -2,7 +2,7 @@ use super::reading::{Refusal, check_read, check_refused};
 use oci_image::Platform;
 
 /// Texts, and the record and the member that refuse them.
-const REFUSED: [Refusal; 17] = [
+static REFUSED: [Refusal; 17] = [
     ("[]", "Platform", ""),
     ("5", "Platform", ""),
     ("null", "Platform", ""),
@@ -67,7 +67,7 @@ const REFUSED: [Refusal; 17] = [
 ];
 
 /// Texts, and what is written of them.
-const READ: [(&str, &str); 7] = [
+static READ: [(&str, &str); 7] = [
     (
         r#"{"architecture":"amd64","os":"windows","os.version":"10.0"}"#,
         r#"{"architecture":"amd64","os":"windows","os.version":"10.0"}"#,

@@ -2,7 +2,7 @@ use super::reading::{Refusal, check_read, check_refused};
 use oci_image::RootFs;
 
 /// Texts, and the record and the member that refuse them.
-const REFUSED: [Refusal; 12] = [
+static REFUSED: [Refusal; 12] = [
     ("[]", "RootFs", ""),
     (r#""layers""#, "RootFs", ""),
     ("null", "RootFs", ""),
@@ -22,7 +22,7 @@ const REFUSED: [Refusal; 12] = [
 ];
 
 /// Texts, and what is written of them.
-const READ: [(&str, &str); 3] = [
+static READ: [(&str, &str); 3] = [
     (
         r#"{"type":"layers","diff_ids":[]}"#,
         r#"{"diff_ids":[],"type":"layers"}"#,

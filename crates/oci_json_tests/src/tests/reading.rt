@@ -112,17 +112,20 @@ fn failing_readers(rt: HostRuntime) {
     }
 }
 
+fn check_not_normalized(rt: &impl Abort, alloc: Global, text: &str, fault: Fault) {
+    let mut output = Output::new(alloc);
+    let input = Input::new(text.as_bytes());
+    let answer = normalize::<RepositoryList, _, _>(alloc, input, &mut output);
+    check_refused(rt, answer, fault, text);
+    check_untouched(rt, &output, text);
+}
+
 /// Where the bytes are refused, `normalize` writes nothing.
 #[test]
 fn nothing_normalized(rt: HostRuntime) {
-    let alloc = rt.alloc();
     for (text, expected) in &LISTS {
         if let Err(fault) = expected {
-            let mut output = Output::new(alloc);
-            let input = Input::new(text.as_bytes());
-            let answer = normalize::<RepositoryList, _, _>(alloc, input, &mut output);
-            check_refused(&rt, answer, *fault, text);
-            check_untouched(&rt, &output, text);
+            check_not_normalized(&rt, rt.alloc(), text, *fault);
         }
     }
 }

@@ -7,7 +7,7 @@ const NONE: Fault = Fault::Schema("RepositoryList", "");
 const MEMBER: Fault = Fault::Schema("RepositoryList", "repositories");
 
 /// A text, and the compact text of the list of repositories that it is.
-pub(super) const LISTS: [(&str, std::result::Result<&str, Fault>); 31] = [
+pub(super) static LISTS: [(&str, std::result::Result<&str, Fault>); 31] = [
     (r#"{"repositories":[]}"#, Ok(r#"{"repositories":[]}"#)),
     (
         "\t\r\n {\"other\" : [ 1.5 , null ] , \"repositories\" : [ \"b\" , \"a\" , \"b\" ] } \n",
@@ -54,7 +54,7 @@ pub(super) const LISTS: [(&str, std::result::Result<&str, Fault>); 31] = [
 ];
 
 /// Bytes that are no UTF-8: a lone byte of a sequence, one cut short, one longer than needed, half of a surrogate pair.
-pub(super) const NOT_UTF8: [&[u8]; 5] = [
+pub(super) static NOT_UTF8: [&[u8]; 5] = [
     b"{\"repositories\":[\"\xff\"]}",
     b"{\"repositories\":[\"\xe9\"]}",
     b"{\"repositories\":[\"\xc0\xaf\"]}",
@@ -63,7 +63,7 @@ pub(super) const NOT_UTF8: [&[u8]; 5] = [
 ];
 
 /// How many bytes a reader gives at most, the read that fails, and how.
-pub(super) const FAILING_READERS: [(usize, u32, ErrorKind); 6] = [
+pub(super) static FAILING_READERS: [(usize, u32, ErrorKind); 6] = [
     (usize::MAX, 1, ErrorKind::PermissionDenied),
     (usize::MAX, 1, ErrorKind::Interrupted),
     (5, 2, ErrorKind::Interrupted),
@@ -74,7 +74,7 @@ pub(super) const FAILING_READERS: [(usize, u32, ErrorKind); 6] = [
 ];
 
 /// A text of an error reply, its compact text and its pretty text.
-pub(super) const REPLIES: [(&str, &str, &str); 3] = [
+pub(super) static REPLIES: [(&str, &str, &str); 3] = [
     (
         r#"{"errors":[]}"#,
         r#"{"errors":[]}"#,
@@ -122,7 +122,7 @@ pub(super) const REPLIES: [(&str, &str, &str); 3] = [
 ];
 
 /// How many bytes a writer takes at most, the write that fails, and how many bytes were taken before it.
-pub(super) const FAILING_WRITERS: [(usize, u32, usize); 5] = [
+pub(super) static FAILING_WRITERS: [(usize, u32, usize); 5] = [
     (usize::MAX, 1, 0),
     (1, 1, 0),
     (1, 2, 1),

@@ -13,7 +13,7 @@ use std::process::Abort;
 use std::test::Fail;
 
 /// Texts that are no JSON, or hold a number that is no 64-bit whole one.
-const UNREADABLE: [&str; 8] = [
+static UNREADABLE: [&str; 8] = [
     "abcd",
     "",
     "{",

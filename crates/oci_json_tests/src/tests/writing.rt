@@ -19,7 +19,7 @@ enum Engine {
     Normal,
 }
 
-const ENGINES: [Engine; 3] = [Engine::Compact, Engine::Pretty, Engine::Normal];
+static ENGINES: [Engine; 3] = [Engine::Compact, Engine::Pretty, Engine::Normal];
 
 /// Reads a document, and writes it by the engine.
 fn write_by<T: OciRecord>(

@@ -7,7 +7,7 @@ use std::alloc::Global;
 use std::process::Abort;
 
 /// A JSON text, what is read, and what is written again.
-const READ: [(&str, &str, &str); 4] = [
+static READ: [(&str, &str, &str); 4] = [
     (
         r#"{"tag":"t","repository":"a/b","registry":"r.io","other":1.5}"#,
         "r.io a/b t - - r.io r.io/a/b:t",
@@ -31,7 +31,7 @@ const READ: [(&str, &str, &str); 4] = [
 ];
 
 /// A JSON text, and the member that is refused.
-const REFUSED: [(&str, &str); 6] = [
+static REFUSED: [(&str, &str); 6] = [
     ("[]", ""),
     (r#"{"registry":"r.io"}"#, "repository"),
     (r#"{"repository":"a"}"#, "registry"),

@@ -1,7 +1,7 @@
 use oci_reference::ParseError;
 
 /// A text, and what it is read as.
-pub(super) const ROWS: [(&str, Result<&str, ParseError>); 45] = [
+pub(super) static ROWS: [(&str, Result<&str, ParseError>); 45] = [
     (
         "busybox",
         Ok("docker.io library/busybox latest - - index.docker.io docker.io/library/busybox:latest"),
@@ -172,7 +172,7 @@ pub(super) const ROWS: [(&str, Result<&str, ParseError>); 45] = [
 pub(super) const BUSYBOX: &str =
     "docker.io library/busybox latest - - index.docker.io docker.io/library/busybox:latest";
 
-pub(super) const SPELLINGS: [&str; 4] = [
+pub(super) static SPELLINGS: [&str; 4] = [
     "busybox",
     "library/busybox",
     "docker.io/busybox",
@@ -186,7 +186,7 @@ pub(super) const PINNED_BUSYBOX: (&str, &str) = (
 
 /// A text, what its reference is by the mirror `docker.mirror.io`, and what it is then by the digest `foo:bar`;
 /// and the whole text.
-pub(super) const MIRRORED: [(&str, &str, &str, &str); 5] = [
+pub(super) static MIRRORED: [(&str, &str, &str, &str); 5] = [
     (
         "busybox",
         "docker.io library/busybox latest - docker.io docker.mirror.io docker.io/library/busybox:latest",
@@ -220,7 +220,7 @@ pub(super) const MIRRORED: [(&str, &str, &str, &str); 5] = [
 ];
 
 /// Registry, repository and tag, and the reference that is made of them.
-pub(super) const WITH_TAG: [((&str, &str, &str), &str); 5] = [
+pub(super) static WITH_TAG: [((&str, &str, &str), &str); 5] = [
     (
         ("docker.io", "foo/bar", "1.2"),
         "docker.io foo/bar 1.2 - - index.docker.io docker.io/foo/bar:1.2",
@@ -232,7 +232,7 @@ pub(super) const WITH_TAG: [((&str, &str, &str), &str); 5] = [
 ];
 
 /// Registry, repository and digest, and the reference that is made of them.
-pub(super) const WITH_DIGEST: [((&str, &str, &str), &str); 3] = [
+pub(super) static WITH_DIGEST: [((&str, &str, &str), &str); 3] = [
     (
         ("docker.io", "foo/bar", "foo:bar"),
         "docker.io foo/bar - foo:bar - index.docker.io docker.io/foo/bar@foo:bar",
@@ -242,7 +242,7 @@ pub(super) const WITH_DIGEST: [((&str, &str, &str), &str); 3] = [
 ];
 
 /// Registry, repository and tag, a digest, and the reference that is made of them.
-pub(super) const WITH_BOTH: [((&str, &str, &str), &str, &str); 3] = [
+pub(super) static WITH_BOTH: [((&str, &str, &str), &str, &str); 3] = [
     (
         ("docker.io", "foo/bar", "1.2"),
         "sha256:ffffffffffffffffffffffffffffffffffffffffffffffffffffffffffffffff",

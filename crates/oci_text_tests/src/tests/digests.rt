@@ -1,3 +1,4 @@
+use super::{check_made, check_shown};
 use oci_json_schema::OciMember;
 use oci_text::{
     Digest, DigestAlgorithm, OciSpecError, SchemaFault, SerDeError, Sha256Digest,
@@ -38,13 +39,12 @@ fn check_parts(
     text: &str,
     algorithm: &str,
     encoded: &str,
-) -> std::result::Result<(), Fail> {
-    let named = DigestAlgorithm::from_text(alloc, algorithm)?;
-    assert!(rt; *digest.algorithm() == named, "{text}");
+) {
+    let named = DigestAlgorithm::from_text(alloc, algorithm);
+    check_made(rt, named, digest.algorithm(), text);
     assert_eq!(rt; digest.algorithm().as_ref(), algorithm);
     assert_eq!(rt; digest.digest(), encoded);
     assert_eq!(rt; digest.as_ref(), text);
-    Ok(())
 }
 
 /// What is displayed, and read again, and what is copied is the same digest.
@@ -54,11 +54,11 @@ fn check_copies(
     digest: &Digest,
     text: &str,
 ) -> std::result::Result<(), Fail> {
-    let shown = digest.to_string(alloc)?;
-    assert_eq!(rt; shown.as_str(), text);
-    assert!(rt; Digest::try_from(shown)? == *digest, "{text}");
-    assert!(rt; digest.clone()? == *digest, "{text}");
-    assert!(rt; digest.copy(alloc)? == *digest, "{text}");
+    check_shown(rt, digest.to_string(alloc), text);
+    check_made(rt, digest.clone(), digest, text);
+    check_made(rt, digest.copy(alloc), digest, text);
+    let owned = String::from_str(alloc, text)?;
+    check_made(rt, Digest::try_from(owned), digest, text);
     Ok(())
 }
 
@@ -71,8 +71,8 @@ fn check_member(
 ) -> std::result::Result<(), Fail> {
     let value = digest.write(alloc)?;
     assert_eq!(rt; value.as_str(), Some(text));
-    assert!(rt; Digest::read(alloc, &value)? == *digest, "{text}");
-    assert!(rt; Digest::read_owned(alloc, value)? == *digest, "{text}");
+    check_made(rt, Digest::read(alloc, &value), digest, text);
+    check_made(rt, Digest::read_owned(alloc, value), digest, text);
     Ok(())
 }
 
@@ -85,7 +85,7 @@ fn check_accepted(
 ) -> std::result::Result<(), Fail> {
     assert!(rt; is_digest(text), "{text}");
     let digest = Digest::from_str(alloc, text)?;
-    check_parts(rt, alloc, &digest, text, algorithm, encoded)?;
+    check_parts(rt, alloc, &digest, text, algorithm, encoded);
     check_copies(rt, alloc, &digest, text)?;
     check_member(rt, alloc, &digest, text)
 }
@@ -216,17 +216,21 @@ fn sha256_digests(rt: HostRuntime) -> std::result::Result<(), Fail> {
     let short = Sha256Digest::from_str(alloc, digits)?;
     assert_eq!(rt; short.digest(), digits);
     assert_eq!(rt; short.as_ref(), digits);
-    let shown = short.to_string(alloc)?;
-    assert_eq!(rt; shown.as_str(), digits);
-    assert!(rt; short.clone()? == short);
-    assert!(rt; short.into_digest()? == Digest::from_str(alloc, SHA256)?);
-    match Sha256Digest::from_str(alloc, "x") {
+    check_shown(&rt, short.to_string(alloc), digits);
+    check_made(&rt, short.clone(), &short, digits);
+    let whole = Digest::from_str(alloc, SHA256)?;
+    check_made(&rt, short.into_digest(), &whole, digits);
+    Ok(())
+}
+
+#[test]
+fn refuses_other_sha256_digits(rt: HostRuntime) {
+    match Sha256Digest::from_str(rt.alloc(), "x") {
         Err(OciSpecError::Other(message)) => {
             assert_eq!(rt; message.as_str(), "Invalid digest length 1 expected 64")
         }
         _ => panic!(rt; "x"),
     }
-    Ok(())
 }
 
 fn check_algorithm(
@@ -238,9 +242,8 @@ fn check_algorithm(
     let algorithm = DigestAlgorithm::from_text(alloc, text)?;
     assert_eq!(rt; algorithm.as_ref(), text);
     assert!(rt; algorithm.digest_hexlen() == digits, "{text}");
-    assert!(rt; algorithm.clone(alloc)? == algorithm, "{text}");
-    let shown = algorithm.to_string(alloc)?;
-    assert_eq!(rt; shown.as_str(), text);
+    check_made(rt, algorithm.clone(alloc), &algorithm, text);
+    check_shown(rt, algorithm.to_string(alloc), text);
     Ok(())
 }
 
