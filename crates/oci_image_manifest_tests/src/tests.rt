@@ -3,8 +3,10 @@ use oci_test_records::{
     add_content, are_equal, content, displayed, field_of, file_is, inner, lines, map, read,
     samples, sha256, shown, single, written,
 };
+use oci_test_streams::Output;
 use oci_text_base::Result;
 use std::alloc::{Alloc, Global};
+use std::fmt::Debug;
 use std::process::Abort;
 use std::rt::Files;
 
@@ -49,4 +51,20 @@ fn check_unequal<T: OciRecord>(rt: &impl Abort, alloc: Global, text: &str, other
         let same = are_equal::<T>(alloc, text, other);
         assert!(rt; same.is_ok_and(|equal| !equal), "{other}");
     }
+}
+
+/// A member is what was expected.
+fn check_is<T: Eq + Debug>(rt: &impl Abort, found: &T, expected: &T) {
+    assert_eq!(rt; found, expected);
+}
+
+/// A builder names this field as the first that it lacks.
+fn check_unset<T: Drop>(rt: &impl Abort, built: Result<T>, field: &str) {
+    assert_eq!(rt; field_of(built), field);
+}
+
+/// What was written to a stream is this text.
+fn check_stream(rt: &impl Abort, answer: Result<()>, output: &Output, expected: &str) {
+    assert!(rt; answer.is_ok(), "{expected}");
+    assert_eq!(rt; output.taken(), expected.as_bytes());
 }

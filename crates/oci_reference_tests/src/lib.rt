@@ -1,4 +1,4 @@
-//! Tests of references.
+//! Tests of references, and of the scanner of their parts.
 #![tactic(auto)]
 
 #[cfg(test)]

@@ -6,6 +6,7 @@ use std::test::Fail;
 
 mod record;
 mod rows;
+mod scanner;
 
 /// Registry, repository, tag, digest, namespace, the registry that is asked, and the whole text.
 fn described(alloc: Global, reference: &Reference) -> Result<String, AllocError> {

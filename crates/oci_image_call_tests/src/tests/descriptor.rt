@@ -1,6 +1,6 @@
 use super::{
-    check, check_equal, check_made, check_unequal, field_of, inner, map, read, shown, string,
-    strings,
+    check, check_equal, check_is, check_made, check_text, check_unequal, check_unset, inner, map,
+    read, shown, string, strings,
 };
 use oci_image::{
     Arch, Descriptor, DescriptorBuilder, Digest, MediaType, Os, Platform, PlatformBuilder,
@@ -101,9 +101,9 @@ fn equality(rt: HostRuntime) {
 fn getters(rt: HostRuntime) -> std::result::Result<(), Fail> {
     let alloc = rt.alloc();
     let document = whole(alloc)?;
-    assert_eq!(rt; document.media_type(), &MediaType::EmptyJSON);
-    assert_eq!(rt; document.digest().as_ref(), "foo:bar");
-    assert_eq!(rt; document.size(), 2);
+    check_is(&rt, document.media_type(), &MediaType::EmptyJSON);
+    check_text(&rt, document.digest().as_ref(), "foo:bar");
+    check_is(&rt, &document.size(), &2);
     check(&rt, shown(alloc, document.urls()), r#"Some(["u"])"#);
     check(
         &rt,
@@ -209,7 +209,7 @@ fn unset(rt: HostRuntime) {
     let alloc = rt.alloc();
     for (media_type, digest, size, field) in &PARTS {
         let built = part(alloc, *media_type, *digest, *size);
-        assert_eq!(rt; field_of(built), *field);
+        check_unset(&rt, built, *field);
     }
     check_made(
         &rt,

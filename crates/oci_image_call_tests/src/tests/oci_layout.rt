@@ -1,4 +1,4 @@
-use super::{check, check_equal, check_made, check_unequal, field_of, read, string};
+use super::{check, check_equal, check_made, check_text, check_unequal, check_unset, read, string};
 use oci_image::{OciLayout, OciLayoutBuilder};
 use oci_json_engines::to_string;
 use oci_text_base::Result;
@@ -43,7 +43,7 @@ fn equality(rt: HostRuntime) {
 fn getters(rt: HostRuntime) -> std::result::Result<(), Fail> {
     let alloc = rt.alloc();
     let document = whole(alloc)?;
-    assert_eq!(rt; document.image_layout_version().as_str(), "1.0.0");
+    check_text(&rt, document.image_layout_version().as_str(), "1.0.0");
     Ok(())
 }
 
@@ -78,5 +78,5 @@ fn builders(rt: HostRuntime) {
 #[test]
 fn unset(rt: HostRuntime) {
     let built = OciLayoutBuilder::default().build(rt.alloc());
-    assert_eq!(rt; field_of(built), "image_layout_version");
+    check_unset(&rt, built, "image_layout_version");
 }

@@ -1,5 +1,6 @@
 use super::{
-    check, check_equal, check_made, check_unequal, field_of, read, shown, string, strings,
+    check, check_equal, check_is, check_made, check_unequal, check_unset, read, shown, string,
+    strings,
 };
 use oci_image::{Arch, Os, Platform, PlatformBuilder};
 use oci_json_engines::to_string;
@@ -81,8 +82,8 @@ fn equality(rt: HostRuntime) {
 fn getters(rt: HostRuntime) -> std::result::Result<(), Fail> {
     let alloc = rt.alloc();
     let document = whole(alloc)?;
-    assert_eq!(rt; document.architecture(), &Arch::ARM);
-    assert_eq!(rt; document.os(), &Os::Windows);
+    check_is(&rt, document.architecture(), &Arch::ARM);
+    check_is(&rt, document.os(), &Os::Windows);
     check(&rt, shown(alloc, document.os_version()), r#"Some("10.0")"#);
     check(
         &rt,
@@ -133,22 +134,14 @@ fn builders(rt: HostRuntime) {
 #[test]
 fn unset(rt: HostRuntime) {
     let alloc = rt.alloc();
-    assert_eq!(rt;
-        field_of(PlatformBuilder::default().build(alloc)),
-        "architecture"
-    );
-    assert_eq!(rt;
-        field_of(PlatformBuilder::default().os(Os::Linux).build(alloc)),
-        "architecture"
-    );
-    assert_eq!(rt;
-        field_of(
-            PlatformBuilder::default()
-                .architecture(Arch::Wasm)
-                .build(alloc)
-        ),
-        "os"
-    );
+    let built = PlatformBuilder::default().build(alloc);
+    check_unset(&rt, built, "architecture");
+    let built = PlatformBuilder::default().os(Os::Linux).build(alloc);
+    check_unset(&rt, built, "architecture");
+    let built = PlatformBuilder::default()
+        .architecture(Arch::Wasm)
+        .build(alloc);
+    check_unset(&rt, built, "os");
     let built = PlatformBuilder::default()
         .architecture(Arch::Wasm)
         .os(Os::Js)

@@ -1,5 +1,5 @@
 use super::samples::{INDEX, INDEX_FILE, INDEX_PRETTY};
-use super::{check, check_equal, check_file, displayed, sha256};
+use super::{check, check_equal, check_file, check_stream, displayed, sha256};
 use oci_image::{
     Arch, Descriptor, ImageIndex, ImageIndexBuilder, MediaType, Os, PlatformBuilder, SCHEMA_VERSION,
 };
@@ -99,11 +99,11 @@ fn to_writer_pretty(alloc: Global, output: &mut Output) -> Result<()> {
 #[test]
 fn to_writers(rt: HostRuntime) {
     let mut output = Output::new(rt.alloc());
-    assert!(rt; to_writer(rt.alloc(), &mut output).is_ok());
-    assert_eq!(rt; output.taken(), INDEX.as_bytes());
+    let answer = to_writer(rt.alloc(), &mut output);
+    check_stream(&rt, answer, &output, INDEX);
     let mut output = Output::new(rt.alloc());
-    assert!(rt; to_writer_pretty(rt.alloc(), &mut output).is_ok());
-    assert_eq!(rt; output.taken(), INDEX_PRETTY.as_bytes());
+    let answer = to_writer_pretty(rt.alloc(), &mut output);
+    check_stream(&rt, answer, &output, INDEX_PRETTY);
 }
 
 fn compact(alloc: Global) -> Result<String> {

@@ -1,5 +1,5 @@
 use super::samples::{LAYOUT, LAYOUT_FILE, LAYOUT_PRETTY};
-use super::{check, check_equal, check_file};
+use super::{check, check_equal, check_file, check_stream};
 use oci_image::{OciLayout, OciLayoutBuilder};
 use oci_test_streams::{Input, Output};
 use oci_text_base::Result;
@@ -68,11 +68,11 @@ fn to_writer_pretty(alloc: Global, output: &mut Output) -> Result<()> {
 #[test]
 fn to_writers(rt: HostRuntime) {
     let mut output = Output::new(rt.alloc());
-    assert!(rt; to_writer(rt.alloc(), &mut output).is_ok());
-    assert_eq!(rt; output.taken(), LAYOUT.as_bytes());
+    let answer = to_writer(rt.alloc(), &mut output);
+    check_stream(&rt, answer, &output, LAYOUT);
     let mut output = Output::new(rt.alloc());
-    assert!(rt; to_writer_pretty(rt.alloc(), &mut output).is_ok());
-    assert_eq!(rt; output.taken(), LAYOUT_PRETTY.as_bytes());
+    let answer = to_writer_pretty(rt.alloc(), &mut output);
+    check_stream(&rt, answer, &output, LAYOUT_PRETTY);
 }
 
 fn compact(alloc: Global) -> Result<String> {

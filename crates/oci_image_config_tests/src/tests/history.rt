@@ -1,4 +1,4 @@
-use super::{check, check_equal, check_made, check_unequal, read, shown, string};
+use super::{check, check_equal, check_is, check_made, check_unequal, read, shown, string};
 use oci_image::{History, HistoryBuilder};
 use oci_json_engines::to_string;
 use oci_text_base::Result;
@@ -84,7 +84,7 @@ fn getters(rt: HostRuntime) -> std::result::Result<(), Fail> {
         r#"Some("/bin/sh")"#,
     );
     check(&rt, shown(alloc, document.comment()), r#"Some("first")"#);
-    assert_eq!(rt; document.empty_layer(), Some(false));
+    check_is(&rt, &document.empty_layer(), &Some(false));
     Ok(())
 }
 

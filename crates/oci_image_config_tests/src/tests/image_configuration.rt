@@ -1,6 +1,6 @@
 use super::{
-    check, check_equal, check_made, check_unequal, inner, lines, read, shown, single, string,
-    strings,
+    check, check_equal, check_is, check_made, check_unequal, inner, lines, read, shown, single,
+    string, strings,
 };
 use oci_image::{
     Arch, Config, ConfigBuilder, History, HistoryBuilder, ImageConfiguration,
@@ -128,8 +128,8 @@ fn texts(rt: HostRuntime) -> std::result::Result<(), Fail> {
 #[test]
 fn machines(rt: HostRuntime) -> std::result::Result<(), Fail> {
     let document = whole(rt.alloc())?;
-    assert_eq!(rt; document.architecture(), &Arch::ARM);
-    assert_eq!(rt; document.os(), &Os::Windows);
+    check_is(&rt, document.architecture(), &Arch::ARM);
+    check_is(&rt, document.os(), &Os::Windows);
     let features = shown(rt.alloc(), document.os_features());
     check(&rt, features, r#"Some(["win32k"])"#);
     Ok(())

@@ -1,4 +1,6 @@
-use super::{check, check_equal, check_made, check_unequal, read, shown, string, strings};
+use super::{
+    check, check_equal, check_made, check_text, check_unequal, read, shown, string, strings,
+};
 use oci_image::{RootFs, RootFsBuilder};
 use oci_json_engines::to_string;
 use oci_text_base::Result;
@@ -50,7 +52,7 @@ fn equality(rt: HostRuntime) {
 fn getters(rt: HostRuntime) -> std::result::Result<(), Fail> {
     let alloc = rt.alloc();
     let document = whole(alloc)?;
-    assert_eq!(rt; document.typ().as_str(), "others");
+    check_text(&rt, document.typ().as_str(), "others");
     check(
         &rt,
         shown(alloc, document.diff_ids()),

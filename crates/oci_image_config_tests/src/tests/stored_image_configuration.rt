@@ -1,5 +1,5 @@
 use super::samples::{CONFIGURATION, CONFIGURATION_FILE, CONFIGURATION_PRETTY};
-use super::{check, check_equal, check_file, displayed, string, strings};
+use super::{check, check_equal, check_file, check_stream, displayed, string, strings};
 use oci_image::{
     Arch, Config, ConfigBuilder, History, HistoryBuilder, ImageConfiguration,
     ImageConfigurationBuilder, Os, RootFs, RootFsBuilder,
@@ -169,11 +169,11 @@ fn to_writer_pretty(alloc: Global, output: &mut Output) -> Result<()> {
 #[test]
 fn to_writers(rt: HostRuntime) {
     let mut output = Output::new(rt.alloc());
-    assert!(rt; to_writer(rt.alloc(), &mut output).is_ok());
-    assert_eq!(rt; output.taken(), CONFIGURATION.as_bytes());
+    let answer = to_writer(rt.alloc(), &mut output);
+    check_stream(&rt, answer, &output, CONFIGURATION);
     let mut output = Output::new(rt.alloc());
-    assert!(rt; to_writer_pretty(rt.alloc(), &mut output).is_ok());
-    assert_eq!(rt; output.taken(), CONFIGURATION_PRETTY.as_bytes());
+    let answer = to_writer_pretty(rt.alloc(), &mut output);
+    check_stream(&rt, answer, &output, CONFIGURATION_PRETTY);
 }
 
 fn compact(alloc: Global) -> Result<String> {

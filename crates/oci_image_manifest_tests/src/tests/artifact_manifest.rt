@@ -1,6 +1,6 @@
 use super::{
-    add_content, check, check_equal, check_made, check_unequal, content, field_of, inner, lines,
-    map, read, shown, single,
+    add_content, check, check_equal, check_is, check_made, check_unequal, check_unset, content,
+    inner, lines, map, read, shown, single,
 };
 use oci_image::{ArtifactManifest, ArtifactManifestBuilder, MediaType};
 use oci_json_engines::to_string;
@@ -68,7 +68,7 @@ fn equality(rt: HostRuntime) {
 fn getters(rt: HostRuntime) -> std::result::Result<(), Fail> {
     let alloc = rt.alloc();
     let document = whole(alloc)?;
-    assert_eq!(rt; document.media_type(), &MediaType::ArtifactManifest);
+    check_is(&rt, document.media_type(), &MediaType::ArtifactManifest);
     check(&rt, shown(alloc, document.artifact_type()), r#"Other("t")"#);
     check(&rt, lines(alloc, document.blobs().as_slice()), BLOBS);
     check(
@@ -133,11 +133,11 @@ const BLOBS: &str = r#"{"digest":"b:1","mediaType":"application/vnd.oci.empty.v1
 fn unset(rt: HostRuntime) {
     let alloc = rt.alloc();
     let built = ArtifactManifestBuilder::default().build(alloc);
-    assert_eq!(rt; field_of(built), "artifact_type");
+    check_unset(&rt, built, "artifact_type");
     let built = ArtifactManifestBuilder::default()
         .blobs(Vec::new(alloc))
         .build(alloc);
-    assert_eq!(rt; field_of(built), "artifact_type");
+    check_unset(&rt, built, "artifact_type");
     let built = ArtifactManifestBuilder::default()
         .artifact_type(MediaType::EmptyJSON)
         .build(alloc);

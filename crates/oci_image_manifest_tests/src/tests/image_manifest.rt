@@ -1,6 +1,6 @@
 use super::{
-    add_content, check, check_equal, check_made, check_unequal, content, field_of, inner, lines,
-    map, read, shown, single,
+    add_content, check, check_equal, check_is, check_made, check_unequal, check_unset, content,
+    inner, lines, map, read, shown, single,
 };
 use oci_image::{Descriptor, ImageManifest, ImageManifestBuilder, MediaType};
 use oci_json_engines::to_string;
@@ -90,7 +90,7 @@ fn equality(rt: HostRuntime) {
 fn getters(rt: HostRuntime) -> std::result::Result<(), Fail> {
     let alloc = rt.alloc();
     let document = whole(alloc)?;
-    assert_eq!(rt; document.schema_version(), 2);
+    check_is(&rt, &document.schema_version(), &2);
     check(
         &rt,
         shown(alloc, document.media_type()),
@@ -210,13 +210,13 @@ fn without_version(alloc: Global) -> Result<ImageManifest> {
 fn unset(rt: HostRuntime) {
     let alloc = rt.alloc();
     let none = ImageManifestBuilder::default().build(alloc);
-    assert_eq!(rt; field_of(none), "schema_version");
-    assert_eq!(rt; field_of(of_config(alloc)), "schema_version");
-    assert_eq!(rt; field_of(without_version(alloc)), "schema_version");
+    check_unset(&rt, none, "schema_version");
+    check_unset(&rt, of_config(alloc), "schema_version");
+    check_unset(&rt, without_version(alloc), "schema_version");
     let version = ImageManifestBuilder::default().schema_version(0);
-    assert_eq!(rt; field_of(version.build(alloc)), "config");
-    assert_eq!(rt; field_of(without_config(alloc)), "config");
-    assert_eq!(rt; field_of(without_layers(alloc)), "layers");
+    check_unset(&rt, version.build(alloc), "config");
+    check_unset(&rt, without_config(alloc), "config");
+    check_unset(&rt, without_layers(alloc), "layers");
 }
 
 /// No more than what has to be set.

@@ -1,5 +1,5 @@
 use super::samples::{ARTIFACT, ARTIFACT_FILE, ARTIFACT_PRETTY};
-use super::{check, check_equal, check_file, map, sha256, single};
+use super::{check, check_equal, check_file, check_stream, map, sha256, single};
 use oci_image::{ArtifactManifest, ArtifactManifestBuilder, Descriptor, MediaType};
 use oci_test_streams::{Input, Output};
 use oci_text_base::Result;
@@ -106,11 +106,11 @@ fn to_writer_pretty(alloc: Global, output: &mut Output) -> Result<()> {
 #[test]
 fn to_writers(rt: HostRuntime) {
     let mut output = Output::new(rt.alloc());
-    assert!(rt; to_writer(rt.alloc(), &mut output).is_ok());
-    assert_eq!(rt; output.taken(), ARTIFACT.as_bytes());
+    let answer = to_writer(rt.alloc(), &mut output);
+    check_stream(&rt, answer, &output, ARTIFACT);
     let mut output = Output::new(rt.alloc());
-    assert!(rt; to_writer_pretty(rt.alloc(), &mut output).is_ok());
-    assert_eq!(rt; output.taken(), ARTIFACT_PRETTY.as_bytes());
+    let answer = to_writer_pretty(rt.alloc(), &mut output);
+    check_stream(&rt, answer, &output, ARTIFACT_PRETTY);
 }
 
 fn compact(alloc: Global) -> Result<String> {

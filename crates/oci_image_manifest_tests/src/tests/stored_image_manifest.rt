@@ -1,5 +1,5 @@
 use super::samples::{MANIFEST, MANIFEST_FILE, MANIFEST_PRETTY};
-use super::{check, check_equal, check_file, displayed, sha256};
+use super::{check, check_equal, check_file, check_stream, displayed, sha256};
 use oci_image::{Descriptor, ImageManifest, ImageManifestBuilder, MediaType, SCHEMA_VERSION};
 use oci_test_streams::{Input, Output};
 use oci_text_base::Result;
@@ -126,11 +126,11 @@ fn to_writer_pretty(alloc: Global, output: &mut Output) -> Result<()> {
 #[test]
 fn to_writers(rt: HostRuntime) {
     let mut output = Output::new(rt.alloc());
-    assert!(rt; to_writer(rt.alloc(), &mut output).is_ok());
-    assert_eq!(rt; output.taken(), MANIFEST.as_bytes());
+    let answer = to_writer(rt.alloc(), &mut output);
+    check_stream(&rt, answer, &output, MANIFEST);
     let mut output = Output::new(rt.alloc());
-    assert!(rt; to_writer_pretty(rt.alloc(), &mut output).is_ok());
-    assert_eq!(rt; output.taken(), MANIFEST_PRETTY.as_bytes());
+    let answer = to_writer_pretty(rt.alloc(), &mut output);
+    check_stream(&rt, answer, &output, MANIFEST_PRETTY);
 }
 
 fn compact(alloc: Global) -> Result<String> {

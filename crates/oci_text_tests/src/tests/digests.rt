@@ -1,4 +1,4 @@
-use super::{check_made, check_shown};
+use super::{check_made, check_no_member, check_reason, check_shown, check_text, check_written};
 use oci_json_schema::OciMember;
 use oci_text::{
     Digest, DigestAlgorithm, OciSpecError, SchemaFault, SerDeError, Sha256Digest,
@@ -42,9 +42,9 @@ fn check_parts(
 ) {
     let named = DigestAlgorithm::from_text(alloc, algorithm);
     check_made(rt, named, digest.algorithm(), text);
-    assert_eq!(rt; digest.algorithm().as_ref(), algorithm);
-    assert_eq!(rt; digest.digest(), encoded);
-    assert_eq!(rt; digest.as_ref(), text);
+    check_text(rt, digest.algorithm().as_ref(), algorithm);
+    check_text(rt, digest.digest(), encoded);
+    check_text(rt, digest.as_ref(), text);
 }
 
 /// What is displayed, and read again, and what is copied is the same digest.
@@ -69,8 +69,8 @@ fn check_member(
     digest: &Digest,
     text: &str,
 ) -> std::result::Result<(), Fail> {
+    check_written(rt, digest.write(alloc), text);
     let value = digest.write(alloc)?;
-    assert_eq!(rt; value.as_str(), Some(text));
     check_made(rt, Digest::read(alloc, &value), digest, text);
     check_made(rt, Digest::read_owned(alloc, value), digest, text);
     Ok(())
@@ -97,47 +97,40 @@ fn check_refused(
     expected: &str,
 ) -> std::result::Result<(), Fail> {
     assert!(rt; !is_digest(text), "{text}");
-    match Digest::from_str(alloc, text) {
-        Err(OciSpecError::Other(message)) => assert_eq!(rt; message.as_str(), expected),
-        _ => panic!(rt; "{text}"),
-    }
-    match Digest::try_from(String::from_str(alloc, text)?) {
-        Err(OciSpecError::Other(message)) => assert_eq!(rt; message.as_str(), expected),
-        _ => panic!(rt; "{text}"),
-    }
-    check_unread(rt, alloc, Value::String(String::from_str(alloc, text)?))
+    check_reason(rt, Digest::from_str(alloc, text), expected);
+    let owned = String::from_str(alloc, text)?;
+    check_reason(rt, Digest::try_from(owned), expected);
+    let value = Value::String(String::from_str(alloc, text)?);
+    check_unread(rt, alloc, value);
+    Ok(())
 }
 
-fn check_unread(rt: &impl Abort, alloc: Global, value: Value) -> std::result::Result<(), Fail> {
-    match Digest::read(alloc, &value) {
-        Err(OciSpecError::SerDe(SerDeError::Schema(_))) => (),
-        _ => panic!(rt; "{value}"),
-    }
-    match Digest::read_owned(alloc, value) {
-        Err(OciSpecError::SerDe(SerDeError::Schema(_))) => Ok(()),
-        _ => panic!(rt; "an owned value was read"),
-    }
+fn check_unread(rt: &impl Abort, alloc: Global, value: Value) {
+    check_no_member(rt, Digest::read(alloc, &value));
+    check_no_member(rt, Digest::read_owned(alloc, value));
 }
+
+/// Digests of algorithms that are not registered, and their parts.
+static ACCEPTED: [(&str, &str, &str); 5] = [
+    ("foo:bar", "foo", "bar"),
+    ("xxhash:42", "xxhash", "42"),
+    (
+        "multihash+base58:QmRZxt2b1FVZPNqd8hsiykDL3TdBDeTSPX9Kv46HmX4Gx8",
+        "multihash+base58",
+        "QmRZxt2b1FVZPNqd8hsiykDL3TdBDeTSPX9Kv46HmX4Gx8",
+    ),
+    (
+        "sha256+b64u:LCa0a2j_xo_5m0U8HTBBNBNCLXBkg7-g-YpeiGJm564",
+        "sha256+b64u",
+        "LCa0a2j_xo_5m0U8HTBBNBNCLXBkg7-g-YpeiGJm564",
+    ),
+    ("a.b_c-d+0:=_-", "a.b_c-d+0", "=_-"),
+];
 
 #[test]
 fn accepts_digests(rt: HostRuntime) -> std::result::Result<(), Fail> {
     let alloc = rt.alloc();
-    let cases: [(&str, &str, &str); 5] = [
-        ("foo:bar", "foo", "bar"),
-        ("xxhash:42", "xxhash", "42"),
-        (
-            "multihash+base58:QmRZxt2b1FVZPNqd8hsiykDL3TdBDeTSPX9Kv46HmX4Gx8",
-            "multihash+base58",
-            "QmRZxt2b1FVZPNqd8hsiykDL3TdBDeTSPX9Kv46HmX4Gx8",
-        ),
-        (
-            "sha256+b64u:LCa0a2j_xo_5m0U8HTBBNBNCLXBkg7-g-YpeiGJm564",
-            "sha256+b64u",
-            "LCa0a2j_xo_5m0U8HTBBNBNCLXBkg7-g-YpeiGJm564",
-        ),
-        ("a.b_c-d+0:=_-", "a.b_c-d+0", "=_-"),
-    ];
-    for (text, algorithm, encoded) in cases {
+    for (text, algorithm, encoded) in &ACCEPTED {
         check_accepted(&rt, alloc, text, algorithm, encoded)?;
     }
     Ok(())
@@ -155,45 +148,48 @@ fn accepts_sha_digests(rt: HostRuntime) -> std::result::Result<(), Fail> {
     Ok(())
 }
 
+/// Texts that are no digests, and why.
+static REFUSED: [(&str, &str); 21] = [
+    ("", "missing ':' in digest"),
+    ("foo", "missing ':' in digest"),
+    ("blah+", "missing ':' in digest"),
+    (":", "Empty algorithm component"),
+    (":blah", "Empty algorithm component"),
+    ("_digest:somevalue", "Empty algorithm component"),
+    ("blah+:x", "Empty algorithm component"),
+    ("../blah:this-is-an-attack", "Empty algorithm component"),
+    ("a++b:", "Empty algorithm component"),
+    ("FooBar:123abc", "Invalid algorithm component: FooBar"),
+    ("^:foo", "Invalid algorithm component: ^"),
+    ("bar^baz:blah", "Invalid algorithm component: bar^baz"),
+    ("a.B-c:x", "Invalid algorithm component: B"),
+    ("a.\u{e9}+\u{e8}:x", "Invalid algorithm component: \u{e9}"),
+    ("blah:", "Empty algorithm value"),
+    ("sha256:123456*78", "Invalid encoded value 123456*78"),
+    ("foo:a:b", "Invalid encoded value a:b"),
+    ("sha384:x", "Invalid digest length 1 expected 96"),
+    (
+        "sha384:6c3c624b58dbbcd3c0dd82b4c53f04194d1247c6eebdaab7c610cf7d66709b3b",
+        "Invalid digest length 64 expected 96",
+    ),
+    (
+        "sha512:6c3c624b58dbbcd3c0dd82b4c53f04194d1247c6eebdaab7c610cf7d66709b3b",
+        "Invalid digest length 64 expected 128",
+    ),
+    (
+        "sha256:6c3c624b58dbbcd3c0dd82b4z53f04194d1247c6eebdaab7c610cf7d66709b3b",
+        "Invalid non-hexadecimal character in digest: 6c3c624b58dbbcd3c0dd82b4z53f04194d1247c6eebdaab7c610cf7d66709b3b",
+    ),
+];
+
 #[test]
 fn refuses_other_texts(rt: HostRuntime) -> std::result::Result<(), Fail> {
     let alloc = rt.alloc();
-    let cases: [(&str, &str); 21] = [
-        ("", "missing ':' in digest"),
-        ("foo", "missing ':' in digest"),
-        ("blah+", "missing ':' in digest"),
-        (":", "Empty algorithm component"),
-        (":blah", "Empty algorithm component"),
-        ("_digest:somevalue", "Empty algorithm component"),
-        ("blah+:x", "Empty algorithm component"),
-        ("../blah:this-is-an-attack", "Empty algorithm component"),
-        ("a++b:", "Empty algorithm component"),
-        ("FooBar:123abc", "Invalid algorithm component: FooBar"),
-        ("^:foo", "Invalid algorithm component: ^"),
-        ("bar^baz:blah", "Invalid algorithm component: bar^baz"),
-        ("a.B-c:x", "Invalid algorithm component: B"),
-        ("a.\u{e9}+\u{e8}:x", "Invalid algorithm component: \u{e9}"),
-        ("blah:", "Empty algorithm value"),
-        ("sha256:123456*78", "Invalid encoded value 123456*78"),
-        ("foo:a:b", "Invalid encoded value a:b"),
-        ("sha384:x", "Invalid digest length 1 expected 96"),
-        (
-            "sha384:6c3c624b58dbbcd3c0dd82b4c53f04194d1247c6eebdaab7c610cf7d66709b3b",
-            "Invalid digest length 64 expected 96",
-        ),
-        (
-            "sha512:6c3c624b58dbbcd3c0dd82b4c53f04194d1247c6eebdaab7c610cf7d66709b3b",
-            "Invalid digest length 64 expected 128",
-        ),
-        (
-            "sha256:6c3c624b58dbbcd3c0dd82b4z53f04194d1247c6eebdaab7c610cf7d66709b3b",
-            "Invalid non-hexadecimal character in digest: 6c3c624b58dbbcd3c0dd82b4z53f04194d1247c6eebdaab7c610cf7d66709b3b",
-        ),
-    ];
-    for (text, message) in cases {
+    for (text, message) in &REFUSED {
         check_refused(&rt, alloc, text, message)?;
     }
-    check_unread(&rt, alloc, Value::from(1u64))
+    check_unread(&rt, alloc, Value::from(1u64));
+    Ok(())
 }
 
 #[test]
@@ -214,8 +210,8 @@ fn sha256_digests(rt: HostRuntime) -> std::result::Result<(), Fail> {
     let alloc = rt.alloc();
     let digits = "6c3c624b58dbbcd3c0dd82b4c53f04194d1247c6eebdaab7c610cf7d66709b3b";
     let short = Sha256Digest::from_str(alloc, digits)?;
-    assert_eq!(rt; short.digest(), digits);
-    assert_eq!(rt; short.as_ref(), digits);
+    check_text(&rt, short.digest(), digits);
+    check_text(&rt, short.as_ref(), digits);
     check_shown(&rt, short.to_string(alloc), digits);
     check_made(&rt, short.clone(), &short, digits);
     let whole = Digest::from_str(alloc, SHA256)?;
@@ -225,12 +221,8 @@ fn sha256_digests(rt: HostRuntime) -> std::result::Result<(), Fail> {
 
 #[test]
 fn refuses_other_sha256_digits(rt: HostRuntime) {
-    match Sha256Digest::from_str(rt.alloc(), "x") {
-        Err(OciSpecError::Other(message)) => {
-            assert_eq!(rt; message.as_str(), "Invalid digest length 1 expected 64")
-        }
-        _ => panic!(rt; "x"),
-    }
+    let made = Sha256Digest::from_str(rt.alloc(), "x");
+    check_reason(&rt, made, "Invalid digest length 1 expected 64");
 }
 
 fn check_algorithm(
@@ -240,26 +232,28 @@ fn check_algorithm(
     digits: Option<u32>,
 ) -> std::result::Result<(), Fail> {
     let algorithm = DigestAlgorithm::from_text(alloc, text)?;
-    assert_eq!(rt; algorithm.as_ref(), text);
+    check_text(rt, algorithm.as_ref(), text);
     assert!(rt; algorithm.digest_hexlen() == digits, "{text}");
     check_made(rt, algorithm.clone(alloc), &algorithm, text);
     check_shown(rt, algorithm.to_string(alloc), text);
     Ok(())
 }
 
+/// Algorithms, and how many hexadecimal digits their digests have.
+static ALGORITHMS: [(&str, Option<u32>); 6] = [
+    ("sha256", Some(64)),
+    ("sha384", Some(96)),
+    ("sha512", Some(128)),
+    ("SHA256", None),
+    ("md5", None),
+    ("", None),
+];
+
 #[test]
 fn algorithms(rt: HostRuntime) -> std::result::Result<(), Fail> {
     let alloc = rt.alloc();
-    let cases: [(&str, Option<u32>); 6] = [
-        ("sha256", Some(64)),
-        ("sha384", Some(96)),
-        ("sha512", Some(128)),
-        ("SHA256", None),
-        ("md5", None),
-        ("", None),
-    ];
-    for (text, digits) in cases {
-        check_algorithm(&rt, alloc, text, digits)?;
+    for (text, digits) in &ALGORITHMS {
+        check_algorithm(&rt, alloc, text, *digits)?;
     }
     let other = DigestAlgorithm::Other(String::from_str(alloc, "sha256")?);
     assert!(rt; other != DigestAlgorithm::Sha256);
@@ -290,8 +284,7 @@ fn printed_errors(rt: HostRuntime) -> std::result::Result<(), Fail> {
         (OciSpecError::Memory, "out of memory"),
     ];
     for (error, expected) in cases {
-        let shown = error.to_string(alloc)?;
-        assert_eq!(rt; shown.as_str(), expected);
+        check_shown(&rt, error.to_string(alloc), expected);
     }
     Ok(())
 }

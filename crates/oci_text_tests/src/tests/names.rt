@@ -1,8 +1,6 @@
-use super::{check_made, check_shown};
+use super::{check_made, check_no_member, check_shown, check_text, check_written};
 use oci_json_schema::OciMember;
-use oci_text::{
-    Arch, ErrorCode, JsonName, MediaType, OciSpecError, Os, SerDeError, ToDockerV2S2, UnknownName,
-};
+use oci_text::{Arch, ErrorCode, JsonName, MediaType, Os, ToDockerV2S2, UnknownName};
 use serde_json::Value;
 use std::alloc::Global;
 use std::process::Abort;
@@ -18,40 +16,30 @@ fn check_member<T: OciMember>(
     check_made(rt, T::read(alloc, &value), expected, text);
     check_made(rt, T::read_owned(alloc, value), expected, text);
     check_made(rt, expected.copy(alloc), expected, text);
-    let written = expected.write(alloc)?;
-    assert_eq!(rt; written.as_str(), Some(text));
+    check_written(rt, expected.write(alloc), text);
     Ok(())
 }
 
-fn check_unread<T: OciMember>(
-    rt: &impl Abort,
-    alloc: Global,
-    value: Value,
-) -> std::result::Result<(), Fail> {
-    match T::read(alloc, &value) {
-        Err(OciSpecError::SerDe(SerDeError::Schema(_))) => (),
-        _ => panic!(rt; "{value}"),
-    }
-    match T::read_owned(alloc, value) {
-        Err(OciSpecError::SerDe(SerDeError::Schema(_))) => Ok(()),
-        _ => panic!(rt; "an owned value was read"),
-    }
+fn check_unread<T: OciMember>(rt: &impl Abort, alloc: Global, value: Value) {
+    check_no_member(rt, T::read(alloc, &value));
+    check_no_member(rt, T::read_owned(alloc, value));
 }
 
 fn check_media_type(
     rt: &impl Abort,
     alloc: Global,
     text: &str,
-    expected: MediaType,
+    expected: &MediaType,
 ) -> std::result::Result<(), Fail> {
-    check_made(rt, MediaType::from_text(alloc, text), &expected, text);
-    check_made(rt, expected.clone(alloc), &expected, text);
+    check_made(rt, MediaType::from_text(alloc, text), expected, text);
+    check_made(rt, expected.clone(alloc), expected, text);
     check_shown(rt, expected.to_string(alloc), text);
-    assert_eq!(rt; expected.as_ref(), text);
+    check_text(rt, expected.as_ref(), text);
     let owned = String::from_str(alloc, text)?;
-    assert!(rt; MediaType::from_string(owned) == expected, "{text}");
-    check_member(rt, alloc, text, &expected)?;
-    check_shown(rt, expected.into_string(alloc), text);
+    assert!(rt; MediaType::from_string(owned) == *expected, "{text}");
+    check_member(rt, alloc, text, expected)?;
+    let own = expected.clone(alloc)?;
+    check_shown(rt, own.into_string(alloc), text);
     Ok(())
 }
 
@@ -59,15 +47,15 @@ fn check_os(
     rt: &impl Abort,
     alloc: Global,
     text: &str,
-    expected: Os,
+    expected: &Os,
 ) -> std::result::Result<(), Fail> {
-    check_made(rt, Os::from_text(alloc, text), &expected, text);
-    check_made(rt, expected.clone(alloc), &expected, text);
+    check_made(rt, Os::from_text(alloc, text), expected, text);
+    check_made(rt, expected.clone(alloc), expected, text);
     check_shown(rt, expected.to_string(alloc), text);
-    assert_eq!(rt; expected.as_ref(), text);
+    check_text(rt, expected.as_ref(), text);
     let owned = String::from_str(alloc, text)?;
-    assert!(rt; Os::from_string(owned) == expected, "{text}");
-    check_member(rt, alloc, text, &expected)?;
+    assert!(rt; Os::from_string(owned) == *expected, "{text}");
+    check_member(rt, alloc, text, expected)?;
     Ok(())
 }
 
@@ -75,22 +63,22 @@ fn check_arch(
     rt: &impl Abort,
     alloc: Global,
     text: &str,
-    expected: Arch,
+    expected: &Arch,
 ) -> std::result::Result<(), Fail> {
-    check_made(rt, Arch::from_text(alloc, text), &expected, text);
-    check_made(rt, expected.clone(alloc), &expected, text);
+    check_made(rt, Arch::from_text(alloc, text), expected, text);
+    check_made(rt, expected.clone(alloc), expected, text);
     check_shown(rt, expected.to_string(alloc), text);
-    assert_eq!(rt; expected.as_ref(), text);
+    check_text(rt, expected.as_ref(), text);
     let owned = String::from_str(alloc, text)?;
-    assert!(rt; Arch::from_string(owned) == expected, "{text}");
-    check_member(rt, alloc, text, &expected)?;
+    assert!(rt; Arch::from_string(owned) == *expected, "{text}");
+    check_member(rt, alloc, text, expected)?;
     Ok(())
 }
 
 #[test]
 fn media_types(rt: HostRuntime) -> std::result::Result<(), Fail> {
     let alloc = rt.alloc();
-    let cases: [(&str, MediaType); 14] = [
+    let cases: [(&str, MediaType); 13] = [
         ("application/vnd.oci.descriptor", MediaType::Descriptor),
         (
             "application/vnd.oci.layout.header.v1+json",
@@ -137,26 +125,26 @@ fn media_types(rt: HostRuntime) -> std::result::Result<(), Fail> {
             MediaType::ArtifactManifest,
         ),
         ("application/vnd.oci.empty.v1+json", MediaType::EmptyJSON),
-        (
-            "application/spdx+json",
-            MediaType::Other(String::from_str(alloc, "application/spdx+json")?),
-        ),
     ];
-    for (text, expected) in cases {
+    for (text, expected) in &cases {
         check_media_type(&rt, alloc, text, expected)?;
     }
+    let other = "application/spdx+json";
+    let expected = MediaType::Other(String::from_str(alloc, other)?);
+    check_media_type(&rt, alloc, other, &expected)?;
     let other = MediaType::Other(String::from_str(alloc, "application/vnd.oci.descriptor")?);
     assert!(rt;
         other != MediaType::Descriptor,
         "an other text is no variant"
     );
-    check_unread::<MediaType>(&rt, alloc, Value::Null)
+    check_unread::<MediaType>(&rt, alloc, Value::Null);
+    Ok(())
 }
 
 #[test]
 fn operating_systems(rt: HostRuntime) -> std::result::Result<(), Fail> {
     let alloc = rt.alloc();
-    let cases: [(&str, Os); 18] = [
+    let cases: [(&str, Os); 17] = [
         ("aix", Os::AIX),
         ("android", Os::Android),
         ("darwin", Os::Darwin),
@@ -174,19 +162,21 @@ fn operating_systems(rt: HostRuntime) -> std::result::Result<(), Fail> {
         ("solaris", Os::Solaris),
         ("windows", Os::Windows),
         ("zos", Os::zOS),
-        ("Linux", Os::Other(String::from_str(alloc, "Linux")?)),
     ];
-    for (text, expected) in cases {
+    for (text, expected) in &cases {
         check_os(&rt, alloc, text, expected)?;
     }
+    let expected = Os::Other(String::from_str(alloc, "Linux")?);
+    check_os(&rt, alloc, "Linux", &expected)?;
     assert!(rt; Os::default() == Os::Linux, "the default");
-    check_unread::<Os>(&rt, alloc, Value::Null)
+    check_unread::<Os>(&rt, alloc, Value::Null);
+    Ok(())
 }
 
 #[test]
 fn architectures(rt: HostRuntime) -> std::result::Result<(), Fail> {
     let alloc = rt.alloc();
-    let cases: [(&str, Arch); 25] = [
+    let cases: [(&str, Arch); 24] = [
         ("386", Arch::i386),
         ("amd64", Arch::Amd64),
         ("amd64p32", Arch::Amd64p32),
@@ -211,14 +201,16 @@ fn architectures(rt: HostRuntime) -> std::result::Result<(), Fail> {
         ("sparc", Arch::SPARC),
         ("sparc64", Arch::SPARC64),
         ("wasm", Arch::Wasm),
-        ("arm64v8", Arch::Other(String::from_str(alloc, "arm64v8")?)),
     ];
-    for (text, expected) in cases {
+    for (text, expected) in &cases {
         check_arch(&rt, alloc, text, expected)?;
     }
+    let expected = Arch::Other(String::from_str(alloc, "arm64v8")?);
+    check_arch(&rt, alloc, "arm64v8", &expected)?;
     assert!(rt; Arch::default() == Arch::Amd64, "the default");
     assert!(rt; Arch::from_text(alloc, "armbe")? != Arch::ARM64be, "armbe");
-    check_unread::<Arch>(&rt, alloc, Value::Null)
+    check_unread::<Arch>(&rt, alloc, Value::Null);
+    Ok(())
 }
 
 #[test]
@@ -241,8 +233,11 @@ fn docker_media_types(rt: HostRuntime) -> std::result::Result<(), Fail> {
             "application/vnd.docker.image.rootfs.diff.tar.gzip",
         ),
     ];
-    for (media_type, expected) in cases {
-        assert_eq!(rt; media_type.to_docker_v2s2()?, expected);
+    for (media_type, expected) in &cases {
+        match media_type.to_docker_v2s2() {
+            Ok(name) => check_text(&rt, name, expected),
+            Err(_) => panic!(rt; "{expected}"),
+        }
     }
     let none: [MediaType; 3] = [
         MediaType::ImageLayer,
@@ -264,63 +259,65 @@ fn check_error_code(
     alloc: Global,
     json: &str,
     text: &str,
-    expected: ErrorCode,
+    expected: &ErrorCode,
 ) -> std::result::Result<(), Fail> {
     match ErrorCode::from_json_name(json) {
-        Some(code) => assert!(rt; code == expected, "{json}"),
+        Some(code) => assert!(rt; code == *expected, "{json}"),
         None => panic!(rt; "{json}"),
     }
-    assert_eq!(rt; expected.json_name(), json);
-    check_made(rt, ErrorCode::from_str(text), &expected, text);
-    check_made(rt, expected.clone(), &expected, text);
+    check_text(rt, expected.json_name(), json);
+    check_made(rt, ErrorCode::from_str(text), expected, text);
+    check_made(rt, expected.clone(), expected, text);
     check_shown(rt, expected.to_string(alloc), text);
-    check_member(rt, alloc, json, &expected)
+    check_member(rt, alloc, json, expected)
 }
+
+/// The codes as JSON writes them, and as they are displayed.
+static ERROR_CODES: [(&str, &str, ErrorCode); 14] = [
+    ("BLOB_UNKNOWN", "BLOB_UNKNOWN", ErrorCode::BlobUnknown),
+    (
+        "BLOB_UPLOAD_INVALID",
+        "BLOB_UPLOAD_INVALID",
+        ErrorCode::BlobUploadInvalid,
+    ),
+    (
+        "BLOB_UPLOAD_UNKNOWN",
+        "BLOB_UPLOAD_UNKNOWN",
+        ErrorCode::BlobUploadUnknown,
+    ),
+    ("DIGEST_INVALID", "DIGEST_INVALID", ErrorCode::DigestInvalid),
+    (
+        "MANIFEST_BLOB_UNKNOWN",
+        "MANIFEST_BLOB_UNKNOWN",
+        ErrorCode::ManifestBlobUnknown,
+    ),
+    (
+        "MANIFEST_INVALID",
+        "MANIFEST_INVALID",
+        ErrorCode::ManifestInvalid,
+    ),
+    (
+        "MANIFEST_UNKNOWN",
+        "MANIFEST_UNKNOWN",
+        ErrorCode::ManifestUnknown,
+    ),
+    ("NAME_INVALID", "NAME_INVALID", ErrorCode::NameInvalid),
+    ("NAME_UNKNOWN", "NAME_UNKNOWN", ErrorCode::NameUnknown),
+    ("SIZE_INVALID", "SIZE_INVALID", ErrorCode::SizeInvalid),
+    ("UNAUTHORIZED", "UNAUTHORIZED", ErrorCode::Unauthorized),
+    ("DENIED", "DENIED", ErrorCode::Denied),
+    ("UNSUPPORTED", "UNSUPPORTED", ErrorCode::Unsupported),
+    (
+        "TOOMANYREQUESTS",
+        "TOO_MANY_REQUESTS",
+        ErrorCode::TooManyRequests,
+    ),
+];
 
 #[test]
 fn error_codes(rt: HostRuntime) -> std::result::Result<(), Fail> {
     let alloc = rt.alloc();
-    let cases: [(&str, &str, ErrorCode); 14] = [
-        ("BLOB_UNKNOWN", "BLOB_UNKNOWN", ErrorCode::BlobUnknown),
-        (
-            "BLOB_UPLOAD_INVALID",
-            "BLOB_UPLOAD_INVALID",
-            ErrorCode::BlobUploadInvalid,
-        ),
-        (
-            "BLOB_UPLOAD_UNKNOWN",
-            "BLOB_UPLOAD_UNKNOWN",
-            ErrorCode::BlobUploadUnknown,
-        ),
-        ("DIGEST_INVALID", "DIGEST_INVALID", ErrorCode::DigestInvalid),
-        (
-            "MANIFEST_BLOB_UNKNOWN",
-            "MANIFEST_BLOB_UNKNOWN",
-            ErrorCode::ManifestBlobUnknown,
-        ),
-        (
-            "MANIFEST_INVALID",
-            "MANIFEST_INVALID",
-            ErrorCode::ManifestInvalid,
-        ),
-        (
-            "MANIFEST_UNKNOWN",
-            "MANIFEST_UNKNOWN",
-            ErrorCode::ManifestUnknown,
-        ),
-        ("NAME_INVALID", "NAME_INVALID", ErrorCode::NameInvalid),
-        ("NAME_UNKNOWN", "NAME_UNKNOWN", ErrorCode::NameUnknown),
-        ("SIZE_INVALID", "SIZE_INVALID", ErrorCode::SizeInvalid),
-        ("UNAUTHORIZED", "UNAUTHORIZED", ErrorCode::Unauthorized),
-        ("DENIED", "DENIED", ErrorCode::Denied),
-        ("UNSUPPORTED", "UNSUPPORTED", ErrorCode::Unsupported),
-        (
-            "TOOMANYREQUESTS",
-            "TOO_MANY_REQUESTS",
-            ErrorCode::TooManyRequests,
-        ),
-    ];
-    for (json, text, expected) in cases {
+    for (json, text, expected) in &ERROR_CODES {
         check_error_code(&rt, alloc, json, text, expected)?;
     }
     Ok(())
@@ -331,10 +328,11 @@ fn refuses_other_error_codes(rt: HostRuntime) -> std::result::Result<(), Fail> {
     let alloc = rt.alloc();
     for text in ["UNKNOWN", "blob_unknown", "TOO_MANY_REQUESTS", ""] {
         assert!(rt; ErrorCode::from_json_name(text).is_none(), "{text}");
-        check_unread::<ErrorCode>(&rt, alloc, Value::String(String::from_str(alloc, text)?))?;
+        check_unread::<ErrorCode>(&rt, alloc, Value::String(String::from_str(alloc, text)?));
     }
     for text in ["UNKNOWN", "denied", "TOOMANYREQUESTS", ""] {
         assert!(rt; ErrorCode::from_str(text) == Err(UnknownName), "{text}");
     }
-    check_unread::<ErrorCode>(&rt, alloc, Value::from(1u64))
+    check_unread::<ErrorCode>(&rt, alloc, Value::from(1u64));
+    Ok(())
 }

@@ -1,3 +1,5 @@
+//! The scanner of references, against a reader that cuts whole texts.
+
 use oci_reference_scan::*;
 use std::process::Abort;
 use std::test::Fail;
