@@ -3,8 +3,8 @@ ghost use Rattle.std.specs.Prelude.{◌≡◌, IfOk, IfErr};
 
 use oci_json_kinds::{Detail, copy_optional_as, optional_as, optional_as_owned, write_optional_as};
 use oci_json_schema::{
-    OciMember, OciRecord, copy_optional, fault, optional, optional_owned, required, required_owned,
-    taken, write_optional, write_required,
+    OciMember, OciRecord, all_3, copy_optional, fault, optional, optional_owned, required,
+    required_owned, taken, write_optional, write_required,
 };
 use oci_text_base::{OciSpecError, Result, UninitializedFieldError};
 use oci_text_names::ErrorCode;
@@ -78,10 +78,15 @@ impl OciRecord for ErrorInfo {
         if !value.is_object() {
             return Err(fault::refused(NAME, ""));
         }
+        let (code, message, detail) = all_3(
+            required(alloc, value, NAME, "code"),
+            optional(alloc, value, NAME, "message"),
+            optional_as::<Detail, String>(alloc, value, NAME, "detail"),
+        )?;
         Ok(ErrorInfo {
-            code: required(alloc, value, NAME, "code")?,
-            message: optional(alloc, value, NAME, "message")?,
-            detail: optional_as::<Detail, String>(alloc, value, NAME, "detail")?,
+            code,
+            message,
+            detail,
         })
     }
 
@@ -95,10 +100,15 @@ impl OciRecord for ErrorInfo {
         else {
             return Err(fault::refused(NAME, ""));
         };
+        let (code, message, detail) = all_3(
+            required_owned(alloc, code, NAME, "code"),
+            optional_owned(alloc, message, NAME, "message"),
+            optional_as_owned::<Detail, String>(alloc, detail, NAME, "detail"),
+        )?;
         Ok(ErrorInfo {
-            code: required_owned(alloc, code, NAME, "code")?,
-            message: optional_owned(alloc, message, NAME, "message")?,
-            detail: optional_as_owned::<Detail, String>(alloc, detail, NAME, "detail")?,
+            code,
+            message,
+            detail,
         })
     }
 
@@ -111,10 +121,15 @@ impl OciRecord for ErrorInfo {
     }
 
     fn duplicate(&self, alloc: Global) -> Result<ErrorInfo> {
+        let (code, message, detail) = all_3(
+            self.code.copy(alloc),
+            copy_optional(&self.message, alloc),
+            copy_optional_as::<Detail, String>(&self.detail, alloc),
+        )?;
         Ok(ErrorInfo {
-            code: self.code.copy(alloc)?,
-            message: copy_optional(&self.message, alloc)?,
-            detail: copy_optional_as::<Detail, String>(&self.detail, alloc)?,
+            code,
+            message,
+            detail,
         })
     }
 

@@ -2,7 +2,7 @@
 ghost use Rattle.std.specs.Prelude.{◌≡◌, IfOk, IfErr};
 
 use oci_json_schema::{
-    OciMember, OciRecord, fault, required, required_owned, taken, write_required,
+    OciMember, OciRecord, all_2, fault, required, required_owned, taken, write_required,
 };
 use oci_text_base::{OciSpecError, Result, UninitializedFieldError};
 use serde_json::{Map, Value};
@@ -80,10 +80,11 @@ impl OciRecord for TagList {
         if !value.is_object() {
             return Err(fault::refused(NAME, ""));
         }
-        Ok(TagList {
-            name: required(alloc, value, NAME, "name")?,
-            tags: required(alloc, value, NAME, "tags")?,
-        })
+        let (name, tags) = all_2(
+            required(alloc, value, NAME, "name"),
+            required(alloc, value, NAME, "tags"),
+        )?;
+        Ok(TagList { name, tags })
     }
 
     #[tactic(auto, using(oci_json_schema::proofs::Readers::refuses_others))]
@@ -91,10 +92,11 @@ impl OciRecord for TagList {
         let Some([name, tags]) = taken::<2>(alloc, value, &["name", "tags"])? else {
             return Err(fault::refused(NAME, ""));
         };
-        Ok(TagList {
-            name: required_owned(alloc, name, NAME, "name")?,
-            tags: required_owned(alloc, tags, NAME, "tags")?,
-        })
+        let (name, tags) = all_2(
+            required_owned(alloc, name, NAME, "name"),
+            required_owned(alloc, tags, NAME, "tags"),
+        )?;
+        Ok(TagList { name, tags })
     }
 
     fn to_value(&self, alloc: Global) -> Result<Value> {
@@ -105,10 +107,8 @@ impl OciRecord for TagList {
     }
 
     fn duplicate(&self, alloc: Global) -> Result<TagList> {
-        Ok(TagList {
-            name: self.name.copy(alloc)?,
-            tags: self.tags.copy(alloc)?,
-        })
+        let (name, tags) = all_2(self.name.copy(alloc), self.tags.copy(alloc))?;
+        Ok(TagList { name, tags })
     }
 
     ghost well_formed = { Prim.search };

@@ -2,21 +2,20 @@
 ghost use Rattle.std.specs.Prelude.{◌≡◌, IfOk, IfErr};
 
 pub mod builder;
+mod calls;
 mod labels;
 
 pub use builder::ImageConfigurationBuilder;
 use oci_image_config_parts::{Config, History, RootFs};
 use oci_json_schema::{
-    OciMember, OciRecord, copy_optional, fault, optional, optional_owned, required, required_owned,
-    taken, write_optional, write_required,
+    OciMember, OciRecord, all_2, all_5, copy_optional, fault, optional, optional_owned, required,
+    required_owned, taken, write_optional, write_required,
 };
 use oci_text_base::{OciSpecError, Result};
 use oci_text_names::{Arch, Os};
 use serde_json::{Map, Value};
 use std::alloc::Global;
 use std::fmt;
-use std::io::{Read, Write};
-use std::rt::Files;
 
 const NAME: &str = "ImageConfiguration";
 
@@ -54,13 +53,7 @@ impl Drop for ImageConfiguration {
 
 impl ImageConfiguration {
     ghost use Rattle.std.specs.Borrow.{sem};
-    ghost use Rattle.std.specs.Prelude.{IfSome, OnOk, ℕ, List, string_bytes};
-    ghost use Rattle.std.specs.Io.KnownBytes.{Appends, Keeps};
-    ghost use Rattle.serde_json.specs.Written.{compact_text};
-    ghost use Rattle.oci_text_base.specs.Refused.{IsSchema, IsJson, IsIo, IsMemoryOrSchema, IsMemorySerDeOrIo, IsMemorySchemaOrIo};
-    ghost use Rattle.oci_json_schema.specs.Value.{value as json_of};
-    ghost use Rattle.oci_json_engines.specs.Engines.{MeansBytes, IsNoJson, IsNoDocument, IsPretty, AppendsSome};
-    ghost use Rattle.oci_image_config.specs.ImageConfiguration.{default_image_configuration, image_configuration_plain, image_configuration, lends_rootfs, lends_history};
+    ghost use Rattle.oci_image_config.specs.ImageConfiguration.{default_image_configuration, image_configuration_plain, lends_rootfs, lends_history};
 
     /// An equal document.
     pub fn clone(&self, alloc: Global) -> Result<ImageConfiguration>
@@ -264,73 +257,6 @@ impl ImageConfiguration {
         self.history = history;
         self
     }
-
-    /// Reads a document of a file, which the runtime opens.
-    pub fn from_file<R: Files>(rt: &R, alloc: Global, path: &str) -> Result<ImageConfiguration>
-        ensures kind { IfErr result IsMemorySerDeOrIo }
-    {
-        oci_json_engines::from_file(rt, alloc, path)
-    }
-
-    /// Reads a document of all that is left to read: `Io` where a read fails, `SerDe` where the bytes are no JSON or no document.
-    pub fn from_reader<R: Read + Drop>(alloc: Global, reader: R) -> Result<ImageConfiguration>
-        ensures ok { IfOk result (λ x. IfSome (R.remaining reader) (λ bytes. MeansBytes image_configuration bytes (image_configuration_plain x))) }
-        ensures json { IfErr result (λ e. IsJson e → IfSome (R.remaining reader) IsNoJson) }
-        ensures schema { IfErr result (λ e. IsSchema e → IfSome (R.remaining reader) (IsNoDocument image_configuration)) }
-        ensures kind { IfErr result IsMemorySerDeOrIo }
-    {
-        oci_json_engines::from_reader(alloc, reader)
-    }
-
-    /// Writes the compact text to a file, which is created or emptied once the text is made.
-    pub fn to_file<R: Files>(&self, rt: &R, alloc: Global, path: &str) -> Result<()>
-        ensures kind { IfErr result IsMemorySchemaOrIo }
-    {
-        oci_json_engines::to_file(rt, self, alloc, path)
-    }
-
-    /// Writes the pretty text to a file, which is created or emptied once the text is made.
-    pub fn to_file_pretty<R: Files>(&self, rt: &R, alloc: Global, path: &str) -> Result<()>
-        ensures kind { IfErr result IsMemorySchemaOrIo }
-    {
-        oci_json_engines::to_file_pretty(rt, self, alloc, path)
-    }
-
-    /// Writes the compact text. After `Io` a beginning of it was written, after `Memory` nothing.
-    pub fn to_writer<W: Write>(&self, alloc: Global, writer: &mut W) -> Result<()>
-        ensures ok { OnOk result (Appends (W.contents writer.old) (W.contents writer.new) (compact_text (json_of image_configuration (image_configuration_plain self.now)))) }
-        ensures begun { IfErr result (λ e. IsIo e → AppendsSome (W.contents writer.old) (W.contents writer.new) (compact_text (json_of image_configuration (image_configuration_plain self.now)))) }
-        ensures unwritten { IfErr result (λ e. ¬ IsIo e → Keeps (W.contents writer.old) (W.contents writer.new)) }
-        ensures kind { IfErr result IsMemorySchemaOrIo }
-    {
-        oci_json_engines::to_writer(self, alloc, writer)
-    }
-
-    /// Writes the pretty text. After `Io` a beginning of it was written, after `Memory` nothing.
-    pub fn to_writer_pretty<W: Write>(&self, alloc: Global, writer: &mut W) -> Result<()>
-        ensures ok { OnOk result ((text : List ℕ) × IsPretty (json_of image_configuration (image_configuration_plain self.now)) text × Appends (W.contents writer.old) (W.contents writer.new) text) }
-        ensures begun { IfErr result (λ e. IsIo e → (text : List ℕ) × IsPretty (json_of image_configuration (image_configuration_plain self.now)) text × AppendsSome (W.contents writer.old) (W.contents writer.new) text) }
-        ensures unwritten { IfErr result (λ e. ¬ IsIo e → Keeps (W.contents writer.old) (W.contents writer.new)) }
-        ensures kind { IfErr result IsMemorySchemaOrIo }
-    {
-        oci_json_engines::to_writer_pretty(self, alloc, writer)
-    }
-
-    /// The compact text.
-    pub fn to_string(&self, alloc: Global) -> Result<String>
-        ensures ok { IfOk result (λ s. string_bytes s ≡ compact_text (json_of image_configuration (image_configuration_plain self.now))) }
-        ensures kind { IfErr result IsMemoryOrSchema }
-    {
-        oci_json_engines::to_string(self, alloc)
-    }
-
-    /// The pretty text: a line a member or item, two spaces a level, no line feed at the end.
-    pub fn to_string_pretty(&self, alloc: Global) -> Result<String>
-        ensures ok { IfOk result (λ s. IsPretty (json_of image_configuration (image_configuration_plain self.now)) (string_bytes s)) }
-        ensures kind { IfErr result IsMemoryOrSchema }
-    {
-        oci_json_engines::to_string_pretty(self, alloc)
-    }
 }
 
 impl fmt::Display for ImageConfiguration {
@@ -366,17 +292,36 @@ impl OciRecord for ImageConfiguration {
         if !value.is_object() {
             return Err(fault::refused(NAME, ""));
         }
+        let (
+            (created, author, architecture, os, os_version),
+            (os_features, variant, config, rootfs, history),
+        ) = all_2(
+            all_5(
+                optional(alloc, value, NAME, "created"),
+                optional(alloc, value, NAME, "author"),
+                required(alloc, value, NAME, "architecture"),
+                required(alloc, value, NAME, "os"),
+                optional(alloc, value, NAME, "os.version"),
+            ),
+            all_5(
+                optional(alloc, value, NAME, "os.features"),
+                optional(alloc, value, NAME, "variant"),
+                optional(alloc, value, NAME, "config"),
+                required(alloc, value, NAME, "rootfs"),
+                optional(alloc, value, NAME, "history"),
+            ),
+        )?;
         Ok(ImageConfiguration {
-            created: optional(alloc, value, NAME, "created")?,
-            author: optional(alloc, value, NAME, "author")?,
-            architecture: required(alloc, value, NAME, "architecture")?,
-            os: required(alloc, value, NAME, "os")?,
-            os_version: optional(alloc, value, NAME, "os.version")?,
-            os_features: optional(alloc, value, NAME, "os.features")?,
-            variant: optional(alloc, value, NAME, "variant")?,
-            config: optional(alloc, value, NAME, "config")?,
-            rootfs: required(alloc, value, NAME, "rootfs")?,
-            history: optional(alloc, value, NAME, "history")?,
+            created,
+            author,
+            architecture,
+            os,
+            os_version,
+            os_features,
+            variant,
+            config,
+            rootfs,
+            history,
         })
     }
 
@@ -444,17 +389,36 @@ impl OciRecord for ImageConfiguration {
     }
 
     fn duplicate(&self, alloc: Global) -> Result<ImageConfiguration> {
+        let (
+            (created, author, architecture, os, os_version),
+            (os_features, variant, config, rootfs, history),
+        ) = all_2(
+            all_5(
+                copy_optional(&self.created, alloc),
+                copy_optional(&self.author, alloc),
+                self.architecture.copy(alloc),
+                self.os.copy(alloc),
+                copy_optional(&self.os_version, alloc),
+            ),
+            all_5(
+                copy_optional(&self.os_features, alloc),
+                copy_optional(&self.variant, alloc),
+                copy_optional(&self.config, alloc),
+                self.rootfs.copy(alloc),
+                copy_optional(&self.history, alloc),
+            ),
+        )?;
         Ok(ImageConfiguration {
-            created: copy_optional(&self.created, alloc)?,
-            author: copy_optional(&self.author, alloc)?,
-            architecture: self.architecture.copy(alloc)?,
-            os: self.os.copy(alloc)?,
-            os_version: copy_optional(&self.os_version, alloc)?,
-            os_features: copy_optional(&self.os_features, alloc)?,
-            variant: copy_optional(&self.variant, alloc)?,
-            config: copy_optional(&self.config, alloc)?,
-            rootfs: self.rootfs.copy(alloc)?,
-            history: copy_optional(&self.history, alloc)?,
+            created,
+            author,
+            architecture,
+            os,
+            os_version,
+            os_features,
+            variant,
+            config,
+            rootfs,
+            history,
         })
     }
 

@@ -1,9 +1,13 @@
 //! What a container of an image runs with (image specification, "Image Configuration", `config`).
 ghost use Rattle.std.specs.Prelude.{◌≡◌, IfOk, IfErr};
 
+pub mod builder;
+
+pub use builder::ConfigBuilder;
 use oci_json_kinds::{Keys, copy_optional_as, optional_as, optional_as_owned, write_optional_as};
 use oci_json_schema::{
-    OciRecord, copy_optional, fault, optional, optional_owned, taken, write_optional,
+    OciRecord, all_2, all_4, all_5, copy_optional, fault, optional, optional_owned, taken,
+    write_optional,
 };
 use oci_text_base::{OciSpecError, Result};
 use serde_json::{Map, Value};
@@ -239,16 +243,34 @@ impl OciRecord for Config {
         if !value.is_object() {
             return Err(fault::refused(NAME, ""));
         }
+        let (
+            (user, exposed_ports, env, entrypoint, cmd),
+            (volumes, working_dir, labels, stop_signal),
+        ) = all_2(
+            all_5(
+                optional(alloc, value, NAME, "User"),
+                optional_as::<Keys, Vec<String>>(alloc, value, NAME, "ExposedPorts"),
+                optional(alloc, value, NAME, "Env"),
+                optional(alloc, value, NAME, "Entrypoint"),
+                optional(alloc, value, NAME, "Cmd"),
+            ),
+            all_4(
+                optional_as::<Keys, Vec<String>>(alloc, value, NAME, "Volumes"),
+                optional(alloc, value, NAME, "WorkingDir"),
+                optional(alloc, value, NAME, "Labels"),
+                optional(alloc, value, NAME, "StopSignal"),
+            ),
+        )?;
         Ok(Config {
-            user: optional(alloc, value, NAME, "User")?,
-            exposed_ports: optional_as::<Keys, Vec<String>>(alloc, value, NAME, "ExposedPorts")?,
-            env: optional(alloc, value, NAME, "Env")?,
-            entrypoint: optional(alloc, value, NAME, "Entrypoint")?,
-            cmd: optional(alloc, value, NAME, "Cmd")?,
-            volumes: optional_as::<Keys, Vec<String>>(alloc, value, NAME, "Volumes")?,
-            working_dir: optional(alloc, value, NAME, "WorkingDir")?,
-            labels: optional(alloc, value, NAME, "Labels")?,
-            stop_signal: optional(alloc, value, NAME, "StopSignal")?,
+            user,
+            exposed_ports,
+            env,
+            entrypoint,
+            cmd,
+            volumes,
+            working_dir,
+            labels,
+            stop_signal,
         })
     }
 
@@ -284,21 +306,34 @@ impl OciRecord for Config {
         else {
             return Err(fault::refused(NAME, ""));
         };
+        let (
+            (user, exposed_ports, env, entrypoint, cmd),
+            (volumes, working_dir, labels, stop_signal),
+        ) = all_2(
+            all_5(
+                optional_owned(alloc, user, NAME, "User"),
+                optional_as_owned::<Keys, Vec<String>>(alloc, exposed_ports, NAME, "ExposedPorts"),
+                optional_owned(alloc, env, NAME, "Env"),
+                optional_owned(alloc, entrypoint, NAME, "Entrypoint"),
+                optional_owned(alloc, cmd, NAME, "Cmd"),
+            ),
+            all_4(
+                optional_as_owned::<Keys, Vec<String>>(alloc, volumes, NAME, "Volumes"),
+                optional_owned(alloc, working_dir, NAME, "WorkingDir"),
+                optional_owned(alloc, labels, NAME, "Labels"),
+                optional_owned(alloc, stop_signal, NAME, "StopSignal"),
+            ),
+        )?;
         Ok(Config {
-            user: optional_owned(alloc, user, NAME, "User")?,
-            exposed_ports: optional_as_owned::<Keys, Vec<String>>(
-                alloc,
-                exposed_ports,
-                NAME,
-                "ExposedPorts",
-            )?,
-            env: optional_owned(alloc, env, NAME, "Env")?,
-            entrypoint: optional_owned(alloc, entrypoint, NAME, "Entrypoint")?,
-            cmd: optional_owned(alloc, cmd, NAME, "Cmd")?,
-            volumes: optional_as_owned::<Keys, Vec<String>>(alloc, volumes, NAME, "Volumes")?,
-            working_dir: optional_owned(alloc, working_dir, NAME, "WorkingDir")?,
-            labels: optional_owned(alloc, labels, NAME, "Labels")?,
-            stop_signal: optional_owned(alloc, stop_signal, NAME, "StopSignal")?,
+            user,
+            exposed_ports,
+            env,
+            entrypoint,
+            cmd,
+            volumes,
+            working_dir,
+            labels,
+            stop_signal,
         })
     }
 
@@ -329,16 +364,34 @@ impl OciRecord for Config {
     }
 
     fn duplicate(&self, alloc: Global) -> Result<Config> {
+        let (
+            (user, exposed_ports, env, entrypoint, cmd),
+            (volumes, working_dir, labels, stop_signal),
+        ) = all_2(
+            all_5(
+                copy_optional(&self.user, alloc),
+                copy_optional_as::<Keys, Vec<String>>(&self.exposed_ports, alloc),
+                copy_optional(&self.env, alloc),
+                copy_optional(&self.entrypoint, alloc),
+                copy_optional(&self.cmd, alloc),
+            ),
+            all_4(
+                copy_optional_as::<Keys, Vec<String>>(&self.volumes, alloc),
+                copy_optional(&self.working_dir, alloc),
+                copy_optional(&self.labels, alloc),
+                copy_optional(&self.stop_signal, alloc),
+            ),
+        )?;
         Ok(Config {
-            user: copy_optional(&self.user, alloc)?,
-            exposed_ports: copy_optional_as::<Keys, Vec<String>>(&self.exposed_ports, alloc)?,
-            env: copy_optional(&self.env, alloc)?,
-            entrypoint: copy_optional(&self.entrypoint, alloc)?,
-            cmd: copy_optional(&self.cmd, alloc)?,
-            volumes: copy_optional_as::<Keys, Vec<String>>(&self.volumes, alloc)?,
-            working_dir: copy_optional(&self.working_dir, alloc)?,
-            labels: copy_optional(&self.labels, alloc)?,
-            stop_signal: copy_optional(&self.stop_signal, alloc)?,
+            user,
+            exposed_ports,
+            env,
+            entrypoint,
+            cmd,
+            volumes,
+            working_dir,
+            labels,
+            stop_signal,
         })
     }
 
@@ -354,130 +407,4 @@ impl OciRecord for Config {
         same_more (same_perhaps same_texts x.working_dir y.working_dir) (
         same_more (same_perhaps (same_maps same_texts) x.labels y.labels) (
         same_last (same_perhaps same_texts x.stop_signal y.stop_signal)))))))))) };
-}
-
-/// Puts a `Config` together.
-#[derive(Debug, Default, Drop)]
-pub struct ConfigBuilder {
-    user: Option<String>,
-    exposed_ports: Option<Vec<String>>,
-    env: Option<Vec<String>>,
-    entrypoint: Option<Vec<String>>,
-    cmd: Option<Vec<String>>,
-    volumes: Option<Vec<String>>,
-    working_dir: Option<String>,
-    labels: Option<BTreeMap<String, String>>,
-    stop_signal: Option<String>,
-}
-
-impl ConfigBuilder {
-    ghost use Rattle.std.specs.Prelude.{Some};
-
-    /// The user, and the group behind a colon, that the container's process runs as.
-    pub fn user(self, user: String) -> Self
-        ensures { result ≡ record self { user = Some user } }
-    {
-        ConfigBuilder {
-            user: Some(user),
-            ..self
-        }
-    }
-
-    /// The ports that a container exposes, as `8080/tcp`.
-    pub fn exposed_ports(self, exposed_ports: Vec<String>) -> Self
-        ensures { result ≡ record self { exposed_ports = Some exposed_ports } }
-    {
-        ConfigBuilder {
-            exposed_ports: Some(exposed_ports),
-            ..self
-        }
-    }
-
-    /// The environment variables, as `NAME=value`.
-    pub fn env(self, env: Vec<String>) -> Self
-        ensures { result ≡ record self { env = Some env } }
-    {
-        ConfigBuilder {
-            env: Some(env),
-            ..self
-        }
-    }
-
-    /// The arguments that start the process, ahead of those of `cmd`.
-    pub fn entrypoint(self, entrypoint: Vec<String>) -> Self
-        ensures { result ≡ record self { entrypoint = Some entrypoint } }
-    {
-        ConfigBuilder {
-            entrypoint: Some(entrypoint),
-            ..self
-        }
-    }
-
-    /// The default arguments of the process.
-    pub fn cmd(self, cmd: Vec<String>) -> Self
-        ensures { result ≡ record self { cmd = Some cmd } }
-    {
-        ConfigBuilder {
-            cmd: Some(cmd),
-            ..self
-        }
-    }
-
-    /// The folders that hold data of the container alone.
-    pub fn volumes(self, volumes: Vec<String>) -> Self
-        ensures { result ≡ record self { volumes = Some volumes } }
-    {
-        ConfigBuilder {
-            volumes: Some(volumes),
-            ..self
-        }
-    }
-
-    /// The folder in which the process starts.
-    pub fn working_dir(self, working_dir: String) -> Self
-        ensures { result ≡ record self { working_dir = Some working_dir } }
-    {
-        ConfigBuilder {
-            working_dir: Some(working_dir),
-            ..self
-        }
-    }
-
-    /// Labels, by their keys.
-    pub fn labels(self, labels: BTreeMap<String, String>) -> Self
-        ensures { result ≡ record self { labels = Some labels } }
-    {
-        ConfigBuilder {
-            labels: Some(labels),
-            ..self
-        }
-    }
-
-    /// The signal that asks the process to end, as `SIGKILL`.
-    pub fn stop_signal(self, stop_signal: String) -> Self
-        ensures { result ≡ record self { stop_signal = Some stop_signal } }
-    {
-        ConfigBuilder {
-            stop_signal: Some(stop_signal),
-            ..self
-        }
-    }
-
-    /// The document of the fields that were set; the others have their defaults.
-    pub fn build(self, _alloc: Global) -> Result<Config>
-        ensures built { IfOk result (λ x. self ≡ record { user = x.user; exposed_ports = x.exposed_ports; env = x.env; entrypoint = x.entrypoint; cmd = x.cmd; volumes = x.volumes; working_dir = x.working_dir; labels = x.labels; stop_signal = x.stop_signal }) }
-        ensures err { IfErr result (λ e. e ≡ OciSpecError.Memory) }
-    {
-        Ok(Config {
-            user: self.user,
-            exposed_ports: self.exposed_ports,
-            env: self.env,
-            entrypoint: self.entrypoint,
-            cmd: self.cmd,
-            volumes: self.volumes,
-            working_dir: self.working_dir,
-            labels: self.labels,
-            stop_signal: self.stop_signal,
-        })
-    }
 }

@@ -2,7 +2,7 @@
 ghost use Rattle.std.specs.Prelude.{◌≡◌, IfOk, IfErr};
 
 use oci_json_schema::{
-    OciRecord, copy_optional, fault, optional, optional_owned, taken, write_optional,
+    OciRecord, all_5, copy_optional, fault, optional, optional_owned, taken, write_optional,
 };
 use oci_text_base::{OciSpecError, Result};
 use serde_json::{Map, Value};
@@ -151,12 +151,19 @@ impl OciRecord for History {
         if !value.is_object() {
             return Err(fault::refused(NAME, ""));
         }
+        let (created, author, created_by, comment, empty_layer) = all_5(
+            optional(alloc, value, NAME, "created"),
+            optional(alloc, value, NAME, "author"),
+            optional(alloc, value, NAME, "created_by"),
+            optional(alloc, value, NAME, "comment"),
+            optional(alloc, value, NAME, "empty_layer"),
+        )?;
         Ok(History {
-            created: optional(alloc, value, NAME, "created")?,
-            author: optional(alloc, value, NAME, "author")?,
-            created_by: optional(alloc, value, NAME, "created_by")?,
-            comment: optional(alloc, value, NAME, "comment")?,
-            empty_layer: optional(alloc, value, NAME, "empty_layer")?,
+            created,
+            author,
+            created_by,
+            comment,
+            empty_layer,
         })
     }
 
@@ -170,12 +177,19 @@ impl OciRecord for History {
         else {
             return Err(fault::refused(NAME, ""));
         };
+        let (created, author, created_by, comment, empty_layer) = all_5(
+            optional_owned(alloc, created, NAME, "created"),
+            optional_owned(alloc, author, NAME, "author"),
+            optional_owned(alloc, created_by, NAME, "created_by"),
+            optional_owned(alloc, comment, NAME, "comment"),
+            optional_owned(alloc, empty_layer, NAME, "empty_layer"),
+        )?;
         Ok(History {
-            created: optional_owned(alloc, created, NAME, "created")?,
-            author: optional_owned(alloc, author, NAME, "author")?,
-            created_by: optional_owned(alloc, created_by, NAME, "created_by")?,
-            comment: optional_owned(alloc, comment, NAME, "comment")?,
-            empty_layer: optional_owned(alloc, empty_layer, NAME, "empty_layer")?,
+            created,
+            author,
+            created_by,
+            comment,
+            empty_layer,
         })
     }
 
@@ -190,12 +204,19 @@ impl OciRecord for History {
     }
 
     fn duplicate(&self, alloc: Global) -> Result<History> {
+        let (created, author, created_by, comment, empty_layer) = all_5(
+            copy_optional(&self.created, alloc),
+            copy_optional(&self.author, alloc),
+            copy_optional(&self.created_by, alloc),
+            copy_optional(&self.comment, alloc),
+            copy_optional(&self.empty_layer, alloc),
+        )?;
         Ok(History {
-            created: copy_optional(&self.created, alloc)?,
-            author: copy_optional(&self.author, alloc)?,
-            created_by: copy_optional(&self.created_by, alloc)?,
-            comment: copy_optional(&self.comment, alloc)?,
-            empty_layer: copy_optional(&self.empty_layer, alloc)?,
+            created,
+            author,
+            created_by,
+            comment,
+            empty_layer,
         })
     }
 

@@ -2,7 +2,7 @@
 ghost use Rattle.std.specs.Prelude.{◌≡◌, IfOk, IfErr};
 
 use oci_json_schema::{
-    OciMember, OciRecord, fault, required, required_owned, taken, write_required,
+    OciMember, OciRecord, all_2, fault, required, required_owned, taken, write_required,
 };
 use oci_text_base::{OciSpecError, Result};
 use serde_json::{Map, Value};
@@ -100,10 +100,11 @@ impl OciRecord for RootFs {
         if !value.is_object() {
             return Err(fault::refused(NAME, ""));
         }
-        Ok(RootFs {
-            typ: required(alloc, value, NAME, "type")?,
-            diff_ids: required(alloc, value, NAME, "diff_ids")?,
-        })
+        let (typ, diff_ids) = all_2(
+            required(alloc, value, NAME, "type"),
+            required(alloc, value, NAME, "diff_ids"),
+        )?;
+        Ok(RootFs { typ, diff_ids })
     }
 
     #[tactic(auto, using(oci_json_schema::proofs::Readers::refuses_others))]
@@ -111,10 +112,11 @@ impl OciRecord for RootFs {
         let Some([typ, diff_ids]) = taken::<2>(alloc, value, &["type", "diff_ids"])? else {
             return Err(fault::refused(NAME, ""));
         };
-        Ok(RootFs {
-            typ: required_owned(alloc, typ, NAME, "type")?,
-            diff_ids: required_owned(alloc, diff_ids, NAME, "diff_ids")?,
-        })
+        let (typ, diff_ids) = all_2(
+            required_owned(alloc, typ, NAME, "type"),
+            required_owned(alloc, diff_ids, NAME, "diff_ids"),
+        )?;
+        Ok(RootFs { typ, diff_ids })
     }
 
     fn to_value(&self, alloc: Global) -> Result<Value> {
@@ -125,10 +127,8 @@ impl OciRecord for RootFs {
     }
 
     fn duplicate(&self, alloc: Global) -> Result<RootFs> {
-        Ok(RootFs {
-            typ: self.typ.copy(alloc)?,
-            diff_ids: self.diff_ids.copy(alloc)?,
-        })
+        let (typ, diff_ids) = all_2(self.typ.copy(alloc), self.diff_ids.copy(alloc))?;
+        Ok(RootFs { typ, diff_ids })
     }
 
     ghost well_formed = { Prim.search };

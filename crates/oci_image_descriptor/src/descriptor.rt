@@ -3,8 +3,8 @@ ghost use Rattle.std.specs.Prelude.{◌≡◌, IfOk, IfErr};
 
 use crate::platform::Platform;
 use oci_json_schema::{
-    OciMember, OciRecord, copy_optional, fault, optional, optional_owned, required, required_owned,
-    split_8, taken, write_optional, write_required,
+    OciMember, OciRecord, all_2, all_4, copy_optional, fault, optional, optional_owned, required,
+    required_owned, split_8, taken, write_optional, write_required,
 };
 use oci_text_base::{OciSpecError, Result, UninitializedFieldError};
 use oci_text_digest::Digest;
@@ -227,15 +227,32 @@ impl OciRecord for Descriptor {
         if !value.is_object() {
             return Err(fault::refused(NAME, ""));
         }
+        let (
+            (media_type, digest, size, urls),
+            (annotations, platform, artifact_type, embedded_data),
+        ) = all_2(
+            all_4(
+                required(alloc, value, NAME, "mediaType"),
+                required(alloc, value, NAME, "digest"),
+                required(alloc, value, NAME, "size"),
+                optional(alloc, value, NAME, "urls"),
+            ),
+            all_4(
+                optional(alloc, value, NAME, "annotations"),
+                optional(alloc, value, NAME, "platform"),
+                optional(alloc, value, NAME, "artifactType"),
+                optional(alloc, value, NAME, "data"),
+            ),
+        )?;
         Ok(Descriptor {
-            media_type: required(alloc, value, NAME, "mediaType")?,
-            digest: required(alloc, value, NAME, "digest")?,
-            size: required(alloc, value, NAME, "size")?,
-            urls: optional(alloc, value, NAME, "urls")?,
-            annotations: optional(alloc, value, NAME, "annotations")?,
-            platform: optional(alloc, value, NAME, "platform")?,
-            artifact_type: optional(alloc, value, NAME, "artifactType")?,
-            embedded_data: optional(alloc, value, NAME, "data")?,
+            media_type,
+            digest,
+            size,
+            urls,
+            annotations,
+            platform,
+            artifact_type,
+            embedded_data,
         })
     }
 
@@ -260,15 +277,32 @@ impl OciRecord for Descriptor {
         };
         let (media_type, digest, size, urls, annotations, platform, artifact_type, embedded_data) =
             split_8(found);
+        let (
+            (media_type, digest, size, urls),
+            (annotations, platform, artifact_type, embedded_data),
+        ) = all_2(
+            all_4(
+                required_owned(alloc, media_type, NAME, "mediaType"),
+                required_owned(alloc, digest, NAME, "digest"),
+                required_owned(alloc, size, NAME, "size"),
+                optional_owned(alloc, urls, NAME, "urls"),
+            ),
+            all_4(
+                optional_owned(alloc, annotations, NAME, "annotations"),
+                optional_owned(alloc, platform, NAME, "platform"),
+                optional_owned(alloc, artifact_type, NAME, "artifactType"),
+                optional_owned(alloc, embedded_data, NAME, "data"),
+            ),
+        )?;
         Ok(Descriptor {
-            media_type: required_owned(alloc, media_type, NAME, "mediaType")?,
-            digest: required_owned(alloc, digest, NAME, "digest")?,
-            size: required_owned(alloc, size, NAME, "size")?,
-            urls: optional_owned(alloc, urls, NAME, "urls")?,
-            annotations: optional_owned(alloc, annotations, NAME, "annotations")?,
-            platform: optional_owned(alloc, platform, NAME, "platform")?,
-            artifact_type: optional_owned(alloc, artifact_type, NAME, "artifactType")?,
-            embedded_data: optional_owned(alloc, embedded_data, NAME, "data")?,
+            media_type,
+            digest,
+            size,
+            urls,
+            annotations,
+            platform,
+            artifact_type,
+            embedded_data,
         })
     }
 
@@ -286,15 +320,32 @@ impl OciRecord for Descriptor {
     }
 
     fn duplicate(&self, alloc: Global) -> Result<Descriptor> {
+        let (
+            (media_type, digest, size, urls),
+            (annotations, platform, artifact_type, embedded_data),
+        ) = all_2(
+            all_4(
+                self.media_type.copy(alloc),
+                self.digest.copy(alloc),
+                self.size.copy(alloc),
+                copy_optional(&self.urls, alloc),
+            ),
+            all_4(
+                copy_optional(&self.annotations, alloc),
+                copy_optional(&self.platform, alloc),
+                copy_optional(&self.artifact_type, alloc),
+                copy_optional(&self.embedded_data, alloc),
+            ),
+        )?;
         Ok(Descriptor {
-            media_type: self.media_type.copy(alloc)?,
-            digest: self.digest.copy(alloc)?,
-            size: self.size.copy(alloc)?,
-            urls: copy_optional(&self.urls, alloc)?,
-            annotations: copy_optional(&self.annotations, alloc)?,
-            platform: copy_optional(&self.platform, alloc)?,
-            artifact_type: copy_optional(&self.artifact_type, alloc)?,
-            embedded_data: copy_optional(&self.embedded_data, alloc)?,
+            media_type,
+            digest,
+            size,
+            urls,
+            annotations,
+            platform,
+            artifact_type,
+            embedded_data,
         })
     }
 

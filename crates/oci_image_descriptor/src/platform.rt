@@ -2,8 +2,9 @@
 ghost use Rattle.std.specs.Prelude.{◌≡◌, IfOk, IfErr};
 
 use oci_json_schema::{
-    OciMember, OciRecord, copy_optional, fault, optional, optional_either, optional_either_owned,
-    optional_owned, required, required_owned, taken, write_optional, write_required,
+    OciMember, OciRecord, all_2, all_3, copy_optional, fault, optional, optional_either,
+    optional_either_owned, optional_owned, required, required_owned, taken, write_optional,
+    write_required,
 };
 use oci_text_base::{OciSpecError, Result, UninitializedFieldError};
 use oci_text_names::{Arch, Os};
@@ -174,13 +175,25 @@ impl OciRecord for Platform {
         if !value.is_object() {
             return Err(fault::refused(NAME, ""));
         }
+        let ((architecture, os, os_version), (os_features, variant, features)) = all_2(
+            all_3(
+                required(alloc, value, NAME, "architecture"),
+                required(alloc, value, NAME, "os"),
+                optional_either(alloc, value, NAME, "os.version", "os_version"),
+            ),
+            all_3(
+                optional_either(alloc, value, NAME, "os.features", "os_features"),
+                optional(alloc, value, NAME, "variant"),
+                optional(alloc, value, NAME, "features"),
+            ),
+        )?;
         Ok(Platform {
-            architecture: required(alloc, value, NAME, "architecture")?,
-            os: required(alloc, value, NAME, "os")?,
-            os_version: optional_either(alloc, value, NAME, "os.version", "os_version")?,
-            os_features: optional_either(alloc, value, NAME, "os.features", "os_features")?,
-            variant: optional(alloc, value, NAME, "variant")?,
-            features: optional(alloc, value, NAME, "features")?,
+            architecture,
+            os,
+            os_version,
+            os_features,
+            variant,
+            features,
         })
     }
 
@@ -214,27 +227,39 @@ impl OciRecord for Platform {
         else {
             return Err(fault::refused(NAME, ""));
         };
+        let ((architecture, os, os_version), (os_features, variant, features)) = all_2(
+            all_3(
+                required_owned(alloc, architecture, NAME, "architecture"),
+                required_owned(alloc, os, NAME, "os"),
+                optional_either_owned(
+                    alloc,
+                    os_version,
+                    other_os_version,
+                    NAME,
+                    "os.version",
+                    "os_version",
+                ),
+            ),
+            all_3(
+                optional_either_owned(
+                    alloc,
+                    os_features,
+                    other_os_features,
+                    NAME,
+                    "os.features",
+                    "os_features",
+                ),
+                optional_owned(alloc, variant, NAME, "variant"),
+                optional_owned(alloc, features, NAME, "features"),
+            ),
+        )?;
         Ok(Platform {
-            architecture: required_owned(alloc, architecture, NAME, "architecture")?,
-            os: required_owned(alloc, os, NAME, "os")?,
-            os_version: optional_either_owned(
-                alloc,
-                os_version,
-                other_os_version,
-                NAME,
-                "os.version",
-                "os_version",
-            )?,
-            os_features: optional_either_owned(
-                alloc,
-                os_features,
-                other_os_features,
-                NAME,
-                "os.features",
-                "os_features",
-            )?,
-            variant: optional_owned(alloc, variant, NAME, "variant")?,
-            features: optional_owned(alloc, features, NAME, "features")?,
+            architecture,
+            os,
+            os_version,
+            os_features,
+            variant,
+            features,
         })
     }
 
@@ -250,13 +275,25 @@ impl OciRecord for Platform {
     }
 
     fn duplicate(&self, alloc: Global) -> Result<Platform> {
+        let ((architecture, os, os_version), (os_features, variant, features)) = all_2(
+            all_3(
+                self.architecture.copy(alloc),
+                self.os.copy(alloc),
+                copy_optional(&self.os_version, alloc),
+            ),
+            all_3(
+                copy_optional(&self.os_features, alloc),
+                copy_optional(&self.variant, alloc),
+                copy_optional(&self.features, alloc),
+            ),
+        )?;
         Ok(Platform {
-            architecture: self.architecture.copy(alloc)?,
-            os: self.os.copy(alloc)?,
-            os_version: copy_optional(&self.os_version, alloc)?,
-            os_features: copy_optional(&self.os_features, alloc)?,
-            variant: copy_optional(&self.variant, alloc)?,
-            features: copy_optional(&self.features, alloc)?,
+            architecture,
+            os,
+            os_version,
+            os_features,
+            variant,
+            features,
         })
     }
 

@@ -3,8 +3,8 @@ ghost use Rattle.std.specs.Prelude.{◌≡◌, IfOk, IfErr};
 
 use oci_image_descriptor::Descriptor;
 use oci_json_schema::{
-    OciMember, OciRecord, copy_optional, fault, optional, optional_owned, required, required_owned,
-    split_6, taken, write_optional, write_required,
+    OciMember, OciRecord, all_2, all_3, copy_optional, fault, optional, optional_owned, required,
+    required_owned, split_6, taken, write_optional, write_required,
 };
 use oci_text_base::{OciSpecError, Result, UninitializedFieldError};
 use oci_text_names::MediaType;
@@ -267,13 +267,26 @@ impl OciRecord for ImageIndex {
         if !value.is_object() {
             return Err(fault::refused(NAME, ""));
         }
+        let ((schema_version, media_type, artifact_type), (manifests, subject, annotations)) =
+            all_2(
+                all_3(
+                    required(alloc, value, NAME, "schemaVersion"),
+                    optional(alloc, value, NAME, "mediaType"),
+                    optional(alloc, value, NAME, "artifactType"),
+                ),
+                all_3(
+                    required(alloc, value, NAME, "manifests"),
+                    optional(alloc, value, NAME, "subject"),
+                    optional(alloc, value, NAME, "annotations"),
+                ),
+            )?;
         Ok(ImageIndex {
-            schema_version: required(alloc, value, NAME, "schemaVersion")?,
-            media_type: optional(alloc, value, NAME, "mediaType")?,
-            artifact_type: optional(alloc, value, NAME, "artifactType")?,
-            manifests: required(alloc, value, NAME, "manifests")?,
-            subject: optional(alloc, value, NAME, "subject")?,
-            annotations: optional(alloc, value, NAME, "annotations")?,
+            schema_version,
+            media_type,
+            artifact_type,
+            manifests,
+            subject,
+            annotations,
         })
     }
 
@@ -297,13 +310,26 @@ impl OciRecord for ImageIndex {
         let (schema_version, media_type, artifact_type, manifests, subject, annotations) = split_6(
             found,
         );
+        let ((schema_version, media_type, artifact_type), (manifests, subject, annotations)) =
+            all_2(
+                all_3(
+                    required_owned(alloc, schema_version, NAME, "schemaVersion"),
+                    optional_owned(alloc, media_type, NAME, "mediaType"),
+                    optional_owned(alloc, artifact_type, NAME, "artifactType"),
+                ),
+                all_3(
+                    required_owned(alloc, manifests, NAME, "manifests"),
+                    optional_owned(alloc, subject, NAME, "subject"),
+                    optional_owned(alloc, annotations, NAME, "annotations"),
+                ),
+            )?;
         Ok(ImageIndex {
-            schema_version: required_owned(alloc, schema_version, NAME, "schemaVersion")?,
-            media_type: optional_owned(alloc, media_type, NAME, "mediaType")?,
-            artifact_type: optional_owned(alloc, artifact_type, NAME, "artifactType")?,
-            manifests: required_owned(alloc, manifests, NAME, "manifests")?,
-            subject: optional_owned(alloc, subject, NAME, "subject")?,
-            annotations: optional_owned(alloc, annotations, NAME, "annotations")?,
+            schema_version,
+            media_type,
+            artifact_type,
+            manifests,
+            subject,
+            annotations,
         })
     }
 
@@ -319,13 +345,26 @@ impl OciRecord for ImageIndex {
     }
 
     fn duplicate(&self, alloc: Global) -> Result<ImageIndex> {
+        let ((schema_version, media_type, artifact_type), (manifests, subject, annotations)) =
+            all_2(
+                all_3(
+                    self.schema_version.copy(alloc),
+                    copy_optional(&self.media_type, alloc),
+                    copy_optional(&self.artifact_type, alloc),
+                ),
+                all_3(
+                    self.manifests.copy(alloc),
+                    copy_optional(&self.subject, alloc),
+                    copy_optional(&self.annotations, alloc),
+                ),
+            )?;
         Ok(ImageIndex {
-            schema_version: self.schema_version.copy(alloc)?,
-            media_type: copy_optional(&self.media_type, alloc)?,
-            artifact_type: copy_optional(&self.artifact_type, alloc)?,
-            manifests: self.manifests.copy(alloc)?,
-            subject: copy_optional(&self.subject, alloc)?,
-            annotations: copy_optional(&self.annotations, alloc)?,
+            schema_version,
+            media_type,
+            artifact_type,
+            manifests,
+            subject,
+            annotations,
         })
     }
 

@@ -1,7 +1,7 @@
--- What the builder of a `ImageManifest` asks for.
+-- What the builder of `ImageManifest` asks for.
 use Rattle.std.specs.Prelude.{ℕ, List, [], ◌∷◌, Option, codes, is_none}
 use Rattle.oci_json_schema.specs.Built.{first_unset}
-use Rattle.oci_image_manifest.specs.declared.image_manifest.ImageManifestBuilder.{ImageManifestBuilder}
+use Rattle.oci_image_manifest.specs.declared.image_manifest.builder.ImageManifestBuilder.{ImageManifestBuilder}
 
 -- the first field that has to be set and is not
 abbrev pub image_manifest_unset : ImageManifestBuilder → Option (List ℕ)

@@ -3,8 +3,8 @@ ghost use Rattle.std.specs.Prelude.{◌≡◌, IfOk, IfErr};
 
 use oci_image_descriptor::Descriptor;
 use oci_json_schema::{
-    OciMember, OciRecord, copy_optional, fault, optional, optional_owned, required, required_owned,
-    split_5, taken, write_optional, write_required,
+    OciMember, OciRecord, all_5, copy_optional, fault, optional, optional_owned, required,
+    required_owned, split_5, taken, write_optional, write_required,
 };
 use oci_text_base::{OciSpecError, Result, UninitializedFieldError};
 use oci_text_names::MediaType;
@@ -226,12 +226,19 @@ impl OciRecord for ArtifactManifest {
         if !value.is_object() {
             return Err(fault::refused(NAME, ""));
         }
+        let (media_type, artifact_type, blobs, subject, annotations) = all_5(
+            required(alloc, value, NAME, "mediaType"),
+            required(alloc, value, NAME, "artifactType"),
+            required(alloc, value, NAME, "blobs"),
+            optional(alloc, value, NAME, "subject"),
+            optional(alloc, value, NAME, "annotations"),
+        )?;
         Ok(ArtifactManifest {
-            media_type: required(alloc, value, NAME, "mediaType")?,
-            artifact_type: required(alloc, value, NAME, "artifactType")?,
-            blobs: required(alloc, value, NAME, "blobs")?,
-            subject: optional(alloc, value, NAME, "subject")?,
-            annotations: optional(alloc, value, NAME, "annotations")?,
+            media_type,
+            artifact_type,
+            blobs,
+            subject,
+            annotations,
         })
     }
 
@@ -252,12 +259,19 @@ impl OciRecord for ArtifactManifest {
             return Err(fault::refused(NAME, ""));
         };
         let (media_type, artifact_type, blobs, subject, annotations) = split_5(found);
+        let (media_type, artifact_type, blobs, subject, annotations) = all_5(
+            required_owned(alloc, media_type, NAME, "mediaType"),
+            required_owned(alloc, artifact_type, NAME, "artifactType"),
+            required_owned(alloc, blobs, NAME, "blobs"),
+            optional_owned(alloc, subject, NAME, "subject"),
+            optional_owned(alloc, annotations, NAME, "annotations"),
+        )?;
         Ok(ArtifactManifest {
-            media_type: required_owned(alloc, media_type, NAME, "mediaType")?,
-            artifact_type: required_owned(alloc, artifact_type, NAME, "artifactType")?,
-            blobs: required_owned(alloc, blobs, NAME, "blobs")?,
-            subject: optional_owned(alloc, subject, NAME, "subject")?,
-            annotations: optional_owned(alloc, annotations, NAME, "annotations")?,
+            media_type,
+            artifact_type,
+            blobs,
+            subject,
+            annotations,
         })
     }
 
@@ -272,12 +286,19 @@ impl OciRecord for ArtifactManifest {
     }
 
     fn duplicate(&self, alloc: Global) -> Result<ArtifactManifest> {
+        let (media_type, artifact_type, blobs, subject, annotations) = all_5(
+            self.media_type.copy(alloc),
+            self.artifact_type.copy(alloc),
+            self.blobs.copy(alloc),
+            copy_optional(&self.subject, alloc),
+            copy_optional(&self.annotations, alloc),
+        )?;
         Ok(ArtifactManifest {
-            media_type: self.media_type.copy(alloc)?,
-            artifact_type: self.artifact_type.copy(alloc)?,
-            blobs: self.blobs.copy(alloc)?,
-            subject: copy_optional(&self.subject, alloc)?,
-            annotations: copy_optional(&self.annotations, alloc)?,
+            media_type,
+            artifact_type,
+            blobs,
+            subject,
+            annotations,
         })
     }
 

@@ -1,12 +1,15 @@
 //! A configuration and layers for one image on one machine (image specification, "Image Manifest").
 ghost use Rattle.std.specs.Prelude.{◌≡◌, IfOk, IfErr};
 
+pub mod builder;
+
+pub use builder::ImageManifestBuilder;
 use oci_image_descriptor::Descriptor;
 use oci_json_schema::{
-    OciMember, OciRecord, copy_optional, fault, optional, optional_owned, required, required_owned,
-    split_7, taken, write_optional, write_required,
+    OciMember, OciRecord, all_2, all_3, all_4, copy_optional, fault, optional, optional_owned,
+    required, required_owned, split_7, taken, write_optional, write_required,
 };
-use oci_text_base::{OciSpecError, Result, UninitializedFieldError};
+use oci_text_base::{OciSpecError, Result};
 use oci_text_names::MediaType;
 use serde_json::{Map, Value};
 use std::alloc::Global;
@@ -287,14 +290,28 @@ impl OciRecord for ImageManifest {
         if !value.is_object() {
             return Err(fault::refused(NAME, ""));
         }
+        let ((schema_version, media_type, artifact_type, config), (layers, subject, annotations)) =
+            all_2(
+                all_4(
+                    required(alloc, value, NAME, "schemaVersion"),
+                    optional(alloc, value, NAME, "mediaType"),
+                    optional(alloc, value, NAME, "artifactType"),
+                    required(alloc, value, NAME, "config"),
+                ),
+                all_3(
+                    required(alloc, value, NAME, "layers"),
+                    optional(alloc, value, NAME, "subject"),
+                    optional(alloc, value, NAME, "annotations"),
+                ),
+            )?;
         Ok(ImageManifest {
-            schema_version: required(alloc, value, NAME, "schemaVersion")?,
-            media_type: optional(alloc, value, NAME, "mediaType")?,
-            artifact_type: optional(alloc, value, NAME, "artifactType")?,
-            config: required(alloc, value, NAME, "config")?,
-            layers: required(alloc, value, NAME, "layers")?,
-            subject: optional(alloc, value, NAME, "subject")?,
-            annotations: optional(alloc, value, NAME, "annotations")?,
+            schema_version,
+            media_type,
+            artifact_type,
+            config,
+            layers,
+            subject,
+            annotations,
         })
     }
 
@@ -318,14 +335,28 @@ impl OciRecord for ImageManifest {
         };
         let (schema_version, media_type, artifact_type, config, layers, subject, annotations) =
             split_7(found);
+        let ((schema_version, media_type, artifact_type, config), (layers, subject, annotations)) =
+            all_2(
+                all_4(
+                    required_owned(alloc, schema_version, NAME, "schemaVersion"),
+                    optional_owned(alloc, media_type, NAME, "mediaType"),
+                    optional_owned(alloc, artifact_type, NAME, "artifactType"),
+                    required_owned(alloc, config, NAME, "config"),
+                ),
+                all_3(
+                    required_owned(alloc, layers, NAME, "layers"),
+                    optional_owned(alloc, subject, NAME, "subject"),
+                    optional_owned(alloc, annotations, NAME, "annotations"),
+                ),
+            )?;
         Ok(ImageManifest {
-            schema_version: required_owned(alloc, schema_version, NAME, "schemaVersion")?,
-            media_type: optional_owned(alloc, media_type, NAME, "mediaType")?,
-            artifact_type: optional_owned(alloc, artifact_type, NAME, "artifactType")?,
-            config: required_owned(alloc, config, NAME, "config")?,
-            layers: required_owned(alloc, layers, NAME, "layers")?,
-            subject: optional_owned(alloc, subject, NAME, "subject")?,
-            annotations: optional_owned(alloc, annotations, NAME, "annotations")?,
+            schema_version,
+            media_type,
+            artifact_type,
+            config,
+            layers,
+            subject,
+            annotations,
         })
     }
 
@@ -342,14 +373,28 @@ impl OciRecord for ImageManifest {
     }
 
     fn duplicate(&self, alloc: Global) -> Result<ImageManifest> {
+        let ((schema_version, media_type, artifact_type, config), (layers, subject, annotations)) =
+            all_2(
+                all_4(
+                    self.schema_version.copy(alloc),
+                    copy_optional(&self.media_type, alloc),
+                    copy_optional(&self.artifact_type, alloc),
+                    self.config.copy(alloc),
+                ),
+                all_3(
+                    self.layers.copy(alloc),
+                    copy_optional(&self.subject, alloc),
+                    copy_optional(&self.annotations, alloc),
+                ),
+            )?;
         Ok(ImageManifest {
-            schema_version: self.schema_version.copy(alloc)?,
-            media_type: copy_optional(&self.media_type, alloc)?,
-            artifact_type: copy_optional(&self.artifact_type, alloc)?,
-            config: self.config.copy(alloc)?,
-            layers: self.layers.copy(alloc)?,
-            subject: copy_optional(&self.subject, alloc)?,
-            annotations: copy_optional(&self.annotations, alloc)?,
+            schema_version,
+            media_type,
+            artifact_type,
+            config,
+            layers,
+            subject,
+            annotations,
         })
     }
 
@@ -363,126 +408,4 @@ impl OciRecord for ImageManifest {
         same_more (same_given (same_lists descriptor_same) x.layers y.layers) (
         same_more (same_perhaps descriptor_same x.subject y.subject) (
         same_last (same_perhaps (same_maps same_texts) x.annotations y.annotations)))))))) };
-}
-
-/// Puts an `ImageManifest` together.
-#[derive(Debug, Default, Drop)]
-pub struct ImageManifestBuilder {
-    schema_version: Option<u32>,
-    media_type: Option<MediaType>,
-    artifact_type: Option<MediaType>,
-    config: Option<Descriptor>,
-    layers: Option<Vec<Descriptor>>,
-    subject: Option<Descriptor>,
-    annotations: Option<BTreeMap<String, String>>,
-}
-
-impl ImageManifestBuilder {
-    ghost use Rattle.std.specs.Prelude.{Some};
-    ghost use Rattle.oci_json_schema.specs.Built.{IsUnset};
-    ghost use Rattle.oci_image_manifest.specs.ImageManifestBuilder.{image_manifest_unset};
-
-    /// The version of the manifest's schema, which is 2.
-    pub fn schema_version(self, schema_version: u32) -> Self
-        ensures { result ≡ record self { schema_version = Some schema_version } }
-    {
-        ImageManifestBuilder {
-            schema_version: Some(schema_version),
-            ..self
-        }
-    }
-
-    /// The media type of the manifest itself.
-    pub fn media_type(self, media_type: MediaType) -> Self
-        ensures { result ≡ record self { media_type = Some media_type } }
-    {
-        ImageManifestBuilder {
-            media_type: Some(media_type),
-            ..self
-        }
-    }
-
-    /// The type of the artifact, where the manifest is used for one.
-    pub fn artifact_type(self, artifact_type: MediaType) -> Self
-        ensures { result ≡ record self { artifact_type = Some artifact_type } }
-    {
-        ImageManifestBuilder {
-            artifact_type: Some(artifact_type),
-            ..self
-        }
-    }
-
-    /// The descriptor of the configuration.
-    pub fn config(self, config: Descriptor) -> Self
-        ensures { result ≡ record self { config = Some config } }
-    {
-        ImageManifestBuilder {
-            config: Some(config),
-            ..self
-        }
-    }
-
-    /// The descriptors of the layers, the base layer first.
-    pub fn layers(self, layers: Vec<Descriptor>) -> Self
-        ensures { result ≡ record self { layers = Some layers } }
-    {
-        ImageManifestBuilder {
-            layers: Some(layers),
-            ..self
-        }
-    }
-
-    /// The descriptor of another manifest, to which this one is related.
-    pub fn subject(self, subject: Descriptor) -> Self
-        ensures { result ≡ record self { subject = Some subject } }
-    {
-        ImageManifestBuilder {
-            subject: Some(subject),
-            ..self
-        }
-    }
-
-    /// Annotations, by their keys.
-    pub fn annotations(self, annotations: BTreeMap<String, String>) -> Self
-        ensures { result ≡ record self { annotations = Some annotations } }
-    {
-        ImageManifestBuilder {
-            annotations: Some(annotations),
-            ..self
-        }
-    }
-
-    /// The document of the fields that were set; else `Builder` with the first field that has to be set and is not.
-    pub fn build(self, _alloc: Global) -> Result<ImageManifest>
-        ensures built { IfOk result (λ x. self ≡ record { schema_version = Some x.schema_version; media_type = x.media_type; artifact_type = x.artifact_type; config = Some x.config; layers = Some x.layers; subject = x.subject; annotations = x.annotations }) }
-        ensures unset { IfErr result (λ e. IsUnset (image_manifest_unset self) e) }
-    {
-        let ImageManifestBuilder {
-            schema_version,
-            media_type,
-            artifact_type,
-            config,
-            layers,
-            subject,
-            annotations,
-        } = self;
-        let Some(schema_version) = schema_version else {
-            return Err(UninitializedFieldError::new("schema_version").into());
-        };
-        let Some(config) = config else {
-            return Err(UninitializedFieldError::new("config").into());
-        };
-        let Some(layers) = layers else {
-            return Err(UninitializedFieldError::new("layers").into());
-        };
-        Ok(ImageManifest {
-            schema_version,
-            media_type,
-            artifact_type,
-            config,
-            layers,
-            subject,
-            annotations,
-        })
-    }
 }

@@ -1,6 +1,7 @@
 //! The model of documents, what a document type can do, and the readers and writers of a record's members.
 #![tactic(auto)]
 
+pub mod all;
 pub mod fault;
 pub mod list;
 pub mod map;
@@ -12,6 +13,7 @@ pub mod split;
 pub mod text;
 pub mod truth;
 
+pub use all::{all_2, all_3, all_4, all_5};
 pub use member::{
     copy_optional, optional, optional_either, required, write_optional, write_required,
 };

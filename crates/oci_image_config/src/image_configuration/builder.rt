@@ -1,4 +1,4 @@
-//! The builder of image configurations.
+//! The builder of `ImageConfiguration`.
 ghost use Rattle.std.specs.Prelude.{◌≡◌, IfOk, IfErr};
 
 use crate::image_configuration::ImageConfiguration;
