@@ -114,9 +114,11 @@ impl OciRecord for ErrorInfo {
 
     fn to_value(&self, alloc: Global) -> Result<Value> {
         let mut members = Map::new(alloc);
-        write_required(&mut members, alloc, "code", &self.code)?;
-        write_optional(&mut members, alloc, "message", &self.message)?;
-        write_optional_as::<Detail, String>(&mut members, alloc, NAME, "detail", &self.detail)?;
+        all_3(
+            write_required(&mut members, alloc, "code", &self.code),
+            write_optional(&mut members, alloc, "message", &self.message),
+            write_optional_as::<Detail, String>(&mut members, alloc, NAME, "detail", &self.detail),
+        )?;
         Ok(Value::Object(members))
     }
 

@@ -101,8 +101,10 @@ impl OciRecord for TagList {
 
     fn to_value(&self, alloc: Global) -> Result<Value> {
         let mut members = Map::new(alloc);
-        write_required(&mut members, alloc, "name", &self.name)?;
-        write_required(&mut members, alloc, "tags", &self.tags)?;
+        all_2(
+            write_required(&mut members, alloc, "name", &self.name),
+            write_required(&mut members, alloc, "tags", &self.tags),
+        )?;
         Ok(Value::Object(members))
     }
 

@@ -359,32 +359,57 @@ impl OciRecord for ImageConfiguration {
         else {
             return Err(fault::refused(NAME, ""));
         };
+        let (
+            (created, author, architecture, os, os_version),
+            (os_features, variant, config, rootfs, history),
+        ) = all_2(
+            all_5(
+                optional_owned(alloc, created, NAME, "created"),
+                optional_owned(alloc, author, NAME, "author"),
+                required_owned(alloc, architecture, NAME, "architecture"),
+                required_owned(alloc, os, NAME, "os"),
+                optional_owned(alloc, os_version, NAME, "os.version"),
+            ),
+            all_5(
+                optional_owned(alloc, os_features, NAME, "os.features"),
+                optional_owned(alloc, variant, NAME, "variant"),
+                optional_owned(alloc, config, NAME, "config"),
+                required_owned(alloc, rootfs, NAME, "rootfs"),
+                optional_owned(alloc, history, NAME, "history"),
+            ),
+        )?;
         Ok(ImageConfiguration {
-            created: optional_owned(alloc, created, NAME, "created")?,
-            author: optional_owned(alloc, author, NAME, "author")?,
-            architecture: required_owned(alloc, architecture, NAME, "architecture")?,
-            os: required_owned(alloc, os, NAME, "os")?,
-            os_version: optional_owned(alloc, os_version, NAME, "os.version")?,
-            os_features: optional_owned(alloc, os_features, NAME, "os.features")?,
-            variant: optional_owned(alloc, variant, NAME, "variant")?,
-            config: optional_owned(alloc, config, NAME, "config")?,
-            rootfs: required_owned(alloc, rootfs, NAME, "rootfs")?,
-            history: optional_owned(alloc, history, NAME, "history")?,
+            created,
+            author,
+            architecture,
+            os,
+            os_version,
+            os_features,
+            variant,
+            config,
+            rootfs,
+            history,
         })
     }
 
     fn to_value(&self, alloc: Global) -> Result<Value> {
         let mut members = Map::new(alloc);
-        write_optional(&mut members, alloc, "created", &self.created)?;
-        write_optional(&mut members, alloc, "author", &self.author)?;
-        write_required(&mut members, alloc, "architecture", &self.architecture)?;
-        write_required(&mut members, alloc, "os", &self.os)?;
-        write_optional(&mut members, alloc, "os.version", &self.os_version)?;
-        write_optional(&mut members, alloc, "os.features", &self.os_features)?;
-        write_optional(&mut members, alloc, "variant", &self.variant)?;
-        write_optional(&mut members, alloc, "config", &self.config)?;
-        write_required(&mut members, alloc, "rootfs", &self.rootfs)?;
-        write_optional(&mut members, alloc, "history", &self.history)?;
+        all_2(
+            all_5(
+                write_optional(&mut members, alloc, "created", &self.created),
+                write_optional(&mut members, alloc, "author", &self.author),
+                write_required(&mut members, alloc, "architecture", &self.architecture),
+                write_required(&mut members, alloc, "os", &self.os),
+                write_optional(&mut members, alloc, "os.version", &self.os_version),
+            ),
+            all_5(
+                write_optional(&mut members, alloc, "os.features", &self.os_features),
+                write_optional(&mut members, alloc, "variant", &self.variant),
+                write_optional(&mut members, alloc, "config", &self.config),
+                write_required(&mut members, alloc, "rootfs", &self.rootfs),
+                write_optional(&mut members, alloc, "history", &self.history),
+            ),
+        )?;
         Ok(Value::Object(members))
     }
 

@@ -339,27 +339,33 @@ impl OciRecord for Config {
 
     fn to_value(&self, alloc: Global) -> Result<Value> {
         let mut members = Map::new(alloc);
-        write_optional(&mut members, alloc, "User", &self.user)?;
-        write_optional_as::<Keys, Vec<String>>(
-            &mut members,
-            alloc,
-            NAME,
-            "ExposedPorts",
-            &self.exposed_ports,
+        all_2(
+            all_5(
+                write_optional(&mut members, alloc, "User", &self.user),
+                write_optional_as::<Keys, Vec<String>>(
+                    &mut members,
+                    alloc,
+                    NAME,
+                    "ExposedPorts",
+                    &self.exposed_ports,
+                ),
+                write_optional(&mut members, alloc, "Env", &self.env),
+                write_optional(&mut members, alloc, "Entrypoint", &self.entrypoint),
+                write_optional(&mut members, alloc, "Cmd", &self.cmd),
+            ),
+            all_4(
+                write_optional_as::<Keys, Vec<String>>(
+                    &mut members,
+                    alloc,
+                    NAME,
+                    "Volumes",
+                    &self.volumes,
+                ),
+                write_optional(&mut members, alloc, "WorkingDir", &self.working_dir),
+                write_optional(&mut members, alloc, "Labels", &self.labels),
+                write_optional(&mut members, alloc, "StopSignal", &self.stop_signal),
+            ),
         )?;
-        write_optional(&mut members, alloc, "Env", &self.env)?;
-        write_optional(&mut members, alloc, "Entrypoint", &self.entrypoint)?;
-        write_optional(&mut members, alloc, "Cmd", &self.cmd)?;
-        write_optional_as::<Keys, Vec<String>>(
-            &mut members,
-            alloc,
-            NAME,
-            "Volumes",
-            &self.volumes,
-        )?;
-        write_optional(&mut members, alloc, "WorkingDir", &self.working_dir)?;
-        write_optional(&mut members, alloc, "Labels", &self.labels)?;
-        write_optional(&mut members, alloc, "StopSignal", &self.stop_signal)?;
         Ok(Value::Object(members))
     }
 

@@ -195,11 +195,13 @@ impl OciRecord for History {
 
     fn to_value(&self, alloc: Global) -> Result<Value> {
         let mut members = Map::new(alloc);
-        write_optional(&mut members, alloc, "created", &self.created)?;
-        write_optional(&mut members, alloc, "author", &self.author)?;
-        write_optional(&mut members, alloc, "created_by", &self.created_by)?;
-        write_optional(&mut members, alloc, "comment", &self.comment)?;
-        write_optional(&mut members, alloc, "empty_layer", &self.empty_layer)?;
+        all_5(
+            write_optional(&mut members, alloc, "created", &self.created),
+            write_optional(&mut members, alloc, "author", &self.author),
+            write_optional(&mut members, alloc, "created_by", &self.created_by),
+            write_optional(&mut members, alloc, "comment", &self.comment),
+            write_optional(&mut members, alloc, "empty_layer", &self.empty_layer),
+        )?;
         Ok(Value::Object(members))
     }
 

@@ -121,8 +121,10 @@ impl OciRecord for RootFs {
 
     fn to_value(&self, alloc: Global) -> Result<Value> {
         let mut members = Map::new(alloc);
-        write_required(&mut members, alloc, "type", &self.typ)?;
-        write_required(&mut members, alloc, "diff_ids", &self.diff_ids)?;
+        all_2(
+            write_required(&mut members, alloc, "type", &self.typ),
+            write_required(&mut members, alloc, "diff_ids", &self.diff_ids),
+        )?;
         Ok(Value::Object(members))
     }
 

@@ -265,12 +265,18 @@ impl OciRecord for Platform {
 
     fn to_value(&self, alloc: Global) -> Result<Value> {
         let mut members = Map::new(alloc);
-        write_required(&mut members, alloc, "architecture", &self.architecture)?;
-        write_required(&mut members, alloc, "os", &self.os)?;
-        write_optional(&mut members, alloc, "os.version", &self.os_version)?;
-        write_optional(&mut members, alloc, "os.features", &self.os_features)?;
-        write_optional(&mut members, alloc, "variant", &self.variant)?;
-        write_optional(&mut members, alloc, "features", &self.features)?;
+        all_2(
+            all_3(
+                write_required(&mut members, alloc, "architecture", &self.architecture),
+                write_required(&mut members, alloc, "os", &self.os),
+                write_optional(&mut members, alloc, "os.version", &self.os_version),
+            ),
+            all_3(
+                write_optional(&mut members, alloc, "os.features", &self.os_features),
+                write_optional(&mut members, alloc, "variant", &self.variant),
+                write_optional(&mut members, alloc, "features", &self.features),
+            ),
+        )?;
         Ok(Value::Object(members))
     }
 

@@ -335,12 +335,18 @@ impl OciRecord for ImageIndex {
 
     fn to_value(&self, alloc: Global) -> Result<Value> {
         let mut members = Map::new(alloc);
-        write_required(&mut members, alloc, "schemaVersion", &self.schema_version)?;
-        write_optional(&mut members, alloc, "mediaType", &self.media_type)?;
-        write_optional(&mut members, alloc, "artifactType", &self.artifact_type)?;
-        write_required(&mut members, alloc, "manifests", &self.manifests)?;
-        write_optional(&mut members, alloc, "subject", &self.subject)?;
-        write_optional(&mut members, alloc, "annotations", &self.annotations)?;
+        all_2(
+            all_3(
+                write_required(&mut members, alloc, "schemaVersion", &self.schema_version),
+                write_optional(&mut members, alloc, "mediaType", &self.media_type),
+                write_optional(&mut members, alloc, "artifactType", &self.artifact_type),
+            ),
+            all_3(
+                write_required(&mut members, alloc, "manifests", &self.manifests),
+                write_optional(&mut members, alloc, "subject", &self.subject),
+                write_optional(&mut members, alloc, "annotations", &self.annotations),
+            ),
+        )?;
         Ok(Value::Object(members))
     }
 

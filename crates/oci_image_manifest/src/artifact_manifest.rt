@@ -277,11 +277,13 @@ impl OciRecord for ArtifactManifest {
 
     fn to_value(&self, alloc: Global) -> Result<Value> {
         let mut members = Map::new(alloc);
-        write_required(&mut members, alloc, "mediaType", &self.media_type)?;
-        write_required(&mut members, alloc, "artifactType", &self.artifact_type)?;
-        write_required(&mut members, alloc, "blobs", &self.blobs)?;
-        write_optional(&mut members, alloc, "subject", &self.subject)?;
-        write_optional(&mut members, alloc, "annotations", &self.annotations)?;
+        all_5(
+            write_required(&mut members, alloc, "mediaType", &self.media_type),
+            write_required(&mut members, alloc, "artifactType", &self.artifact_type),
+            write_required(&mut members, alloc, "blobs", &self.blobs),
+            write_optional(&mut members, alloc, "subject", &self.subject),
+            write_optional(&mut members, alloc, "annotations", &self.annotations),
+        )?;
         Ok(Value::Object(members))
     }
 

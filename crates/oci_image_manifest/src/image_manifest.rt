@@ -362,13 +362,19 @@ impl OciRecord for ImageManifest {
 
     fn to_value(&self, alloc: Global) -> Result<Value> {
         let mut members = Map::new(alloc);
-        write_required(&mut members, alloc, "schemaVersion", &self.schema_version)?;
-        write_optional(&mut members, alloc, "mediaType", &self.media_type)?;
-        write_optional(&mut members, alloc, "artifactType", &self.artifact_type)?;
-        write_required(&mut members, alloc, "config", &self.config)?;
-        write_required(&mut members, alloc, "layers", &self.layers)?;
-        write_optional(&mut members, alloc, "subject", &self.subject)?;
-        write_optional(&mut members, alloc, "annotations", &self.annotations)?;
+        all_2(
+            all_4(
+                write_required(&mut members, alloc, "schemaVersion", &self.schema_version),
+                write_optional(&mut members, alloc, "mediaType", &self.media_type),
+                write_optional(&mut members, alloc, "artifactType", &self.artifact_type),
+                write_required(&mut members, alloc, "config", &self.config),
+            ),
+            all_3(
+                write_required(&mut members, alloc, "layers", &self.layers),
+                write_optional(&mut members, alloc, "subject", &self.subject),
+                write_optional(&mut members, alloc, "annotations", &self.annotations),
+            ),
+        )?;
         Ok(Value::Object(members))
     }
 

@@ -4,4 +4,5 @@ pub mod Maps
 pub mod NoFloat
 pub mod Readers
 pub mod Removed
+pub mod Together
 pub mod Writers

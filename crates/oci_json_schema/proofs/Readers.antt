@@ -2,10 +2,6 @@
 use Rattle.std.proofs.Common.{◌≡◌, List, ℕ, ℤ, pos, arith, Option, Some, None, is_some, Bool, cond, bytes_eq, refl, ◌∙◌, sym, subst, true, false, true≢false}
 use Rattle.std.specs.Prelude.{⊤, if◌then◌else◌, ◌≤ℤ◌, ◌<ℤ◌, ◌+ℤ◌}
 use Rattle.std.proofs.lemmas.Int.{ints}
-use Rattle.std.proofs.Common.{Result, Ok, Err}
-use Rattle.std.specs.Result.{IfErr, IsErrAnd}
-use Rattle.oci_text_base.specs.Refused.{IsSchema, IsMemoryOrSchema}
-use Rattle.oci_text_base.specs.declared.error.OciSpecError.{OciSpecError}
 use Rattle.std.proofs.lemmas.Slice.Eq.{bytes_eq-Decides}
 use Rattle.serde_json.specs.Data.{Data, null, boolean, number, string, array, object}
 use Rattle.serde_json.specs.Find.{get, as_bool, as_str, as_null}
@@ -199,17 +195,6 @@ unfolding IsRefused
 not_digest t d e out p m =
     let same : m.0 ≡ t = (let k = e ∙ m.1 in cc) in
     out (subst IsDigestText same m.3)
-
--- ---- at the exit of a `?`, where a tactic does not find its way
-
-pub exit : {T : Type 0} (r : Result T OciSpecError) (e : OciSpecError) (name : List ℕ) (listed : Listing) (rs : Rows) (d : Data) → IsErrAnd r (λ y. y ≡ e)
-    → (IsSchema e → RefusesRecords name listed d) → listing name rs ≡ Some listed → IfErr r (λ y. IsSchema y → IsRefused (rows rs) d)
-exit (Ok x) e name listed rs d is told found = tt
-exit (Err y) e name listed rs d is told found = λ h. let same : y ≡ e = is in told (subst IsSchema same h) rs found
-
-pub exit_kind : {T : Type 0} (r : Result T OciSpecError) (e : OciSpecError) → IsErrAnd r (λ y. y ≡ e) → IsMemoryOrSchema e → IfErr r IsMemoryOrSchema
-exit_kind (Ok x) e is kind = tt
-exit_kind (Err y) e is kind = let same : y ≡ e = is in subst IsMemoryOrSchema (sym same) kind
 
 pub optional_found_means : (M : Data → Plain → Type 0) (found other : Option Data) (x : Slot) → found ≡ other → MeansMember optional M found x → MeansMember optional M other x
 optional_found_means M found other x e m = subst (λ o. MeansMember optional M o x) e m

@@ -1,4 +1,4 @@
-//! The answers for all members of a record put together, so that a reading or a copy of it has one exit and not one a member.
+//! The answers for all members of a record put together, so that a reading, a copy or a writing of it has one exit and not one a member.
 ghost use Rattle.std.specs.Prelude.{◌≡◌, ◌⊎◌, Ok, Err, IfOk, IfErr, IsOk};
 
 use oci_text_base::Result;
