@@ -1,66 +1,90 @@
 use oci_reference::*;
-use std::alloc::{AllocError, Global};
+use std::alloc::Global;
 use std::collections::HashSet;
+use std::fmt::Debug;
 use std::process::Abort;
-use std::test::Fail;
 
 mod record;
 mod rows;
 mod scanner;
 
+/// A value is what was expected.
+fn check_is<T: PartialEq + Debug>(rt: &impl Abort, found: &T, expected: &T) {
+    assert_eq!(rt; found, expected);
+}
+
+/// A text is what was expected.
+fn check_text(rt: &impl Abort, found: &str, expected: &str) {
+    check_is(rt, &found, &expected);
+}
+
 /// Registry, repository, tag, digest, namespace, the registry that is asked, and the whole text.
-fn described(alloc: Global, reference: &Reference) -> Result<String, AllocError> {
+fn described(rt: &impl Abort, alloc: Global, reference: &Reference) -> String {
     let registry = reference.registry();
     let repository = reference.repository();
     let tag = reference.tag().unwrap_or("-");
     let digest = reference.digest().unwrap_or("-");
     let namespace = reference.namespace().unwrap_or("-");
     let asked = reference.resolve_registry();
-    format!(in alloc; "{registry} {repository} {tag} {digest} {namespace} {asked} {reference}")
+    let line = format!(in alloc;
+        "{registry} {repository} {tag} {digest} {namespace} {asked} {reference}"
+    );
+    line.expect(rt, "memory")
 }
 
-fn answered(alloc: Global, found: Result<Reference, ParseError>) -> Result<String, ParseError> {
-    let reference = found?;
-    let line = described(alloc, &reference)?;
-    Ok(line)
+/// A reference, as `described` shows it.
+fn check_line(rt: &impl Abort, alloc: Global, reference: &Reference, line: &str) {
+    check_text(rt, &described(rt, alloc, reference), line);
 }
 
+/// A reference is what was expected, or is refused so.
 fn check_answer(
     rt: &impl Abort,
-    found: Result<String, ParseError>,
+    alloc: Global,
+    found: Result<Reference, ParseError>,
     answer: Result<&str, ParseError>,
 ) {
     match found {
-        Ok(line) => assert!(rt; Ok(line.as_str()) == answer, "{line}"),
-        Err(error) => assert!(rt; Err(error) == answer, "{error}"),
+        Ok(reference) => {
+            let line = described(rt, alloc, &reference);
+            check_is(rt, &Ok(line.as_str()), &answer);
+        }
+        Err(error) => check_is(rt, &Err(error), &answer),
     }
+}
+
+fn owned(rt: &impl Abort, alloc: Global, text: &str) -> String {
+    String::from_str(alloc, text).expect(rt, "memory")
+}
+
+fn read(rt: &impl Abort, alloc: Global, text: &str) -> Reference {
+    Reference::from_str(alloc, text).expect(rt, text)
 }
 
 #[test]
-fn texts(rt: HostRuntime) -> Result<(), Fail> {
+fn texts(rt: HostRuntime) {
+    let alloc = rt.alloc();
     for (text, answer) in &rows::ROWS {
-        let owned = String::from_str(rt.alloc(), text)?;
-        let lent = Reference::from_str(rt.alloc(), text);
-        check_answer(&rt, answered(rt.alloc(), lent), *answer);
-        let read = Reference::try_from(owned);
-        check_answer(&rt, answered(rt.alloc(), read), *answer);
+        check_answer(&rt, alloc, Reference::from_str(alloc, text), *answer);
+        let read = Reference::try_from(owned(&rt, alloc, text));
+        check_answer(&rt, alloc, read, *answer);
     }
-    Ok(())
 }
 
 fn repeated(
+    rt: &impl Abort,
     alloc: Global,
     front: &str,
     part: &str,
     count: u32,
     end: &str,
-) -> Result<String, AllocError> {
-    let mut text = String::from_str(alloc, front)?;
+) -> String {
+    let mut text = owned(rt, alloc, front);
     for _ in 0..count {
-        text.push_str(part)?;
+        text.push_str(part).expect(rt, "memory");
     }
-    text.push_str(end)?;
-    Ok(text)
+    text.push_str(end).expect(rt, "memory");
+    text
 }
 
 /// A front, how many times a part follows, and an end; and the length of the repository, or the refusal.
@@ -103,140 +127,113 @@ fn repository_length(alloc: Global, text: &str) -> Result<usize, ParseError> {
 }
 
 #[test]
-fn lengths(rt: HostRuntime) -> Result<(), Fail> {
+fn lengths(rt: HostRuntime) {
+    let alloc = rt.alloc();
     for (front, part, count, end, answer) in &LENGTHS {
-        let text = repeated(rt.alloc(), front, part, *count, end)?;
-        assert!(rt;
-            repository_length(rt.alloc(), text.as_str()) == *answer,
-            "{front} {count}"
-        );
+        let text = repeated(&rt, alloc, front, part, *count, end);
+        check_is(&rt, &repository_length(alloc, text.as_str()), answer);
     }
-    Ok(())
 }
 
-fn of_busybox(alloc: Global) -> Result<usize, ParseError> {
+fn of_busybox(rt: &impl Abort, alloc: Global) -> usize {
     let mut images = HashSet::new(alloc);
     for text in rows::SPELLINGS {
-        match images.insert(Reference::from_str(alloc, text)?) {
-            Ok(_) => {}
-            Err(_) => return Err(ParseError::Memory),
-        }
+        images.insert(read(rt, alloc, text)).expect(rt, "memory");
     }
-    Ok(images.len())
+    images.len()
+}
+
+fn check_equal(rt: &impl Abort, alloc: Global, text: &str, other: &str) {
+    check_is(rt, &read(rt, alloc, text), &read(rt, alloc, other));
 }
 
 #[test]
 fn spellings_of_one_image(rt: HostRuntime) {
+    let alloc = rt.alloc();
     for text in rows::SPELLINGS {
-        let read = Reference::from_str(rt.alloc(), text);
-        check_answer(&rt, answered(rt.alloc(), read), Ok(rows::BUSYBOX));
-        assert!(rt;
-            are_equal(rt.alloc(), "busybox", text) == Ok(true),
-            "{text}"
-        );
+        check_line(&rt, alloc, &read(&rt, alloc, text), rows::BUSYBOX);
+        check_equal(&rt, alloc, "busybox", text);
     }
-    assert!(rt; of_busybox(rt.alloc()) == Ok(1));
-}
-
-fn are_equal(alloc: Global, text: &str, other: &str) -> Result<bool, ParseError> {
-    let reference = Reference::from_str(alloc, text)?;
-    let compared = Reference::from_str(alloc, other)?;
-    Ok(reference == compared)
+    check_is(&rt, &of_busybox(&rt, alloc), &1);
 }
 
 #[test]
 fn latest_beside_a_digest(rt: HostRuntime) {
+    let alloc = rt.alloc();
     let (bare, latest) = rows::PINNED_BUSYBOX;
-    assert!(rt; are_equal(rt.alloc(), bare, latest) == Ok(false));
-    assert!(rt; are_equal(rt.alloc(), bare, bare) == Ok(true));
+    let are_equal = read(&rt, alloc, bare) == read(&rt, alloc, latest);
+    check_is(&rt, &are_equal, &false);
+    check_equal(&rt, alloc, bare, bare);
 }
 
-fn mirrored(alloc: Global, text: &str) -> Result<Reference, ParseError> {
-    let mut reference = Reference::from_str(alloc, text)?;
-    let mirror = String::from_str(alloc, "docker.mirror.io")?;
-    reference.set_mirror_registry(mirror);
-    Ok(reference)
-}
-
-fn pinned(alloc: Global, text: &str) -> Result<Reference, ParseError> {
-    let reference = mirrored(alloc, text)?;
-    let digest = String::from_str(alloc, "foo:bar")?;
+fn mirrored(rt: &impl Abort, alloc: Global, text: &str) -> Reference {
+    let mut reference = read(rt, alloc, text);
+    reference.set_mirror_registry(owned(rt, alloc, "docker.mirror.io"));
     reference
-        .clone_with_digest(digest)
-        .map_err(|_| ParseError::Memory)
 }
 
-fn copied(alloc: Global, text: &str) -> Result<Reference, ParseError> {
-    let reference = mirrored(alloc, text)?;
-    reference.clone().map_err(|_| ParseError::Memory)
+fn pinned(rt: &impl Abort, alloc: Global, text: &str) -> Reference {
+    let digest = owned(rt, alloc, "foo:bar");
+    let pinned = mirrored(rt, alloc, text).clone_with_digest(digest);
+    pinned.expect(rt, "memory")
 }
 
-fn whole_text(alloc: Global, text: &str) -> Result<String, ParseError> {
-    let reference = mirrored(alloc, text)?;
-    reference.whole().map_err(|_| ParseError::Memory)
+fn copied(rt: &impl Abort, alloc: Global, text: &str) -> Reference {
+    mirrored(rt, alloc, text).clone().expect(rt, "memory")
 }
 
-fn moved_text(alloc: Global, text: &str) -> Result<String, ParseError> {
-    let reference = mirrored(alloc, text)?;
-    reference.into_string().map_err(|_| ParseError::Memory)
+fn whole_text(rt: &impl Abort, alloc: Global, text: &str) -> String {
+    mirrored(rt, alloc, text).whole().expect(rt, "memory")
+}
+
+fn moved_text(rt: &impl Abort, alloc: Global, text: &str) -> String {
+    mirrored(rt, alloc, text).into_string().expect(rt, "memory")
 }
 
 #[test]
 fn mirrors(rt: HostRuntime) {
+    let alloc = rt.alloc();
     for (text, by_mirror, by_digest, whole) in &rows::MIRRORED {
-        let alloc = rt.alloc();
-        check_answer(&rt, answered(alloc, mirrored(alloc, text)), Ok(*by_mirror));
-        check_answer(&rt, answered(alloc, copied(alloc, text)), Ok(*by_mirror));
-        check_answer(&rt, answered(alloc, pinned(alloc, text)), Ok(*by_digest));
-        check_answer(&rt, whole_text(alloc, text), Ok(*whole));
-        check_answer(&rt, moved_text(alloc, text), Ok(*whole));
+        check_line(&rt, alloc, &mirrored(&rt, alloc, text), by_mirror);
+        check_line(&rt, alloc, &copied(&rt, alloc, text), by_mirror);
+        check_line(&rt, alloc, &pinned(&rt, alloc, text), by_digest);
+        check_text(&rt, &whole_text(&rt, alloc, text), whole);
+        check_text(&rt, &moved_text(&rt, alloc, text), whole);
     }
 }
 
-fn tagged(alloc: Global, texts: (&str, &str, &str)) -> Result<Reference, ParseError> {
-    let registry = String::from_str(alloc, texts.0)?;
-    let repository = String::from_str(alloc, texts.1)?;
-    let tag = String::from_str(alloc, texts.2)?;
-    Ok(Reference::with_tag(registry, repository, tag))
+fn tagged(rt: &impl Abort, alloc: Global, texts: (&str, &str, &str)) -> Reference {
+    let registry = owned(rt, alloc, texts.0);
+    let repository = owned(rt, alloc, texts.1);
+    let tag = owned(rt, alloc, texts.2);
+    Reference::with_tag(registry, repository, tag)
 }
 
-fn by_digest(alloc: Global, texts: (&str, &str, &str)) -> Result<Reference, ParseError> {
-    let registry = String::from_str(alloc, texts.0)?;
-    let repository = String::from_str(alloc, texts.1)?;
-    let digest = String::from_str(alloc, texts.2)?;
-    Ok(Reference::with_digest(registry, repository, digest))
+fn by_digest(rt: &impl Abort, alloc: Global, texts: (&str, &str, &str)) -> Reference {
+    let registry = owned(rt, alloc, texts.0);
+    let repository = owned(rt, alloc, texts.1);
+    let digest = owned(rt, alloc, texts.2);
+    Reference::with_digest(registry, repository, digest)
 }
 
-fn by_both(
-    alloc: Global,
-    texts: (&str, &str, &str),
-    digest: &str,
-) -> Result<Reference, ParseError> {
-    let registry = String::from_str(alloc, texts.0)?;
-    let repository = String::from_str(alloc, texts.1)?;
-    let tag = String::from_str(alloc, texts.2)?;
-    let digest = String::from_str(alloc, digest)?;
-    Ok(Reference::with_tag_and_digest(registry, repository, tag, digest))
+fn by_both(rt: &impl Abort, alloc: Global, texts: (&str, &str, &str), digest: &str) -> Reference {
+    let registry = owned(rt, alloc, texts.0);
+    let repository = owned(rt, alloc, texts.1);
+    let tag = owned(rt, alloc, texts.2);
+    let digest = owned(rt, alloc, digest);
+    Reference::with_tag_and_digest(registry, repository, tag, digest)
 }
 
 #[test]
 fn made_of_texts(rt: HostRuntime) {
+    let alloc = rt.alloc();
     for (texts, line) in &rows::WITH_TAG {
-        check_answer(
-            &rt,
-            answered(rt.alloc(), tagged(rt.alloc(), *texts)),
-            Ok(*line),
-        );
+        check_line(&rt, alloc, &tagged(&rt, alloc, *texts), line);
     }
     for (texts, line) in &rows::WITH_DIGEST {
-        check_answer(
-            &rt,
-            answered(rt.alloc(), by_digest(rt.alloc(), *texts)),
-            Ok(*line),
-        );
+        check_line(&rt, alloc, &by_digest(&rt, alloc, *texts), line);
     }
     for (texts, digest, line) in &rows::WITH_BOTH {
-        let made = by_both(rt.alloc(), *texts, digest);
-        check_answer(&rt, answered(rt.alloc(), made), Ok(*line));
+        check_line(&rt, alloc, &by_both(&rt, alloc, *texts, digest), line);
     }
 }

@@ -1,4 +1,4 @@
-use super::described;
+use super::{check_is, check_line, check_text};
 use oci_json_schema::OciRecord;
 use oci_reference::Reference;
 use oci_text_base::{OciSpecError, SerDeError};
@@ -43,36 +43,13 @@ static REFUSED: [(&str, &str); 6] = [
     ),
 ];
 
-fn read(alloc: Global, json: &str, owned: bool) -> Option<oci_text_base::Result<Reference>> {
-    let Ok(value) = Value::from_str(alloc, json) else {
-        return None;
-    };
-    if owned {
-        Some(Reference::from_value_owned(alloc, value))
-    } else {
-        Some(Reference::from_value(alloc, &value))
-    }
+fn value(rt: &impl Abort, alloc: Global, json: &str) -> Value {
+    Value::from_str(alloc, json).expect(rt, json)
 }
 
-fn line(alloc: Global, json: &str, owned: bool) -> Option<String> {
-    match read(alloc, json, owned)? {
-        Ok(reference) => described(alloc, &reference).ok(),
-        Err(_) => None,
-    }
-}
-
-fn written(alloc: Global, json: &str) -> Option<String> {
-    let Ok(reference) = read(alloc, json, true)? else {
-        return None;
-    };
-    let Ok(value) = reference.to_value(alloc) else {
-        return None;
-    };
-    value.to_string(alloc).ok()
-}
-
-fn refused_member(alloc: Global, json: &str, owned: bool) -> Option<&'static str> {
-    match read(alloc, json, owned)? {
+/// The member that is refused.
+fn refused_member(found: oci_text_base::Result<Reference>) -> Option<&'static str> {
+    match found {
         Err(OciSpecError::SerDe(SerDeError::Schema(fault))) if fault.owner == "Reference" => {
             Some(fault.member)
         }
@@ -80,28 +57,33 @@ fn refused_member(alloc: Global, json: &str, owned: bool) -> Option<&'static str
     }
 }
 
-fn check(rt: &impl Abort, found: Option<String>, expected: &str) {
-    match found {
-        Some(found) => assert_eq!(rt; found.as_str(), expected),
-        None => panic!(rt; "{expected}"),
-    }
+fn written(rt: &impl Abort, alloc: Global, reference: &Reference) -> String {
+    let value = reference.to_value(alloc).expect(rt, "a document");
+    value.to_string(alloc).expect(rt, "memory")
+}
+
+fn check_read(rt: &impl Abort, alloc: Global, json: &str, content: &str, again: &str) {
+    let read = Reference::from_value(alloc, &value(rt, alloc, json)).expect(rt, json);
+    check_line(rt, alloc, &read, content);
+    let read = Reference::from_value_owned(alloc, value(rt, alloc, json)).expect(rt, json);
+    check_line(rt, alloc, &read, content);
+    check_text(rt, &written(rt, alloc, &read), again);
+}
+
+fn check_refused(rt: &impl Abort, alloc: Global, json: &str, member: &'static str) {
+    let read = Reference::from_value(alloc, &value(rt, alloc, json));
+    check_is(rt, &refused_member(read), &Some(member));
+    let read = Reference::from_value_owned(alloc, value(rt, alloc, json));
+    check_is(rt, &refused_member(read), &Some(member));
 }
 
 #[test]
 fn documents(rt: HostRuntime) {
+    let alloc = rt.alloc();
     for (json, content, again) in &READ {
-        check(&rt, line(rt.alloc(), json, false), content);
-        check(&rt, line(rt.alloc(), json, true), content);
-        check(&rt, written(rt.alloc(), json), again);
+        check_read(&rt, alloc, json, content, again);
     }
     for (json, member) in &REFUSED {
-        assert!(rt;
-            refused_member(rt.alloc(), json, false) == Some(*member),
-            "{json}"
-        );
-        assert!(rt;
-            refused_member(rt.alloc(), json, true) == Some(*member),
-            "{json}"
-        );
+        check_refused(&rt, alloc, json, member);
     }
 }

@@ -1,8 +1,8 @@
 //! The scanner of references, against a reader that cuts whole texts.
 
+use super::check_is;
 use oci_reference_scan::*;
 use std::process::Abort;
-use std::test::Fail;
 
 mod cutting;
 
@@ -10,13 +10,7 @@ use cutting::cut;
 
 /// The scanner after the bytes.
 fn after(bytes: &[u8]) -> Scanner {
-    let mut scanner = Scanner::new();
-    for b in bytes {
-        if scanner.room() {
-            scanner.push(*b);
-        }
-    }
-    scanner
+    and_after(Scanner::new(), bytes)
 }
 
 fn found_at(
@@ -27,38 +21,46 @@ fn found_at(
     Ok(Places { name, tag, digest })
 }
 
-fn twice<T: Copy>(value: T) -> (T, T) {
-    (value, value)
+const INVALID: Result<Places, ParseError> = Err(ParseError::ReferenceInvalidFormat);
+
+/// The scanner after more bytes.
+fn and_after(mut scanner: Scanner, bytes: &[u8]) -> Scanner {
+    for b in bytes {
+        if scanner.room() {
+            scanner.push(*b);
+        }
+    }
+    scanner
 }
 
-const INVALID: Result<Places, ParseError> = Err(ParseError::ReferenceInvalidFormat);
+fn check_scanned(
+    rt: &impl Abort,
+    scanner: &Scanner,
+    count: usize,
+    found: Result<Places, ParseError>,
+) {
+    check_is(rt, &scanner.count(), &count);
+    check_is(rt, &scanner.finish(), &found);
+}
 
 #[test]
 fn digits_behind_a_colon(rt: HostRuntime) {
-    assert!(rt; Scanner::new().count() == 0);
-    assert!(rt; Scanner::new().room());
-    assert!(rt; Scanner::new().finish() == Err(ParseError::NameEmpty));
-    let (tagged, mut other) = twice(after(b"test:5000"));
-    assert!(rt; tagged.count() == 9);
-    assert!(rt; tagged.finish() == found_at(4, Some((5, 9)), None));
-    for b in b"/" {
-        if other.room() {
-            other.push(*b);
-        }
-    }
-    assert!(rt; other.count() == 10);
-    assert!(rt; other.finish() == INVALID);
-    for b in b"repo" {
-        if other.room() {
-            other.push(*b);
-        }
-    }
-    assert!(rt; other.count() == 14);
-    assert!(rt; other.finish() == found_at(14, None, None));
-    assert!(rt; tagged == after(b"test:5000"), "a copy stays as it is");
-    assert!(rt; after(b"test:5000/repo\xe9").finish() == INVALID);
-    assert!(rt; after(b"test:5000/repo\xe9a").finish() == INVALID);
-    assert!(rt; after(b"test:5000/repo\xe9/a").finish() == INVALID);
+    let tagged = after(b"test:5000");
+    check_scanned(&rt, &tagged, 9, found_at(4, Some((5, 9)), None));
+    let other = and_after(tagged, b"/");
+    check_scanned(&rt, &other, 10, INVALID);
+    let other = and_after(other, b"repo");
+    check_scanned(&rt, &other, 14, found_at(14, None, None));
+    check_is(&rt, &tagged, &after(b"test:5000"));
+}
+
+#[test]
+fn nothing_and_other_bytes(rt: HostRuntime) {
+    check_scanned(&rt, &Scanner::new(), 0, Err(ParseError::NameEmpty));
+    check_is(&rt, &Scanner::new().room(), &true);
+    check_scanned(&rt, &after(b"test:5000/repo\xe9"), 15, INVALID);
+    check_scanned(&rt, &after(b"test:5000/repo\xe9a"), 16, INVALID);
+    check_scanned(&rt, &after(b"test:5000/repo\xe9/a"), 17, INVALID);
 }
 
 #[test]
@@ -69,13 +71,12 @@ fn a_long_name(rt: HostRuntime) {
             scanner.push(b'a');
         }
     }
-    assert!(rt; scanner.count() == 100_000);
-    assert!(rt; scanner.finish() == found_at(100_000, None, None));
+    check_scanned(&rt, &scanner, 100_000, found_at(100_000, None, None));
 }
 
 static LETTERS: [u8; 8] = *b"aA0._-:/";
 
-fn check_prefixes(rt: &impl Abort, number: usize) -> Result<(), Fail> {
+fn check_prefixes(rt: &impl Abort, number: usize) {
     let mut scanner = Scanner::new();
     let mut bytes = [0u8; 5];
     let mut rest = number;
@@ -86,20 +87,18 @@ fn check_prefixes(rt: &impl Abort, number: usize) -> Result<(), Fail> {
         if scanner.room() {
             scanner.push(b);
         }
-        let text = std::str::from_utf8(&bytes[..i + 1])?;
-        assert!(rt; scanner.finish() == cut(text), "{text}");
+        let text = std::str::from_utf8(&bytes[..i + 1]).expect(rt, "letters");
+        check_is(rt, &scanner.finish(), &cut(text));
     }
-    Ok(())
 }
 
 /// Each text of one to five letters is a prefix of one of five.
 #[test]
-fn as_the_cutting_reader(rt: HostRuntime) -> Result<(), Fail> {
-    assert!(rt; Scanner::new().finish() == cut(""));
+fn as_the_cutting_reader(rt: HostRuntime) {
+    check_is(&rt, &Scanner::new().finish(), &cut(""));
     for number in 0..32_768 {
-        check_prefixes(&rt, number)?;
+        check_prefixes(&rt, number);
     }
-    Ok(())
 }
 
 static DIGESTS: [(&str, Result<Places, ParseError>); 8] = [
@@ -130,35 +129,48 @@ static DIGESTS: [(&str, Result<Places, ParseError>); 8] = [
 #[test]
 fn digests(rt: HostRuntime) {
     for (text, found) in &DIGESTS {
-        assert!(rt; after(text.as_bytes()).finish() == *found, "{text}");
-        assert!(rt; cut(text) == *found, "{text}");
+        check_is(&rt, &after(text.as_bytes()).finish(), found);
+        check_is(&rt, &cut(text), found);
     }
+}
+
+/// A text, and its name, its tag and its digest.
+static PIECES: [(&str, &str, Option<&str>, Option<&str>); 5] = [
+    ("busybox", "busybox", None, None),
+    ("test:5000/repo", "test:5000/repo", None, None),
+    ("test:5000", "test", Some("5000"), None),
+    (
+        "a.b/c:d@sha256:ffffffffffffffffffffffffffffffff",
+        "a.b/c",
+        Some("d"),
+        Some("sha256:ffffffffffffffffffffffffffffffff"),
+    ),
+    (
+        "Uppercase/repo@md5:ffffffffffffffffffffffffffffffff",
+        "Uppercase/repo",
+        None,
+        Some("md5:ffffffffffffffffffffffffffffffff"),
+    ),
+];
+
+fn check_pieces(rt: &impl Abort, text: &str, name: &str, tag: Option<&str>, digest: Option<&str>) {
+    let found = parts(text).expect(rt, text);
+    check_is(rt, &found.name, &name);
+    check_is(rt, &found.tag, &tag);
+    check_is(rt, &found.digest, &digest);
 }
 
 #[test]
 fn pieces(rt: HostRuntime) {
-    let rows = [
-        ("busybox", "busybox", None, None),
-        ("test:5000/repo", "test:5000/repo", None, None),
-        ("test:5000", "test", Some("5000"), None),
-        (
-            "a.b/c:d@sha256:ffffffffffffffffffffffffffffffff",
-            "a.b/c",
-            Some("d"),
-            Some("sha256:ffffffffffffffffffffffffffffffff"),
-        ),
-        (
-            "Uppercase/repo@md5:ffffffffffffffffffffffffffffffff",
-            "Uppercase/repo",
-            None,
-            Some("md5:ffffffffffffffffffffffffffffffff"),
-        ),
-    ];
-    for (text, name, tag, digest) in rows {
-        assert!(rt; parts(text) == Ok(Pieces { name, tag, digest }), "{text}");
+    for (text, name, tag, digest) in &PIECES {
+        check_pieces(&rt, text, name, *tag, *digest);
     }
-    assert!(rt; parts("") == Err(ParseError::NameEmpty));
-    assert!(rt; parts("a:/b") == Err(ParseError::ReferenceInvalidFormat));
+    check_is(&rt, &parts("").err(), &Some(ParseError::NameEmpty));
+    check_is(
+        &rt,
+        &parts("a:/b").err(),
+        &Some(ParseError::ReferenceInvalidFormat),
+    );
 }
 
 static PRINTED: [(ParseError, &str); 9] = [
@@ -195,10 +207,9 @@ static PRINTED: [(ParseError, &str); 9] = [
 ];
 
 #[test]
-fn printed_errors(rt: HostRuntime) -> Result<(), Fail> {
+fn printed_errors(rt: HostRuntime) {
     for (error, text) in &PRINTED {
-        let shown = error.to_string(rt.alloc())?;
-        assert_eq!(rt; shown.as_str(), *text);
+        let shown = error.to_string(rt.alloc()).expect(&rt, text);
+        check_is(&rt, &shown.as_str(), text);
     }
-    Ok(())
 }

@@ -1,14 +1,16 @@
-use super::{check_made, check_no_member, check_reason, check_shown, check_text, check_written};
+use super::{
+    check_is, check_is_not, check_made, check_no_member, check_reason, check_shown, check_text,
+    check_written, owned,
+};
 use oci_json_schema::OciMember;
 use oci_text::{
     Digest, DigestAlgorithm, OciSpecError, SchemaFault, SerDeError, Sha256Digest,
     UninitializedFieldError, is_digest,
 };
 use serde_json::Value;
-use std::alloc::{AllocError, Global};
+use std::alloc::Global;
 use std::io;
 use std::process::Abort;
-use std::test::Fail;
 
 const SHA256: &str = "sha256:6c3c624b58dbbcd3c0dd82b4c53f04194d1247c6eebdaab7c610cf7d66709b3b";
 
@@ -18,17 +20,12 @@ const SHA384: &str =
 const SHA512: &str =
     "sha512:6c3c624b58dbbcd3c0dd826c3c624b58dbbcd3c0dd82b4c53f04194d1247c6eebdaab7c610cf7d66709b3bb4c53f04194d1247c6eebdaab7c610cf7d66709b3b";
 
-fn repeated(
-    alloc: Global,
-    front: &str,
-    part: &str,
-    count: u32,
-) -> std::result::Result<String, AllocError> {
-    let mut text = String::from_str(alloc, front)?;
+fn repeated(rt: &impl Abort, alloc: Global, front: &str, part: &str, count: u32) -> String {
+    let mut text = owned(rt, alloc, front);
     for _ in 0..count {
-        text.push_str(part)?;
+        text.push_str(part).expect(rt, "memory");
     }
-    Ok(text)
+    text
 }
 
 /// The parts of a digest, and its text.
@@ -48,61 +45,34 @@ fn check_parts(
 }
 
 /// What is displayed, and read again, and what is copied is the same digest.
-fn check_copies(
-    rt: &impl Abort,
-    alloc: Global,
-    digest: &Digest,
-    text: &str,
-) -> std::result::Result<(), Fail> {
+fn check_copies(rt: &impl Abort, alloc: Global, digest: &Digest, text: &str) {
     check_shown(rt, digest.to_string(alloc), text);
     check_made(rt, digest.clone(), digest, text);
     check_made(rt, digest.copy(alloc), digest, text);
-    let owned = String::from_str(alloc, text)?;
-    check_made(rt, Digest::try_from(owned), digest, text);
-    Ok(())
+    check_made(rt, Digest::try_from(owned(rt, alloc, text)), digest, text);
 }
 
 /// What is written, and read again in both ways, is the same digest.
-fn check_member(
-    rt: &impl Abort,
-    alloc: Global,
-    digest: &Digest,
-    text: &str,
-) -> std::result::Result<(), Fail> {
+fn check_member(rt: &impl Abort, alloc: Global, digest: &Digest, text: &str) {
     check_written(rt, digest.write(alloc), text);
-    let value = digest.write(alloc)?;
+    let value = digest.write(alloc).expect(rt, text);
     check_made(rt, Digest::read(alloc, &value), digest, text);
     check_made(rt, Digest::read_owned(alloc, value), digest, text);
-    Ok(())
 }
 
-fn check_accepted(
-    rt: &impl Abort,
-    alloc: Global,
-    text: &str,
-    algorithm: &str,
-    encoded: &str,
-) -> std::result::Result<(), Fail> {
-    assert!(rt; is_digest(text), "{text}");
-    let digest = Digest::from_str(alloc, text)?;
+fn check_accepted(rt: &impl Abort, alloc: Global, text: &str, algorithm: &str, encoded: &str) {
+    check_is(rt, &is_digest(text), &true);
+    let digest = Digest::from_str(alloc, text).expect(rt, text);
     check_parts(rt, alloc, &digest, text, algorithm, encoded);
-    check_copies(rt, alloc, &digest, text)?;
-    check_member(rt, alloc, &digest, text)
+    check_copies(rt, alloc, &digest, text);
+    check_member(rt, alloc, &digest, text);
 }
 
-fn check_refused(
-    rt: &impl Abort,
-    alloc: Global,
-    text: &str,
-    expected: &str,
-) -> std::result::Result<(), Fail> {
-    assert!(rt; !is_digest(text), "{text}");
+fn check_refused(rt: &impl Abort, alloc: Global, text: &str, expected: &str) {
+    check_is(rt, &is_digest(text), &false);
     check_reason(rt, Digest::from_str(alloc, text), expected);
-    let owned = String::from_str(alloc, text)?;
-    check_reason(rt, Digest::try_from(owned), expected);
-    let value = Value::String(String::from_str(alloc, text)?);
-    check_unread(rt, alloc, value);
-    Ok(())
+    check_reason(rt, Digest::try_from(owned(rt, alloc, text)), expected);
+    check_unread(rt, alloc, Value::String(owned(rt, alloc, text)));
 }
 
 fn check_unread(rt: &impl Abort, alloc: Global, value: Value) {
@@ -128,24 +98,22 @@ static ACCEPTED: [(&str, &str, &str); 5] = [
 ];
 
 #[test]
-fn accepts_digests(rt: HostRuntime) -> std::result::Result<(), Fail> {
+fn accepts_digests(rt: HostRuntime) {
     let alloc = rt.alloc();
     for (text, algorithm, encoded) in &ACCEPTED {
-        check_accepted(&rt, alloc, text, algorithm, encoded)?;
+        check_accepted(&rt, alloc, text, algorithm, encoded);
     }
-    Ok(())
 }
 
 #[test]
-fn accepts_sha_digests(rt: HostRuntime) -> std::result::Result<(), Fail> {
+fn accepts_sha_digests(rt: HostRuntime) {
     let alloc = rt.alloc();
     for text in [SHA256, SHA384, SHA512] {
         match text.split_once(':') {
-            Some((algorithm, encoded)) => check_accepted(&rt, alloc, text, algorithm, encoded)?,
+            Some((algorithm, encoded)) => check_accepted(&rt, alloc, text, algorithm, encoded),
             None => panic!(rt; "{text}"),
         }
     }
-    Ok(())
 }
 
 /// Texts that are no digests, and why.
@@ -183,40 +151,34 @@ static REFUSED: [(&str, &str); 21] = [
 ];
 
 #[test]
-fn refuses_other_texts(rt: HostRuntime) -> std::result::Result<(), Fail> {
+fn refuses_other_texts(rt: HostRuntime) {
     let alloc = rt.alloc();
     for (text, message) in &REFUSED {
-        check_refused(&rt, alloc, text, message)?;
+        check_refused(&rt, alloc, text, message);
     }
     check_unread(&rt, alloc, Value::from(1u64));
-    Ok(())
 }
 
 #[test]
-fn refuses_uppercase_digits(rt: HostRuntime) -> std::result::Result<(), Fail> {
+fn refuses_uppercase_digits(rt: HostRuntime) {
     let alloc = rt.alloc();
-    let upper = repeated(alloc, "sha256:", "F", 64)?;
-    let message = repeated(
-        alloc,
-        "Invalid non-hexadecimal character in digest: ",
-        "F",
-        64,
-    )?;
-    check_refused(&rt, alloc, upper.as_str(), message.as_str())
+    let upper = repeated(&rt, alloc, "sha256:", "F", 64);
+    let reason = "Invalid non-hexadecimal character in digest: ";
+    let message = repeated(&rt, alloc, reason, "F", 64);
+    check_refused(&rt, alloc, upper.as_str(), message.as_str());
 }
 
 #[test]
-fn sha256_digests(rt: HostRuntime) -> std::result::Result<(), Fail> {
+fn sha256_digests(rt: HostRuntime) {
     let alloc = rt.alloc();
     let digits = "6c3c624b58dbbcd3c0dd82b4c53f04194d1247c6eebdaab7c610cf7d66709b3b";
-    let short = Sha256Digest::from_str(alloc, digits)?;
+    let short = Sha256Digest::from_str(alloc, digits).expect(&rt, digits);
     check_text(&rt, short.digest(), digits);
     check_text(&rt, short.as_ref(), digits);
     check_shown(&rt, short.to_string(alloc), digits);
     check_made(&rt, short.clone(), &short, digits);
-    let whole = Digest::from_str(alloc, SHA256)?;
+    let whole = Digest::from_str(alloc, SHA256).expect(&rt, SHA256);
     check_made(&rt, short.into_digest(), &whole, digits);
-    Ok(())
 }
 
 #[test]
@@ -225,18 +187,12 @@ fn refuses_other_sha256_digits(rt: HostRuntime) {
     check_reason(&rt, made, "Invalid digest length 1 expected 64");
 }
 
-fn check_algorithm(
-    rt: &impl Abort,
-    alloc: Global,
-    text: &str,
-    digits: Option<u32>,
-) -> std::result::Result<(), Fail> {
-    let algorithm = DigestAlgorithm::from_text(alloc, text)?;
+fn check_algorithm(rt: &impl Abort, alloc: Global, text: &str, digits: Option<u32>) {
+    let algorithm = DigestAlgorithm::from_text(alloc, text).expect(rt, text);
     check_text(rt, algorithm.as_ref(), text);
-    assert!(rt; algorithm.digest_hexlen() == digits, "{text}");
+    check_is(rt, &algorithm.digest_hexlen(), &digits);
     check_made(rt, algorithm.clone(alloc), &algorithm, text);
     check_shown(rt, algorithm.to_string(alloc), text);
-    Ok(())
 }
 
 /// Algorithms, and how many hexadecimal digits their digests have.
@@ -250,41 +206,38 @@ static ALGORITHMS: [(&str, Option<u32>); 6] = [
 ];
 
 #[test]
-fn algorithms(rt: HostRuntime) -> std::result::Result<(), Fail> {
+fn algorithms(rt: HostRuntime) {
     let alloc = rt.alloc();
     for (text, digits) in &ALGORITHMS {
-        check_algorithm(&rt, alloc, text, *digits)?;
+        check_algorithm(&rt, alloc, text, *digits);
     }
-    let other = DigestAlgorithm::Other(String::from_str(alloc, "sha256")?);
-    assert!(rt; other != DigestAlgorithm::Sha256);
-    Ok(())
+    let other = DigestAlgorithm::Other(owned(&rt, alloc, "sha256"));
+    check_is_not(&rt, &other, &DigestAlgorithm::Sha256);
+}
+
+fn check_printed(rt: &impl Abort, alloc: Global, error: OciSpecError, expected: &str) {
+    check_shown(rt, error.to_string(alloc), expected);
 }
 
 #[test]
-fn printed_errors(rt: HostRuntime) -> std::result::Result<(), Fail> {
+fn printed_errors(rt: HostRuntime) {
     let alloc = rt.alloc();
     let fault = SchemaFault {
         owner: "Descriptor",
         member: "size",
     };
-    let cases: [(OciSpecError, &str); 5] = [
-        (OciSpecError::Other(String::from_str(alloc, "why")?), "why"),
-        (
-            OciSpecError::from(io::Error::from(io::ErrorKind::NotFound)),
-            "io operation failed",
-        ),
-        (
-            OciSpecError::SerDe(SerDeError::Schema(fault)),
-            "serde failed",
-        ),
-        (
-            OciSpecError::from(UninitializedFieldError::new("size")),
-            "uninitialized field",
-        ),
-        (OciSpecError::Memory, "out of memory"),
-    ];
-    for (error, expected) in cases {
-        check_shown(&rt, error.to_string(alloc), expected);
-    }
-    Ok(())
+    let not_found = io::Error::from(io::ErrorKind::NotFound);
+    let unset = UninitializedFieldError::new("size");
+    let why = owned(&rt, alloc, "why");
+    let schema = SerDeError::Schema(fault);
+    check_printed(&rt, alloc, OciSpecError::Other(why), "why");
+    check_printed(
+        &rt,
+        alloc,
+        OciSpecError::from(not_found),
+        "io operation failed",
+    );
+    check_printed(&rt, alloc, OciSpecError::SerDe(schema), "serde failed");
+    check_printed(&rt, alloc, OciSpecError::from(unset), "uninitialized field");
+    check_printed(&rt, alloc, OciSpecError::Memory, "out of memory");
 }
