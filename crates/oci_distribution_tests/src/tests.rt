@@ -2,6 +2,7 @@ use oci_json_schema::OciRecord;
 use oci_text_base::{OciSpecError, Result, SerDeError};
 use serde_json::Value;
 use std::alloc::Global;
+use std::fmt::Debug;
 use std::process::Abort;
 
 mod built;
@@ -11,9 +12,14 @@ mod documents;
 mod named;
 mod rows;
 
-/// The document of a JSON text, by one of the two readings.
-fn read<T: OciRecord>(alloc: Global, text: &str, owned: bool) -> Result<T> {
-    let value = Value::from_str(alloc, text)?;
+/// A value is what was expected.
+fn check_is<T: PartialEq + Debug>(rt: &impl Abort, found: &T, expected: &T) {
+    assert_eq!(rt; found, expected);
+}
+
+/// The answer of a JSON text, by one of the two readings.
+fn read<T: OciRecord>(rt: &impl Abort, alloc: Global, text: &str, owned: bool) -> Result<T> {
+    let value = Value::from_str(alloc, text).expect(rt, text);
     if owned {
         T::from_value_owned(alloc, value)
     } else {
@@ -21,10 +27,15 @@ fn read<T: OciRecord>(alloc: Global, text: &str, owned: bool) -> Result<T> {
     }
 }
 
+/// The document of a JSON text, by one of the two readings.
+fn document<T: OciRecord>(rt: &impl Abort, alloc: Global, text: &str, owned: bool) -> T {
+    read(rt, alloc, text, owned).expect(rt, text)
+}
+
 /// The compact text of a document.
-fn written<T: OciRecord>(alloc: Global, made: Result<T>) -> Result<String> {
+fn written<T: OciRecord>(rt: &impl Abort, alloc: Global, made: Result<T>) -> Result<String> {
     let value = made?.to_value(alloc)?;
-    Ok(value.to_string(alloc)?)
+    Ok(value.to_string(alloc).expect(rt, "memory"))
 }
 
 /// Why a call was refused: a record and its member, or the field that a builder lacks.
@@ -50,25 +61,29 @@ fn check(
     case: &str,
 ) {
     match found {
-        Ok(text) => assert!(rt; Ok(text.as_str()) == expected, "{case}: {text}"),
-        Err(error) => assert!(rt; Err(fault_of(&error)) == expected, "{case}: {error}"),
+        Ok(text) => check_is(rt, &(case, Ok(text.as_str())), &(case, expected)),
+        Err(error) => check_is(rt, &(case, Err(fault_of(&error))), &(case, expected)),
     }
 }
 
-fn strings(alloc: Global, texts: &[&str]) -> Result<Vec<String>> {
+fn string(rt: &impl Abort, alloc: Global, text: &str) -> String {
+    String::from_str(alloc, text).expect(rt, "memory")
+}
+
+fn strings(rt: &impl Abort, alloc: Global, texts: &[&str]) -> Vec<String> {
     let mut list = Vec::new(alloc);
     for text in texts {
-        list.push(String::from_str(alloc, text)?)?;
+        list.push(string(rt, alloc, text)).expect(rt, "memory");
     }
-    Ok(list)
+    list
 }
 
 /// The texts, each with a space behind it.
-fn joined(alloc: Global, texts: &[String]) -> Result<String> {
+fn joined(rt: &impl Abort, alloc: Global, texts: &[String]) -> String {
     let mut line = String::new(alloc);
     for text in texts {
-        line.push_str(text.as_str())?;
-        line.push_str(" ")?;
+        line.push_str(text.as_str()).expect(rt, "memory");
+        line.push_str(" ").expect(rt, "memory");
     }
-    Ok(line)
+    line
 }

@@ -3,6 +3,7 @@ use oci_json_schema::OciRecord;
 use oci_test_streams::Output;
 use oci_text_base::{OciSpecError, Result, SerDeError};
 use std::alloc::Global;
+use std::fmt::Debug;
 use std::io::ErrorKind;
 use std::process::Abort;
 
@@ -11,6 +12,11 @@ mod reading;
 mod rows;
 mod unwritable;
 mod writing;
+
+/// A value is what was expected.
+fn check_is<T: PartialEq + Debug>(rt: &impl Abort, found: &T, expected: &T) {
+    assert_eq!(rt; found, expected);
+}
 
 /// How a call was refused.
 #[derive(Clone, Copy, Debug, PartialEq, Eq)]
@@ -33,8 +39,7 @@ fn fault_of(error: &OciSpecError) -> Fault {
 
 /// The compact text of a document that was read.
 fn text_of<T: OciRecord>(alloc: Global, read: Result<T>) -> Result<String> {
-    let document = read?;
-    to_string(&document, alloc)
+    to_string(&read?, alloc)
 }
 
 fn check(
@@ -44,20 +49,18 @@ fn check(
     case: &str,
 ) {
     match found {
-        Ok(text) => assert!(rt; Ok(text.as_str()) == expected, "{case}: {text}"),
-        Err(error) => assert!(rt; Err(fault_of(&error)) == expected, "{case}: {error}"),
+        Ok(text) => check_is(rt, &(case, Ok(text.as_str())), &(case, expected)),
+        Err(error) => check_is(rt, &(case, Err(fault_of(&error))), &(case, expected)),
     }
 }
 
-fn check_refused<T: Drop>(rt: &impl Abort, found: Result<T>, expected: Fault, case: &str) {
-    match found {
-        Ok(_) => panic!(rt; "{case} was not refused"),
-        Err(error) => assert!(rt; fault_of(&error) == expected, "{case}: {error}"),
-    }
+fn check_refused(rt: &impl Abort, found: Result<()>, expected: Fault, case: &str) {
+    let error = found.err().expect(rt, case);
+    check_is(rt, &(case, fault_of(&error)), &(case, expected));
 }
 
 /// Nothing was written or flushed.
 fn check_untouched(rt: &impl Abort, output: &Output, case: &str) {
-    assert_eq!(rt; output.writes(), 0, "{case}");
-    assert_eq!(rt; output.flushes(), 0, "{case}");
+    let found = (case, output.writes(), output.flushes());
+    check_is(rt, &found, &(case, 0, 0));
 }

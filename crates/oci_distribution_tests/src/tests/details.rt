@@ -1,9 +1,10 @@
-use super::{Fault, check, read, written};
+use super::{Fault, check, check_is, document, string, written};
 use oci_distribution::{
     ErrorCode, ErrorInfo, ErrorInfoBuilder, ErrorResponse, ErrorResponseBuilder,
 };
 use oci_text_base::Result;
 use std::alloc::Global;
+use std::process::Abort;
 
 /// A text that code sets as `detail`, what is written of the error, and the `detail` that is read of that again.
 static WRITTEN: [(&str, &str, &str); 7] = [
@@ -44,23 +45,26 @@ static UNREADABLE: [&str; 8] = [
     "{} {}",
 ];
 
-fn info(alloc: Global, detail: &str) -> Result<ErrorInfo> {
+fn info(rt: &impl Abort, alloc: Global, detail: &str) -> Result<ErrorInfo> {
     ErrorInfoBuilder::default()
         .code(ErrorCode::Unauthorized)
-        .detail(String::from_str(alloc, detail)?)
+        .detail(string(rt, alloc, detail))
         .build(alloc)
 }
 
-fn reply(alloc: Global, detail: &str) -> Result<ErrorResponse> {
+fn reply(rt: &impl Abort, alloc: Global, detail: &str) -> Result<ErrorResponse> {
     let mut errors = Vec::new(alloc);
-    errors.push(info(alloc, detail)?)?;
+    let info = info(rt, alloc, detail).expect(rt, "an error");
+    errors.push(info).expect(rt, "memory");
     ErrorResponseBuilder::default().errors(errors).build(alloc)
 }
 
-/// The `detail` of an error that is read.
-fn detail_of(alloc: Global, text: &str, owned: bool) -> Result<String> {
-    let info: ErrorInfo = read(alloc, text, owned)?;
-    Ok(String::from_str(alloc, info.detail().as_deref().unwrap_or("-"))?)
+/// The `detail` of an error that is read, by both readings.
+fn check_detail(rt: &impl Abort, alloc: Global, text: &str, expected: &str) {
+    for owned in [false, true] {
+        let info: ErrorInfo = document(rt, alloc, text, owned);
+        check_is(rt, &info.detail().as_deref().unwrap_or("-"), &expected);
+    }
 }
 
 /// A `detail` is written as the value of its text, and read as the compact text of it; null is read as none.
@@ -68,22 +72,11 @@ fn detail_of(alloc: Global, text: &str, owned: bool) -> Result<String> {
 fn details(rt: HostRuntime) {
     let alloc = rt.alloc();
     for (detail, compact, again) in &WRITTEN {
-        check(
-            &rt,
-            written(alloc, info(alloc, detail)),
-            Ok(*compact),
-            detail,
-        );
-        for owned in [false, true] {
-            check(&rt, detail_of(alloc, compact, owned), Ok(*again), detail);
-        }
+        let made = written(&rt, alloc, info(&rt, alloc, detail));
+        check(&rt, made, Ok(*compact), detail);
+        check_detail(&rt, alloc, compact, again);
     }
-    check(
-        &rt,
-        detail_of(alloc, r#"{"code":"DENIED"}"#, true),
-        Ok("-"),
-        "absent",
-    );
+    check_detail(&rt, alloc, r#"{"code":"DENIED"}"#, "-");
 }
 
 /// The `detail` of a registry's reply in words.
@@ -97,10 +90,7 @@ fn of_a_reply(rt: HostRuntime) {
                 "Tag": "lates"
             }
         }"#;
-    for owned in [false, true] {
-        let detail = detail_of(rt.alloc(), text, owned);
-        check(&rt, detail, Ok("{\"Tag\":\"lates\"}"), text);
-    }
+    check_detail(&rt, rt.alloc(), text, "{\"Tag\":\"lates\"}");
 }
 
 /// A `detail` that is no JSON, or holds other numbers, is refused on writing, in a reply too.
@@ -108,13 +98,10 @@ fn of_a_reply(rt: HostRuntime) {
 fn unreadable_details(rt: HostRuntime) {
     let alloc = rt.alloc();
     let place = Fault::Schema("ErrorInfo", "detail");
-    for detail in UNREADABLE {
-        check(&rt, written(alloc, info(alloc, detail)), Err(place), detail);
-        check(
-            &rt,
-            written(alloc, reply(alloc, detail)),
-            Err(place),
-            detail,
-        );
+    for detail in &UNREADABLE {
+        let alone = written(&rt, alloc, info(&rt, alloc, detail));
+        check(&rt, alone, Err(place), detail);
+        let within = written(&rt, alloc, reply(&rt, alloc, detail));
+        check(&rt, within, Err(place), detail);
     }
 }

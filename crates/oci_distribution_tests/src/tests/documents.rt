@@ -1,35 +1,33 @@
 use super::rows::*;
-use super::{Fault, check, read, written};
+use super::{Fault, check, check_is, document, read, written};
 use oci_distribution::{ErrorInfo, ErrorResponse, RepositoryList, TagList};
 use oci_json_schema::OciRecord;
-use oci_text_base::Result;
 use std::alloc::Global;
+use std::fmt::Debug;
 use std::process::Abort;
-use std::test::Fail;
 
 /// The two readings of a text, a copy, and what the compact text is read as, are one document.
-fn is_one<T: OciRecord>(alloc: Global, text: &str, compact: &str) -> Result<bool> {
-    let document: T = read(alloc, text, false)?;
-    let owned: T = read(alloc, text, true)?;
-    let again: T = read(alloc, compact, true)?;
-    Ok(document == owned && document == again && document.duplicate(alloc)? == document)
+fn check_one<T: OciRecord + Debug>(rt: &impl Abort, alloc: Global, text: &str, compact: &str) {
+    let lent: T = document(rt, alloc, text, false);
+    check_is(rt, &document(rt, alloc, text, true), &lent);
+    check_is(rt, &document(rt, alloc, compact, true), &lent);
+    check_is(rt, &lent.duplicate(alloc).expect(rt, "memory"), &lent);
 }
 
-fn check_accepted<T: OciRecord>(
-    rt: &impl Abort,
-    alloc: Global,
-    rows: &[(&str, &str)],
-) -> Result<()> {
-    for (text, compact) in rows {
-        for given in [*text, *compact] {
-            for owned in [false, true] {
-                let document = read::<T>(alloc, given, owned);
-                check(rt, written(alloc, document), Ok(*compact), given);
-            }
-        }
-        assert!(rt; is_one::<T>(alloc, text, compact)?, "{text}");
+/// A text is read as a document of this compact text, by both readings.
+fn check_compact<T: OciRecord>(rt: &impl Abort, alloc: Global, text: &str, compact: &str) {
+    for owned in [false, true] {
+        let document = read::<T>(rt, alloc, text, owned);
+        check(rt, written(rt, alloc, document), Ok(compact), text);
     }
-    Ok(())
+}
+
+fn check_accepted<T: OciRecord + Debug>(rt: &impl Abort, alloc: Global, rows: &[(&str, &str)]) {
+    for (text, compact) in rows {
+        check_compact::<T>(rt, alloc, text, compact);
+        check_compact::<T>(rt, alloc, compact, compact);
+        check_one::<T>(rt, alloc, text, compact);
+    }
 }
 
 fn check_refused<T: OciRecord>(
@@ -39,41 +37,37 @@ fn check_refused<T: OciRecord>(
 ) {
     for (text, (owner, member)) in rows {
         for owned in [false, true] {
-            let document = read::<T>(alloc, text, owned);
+            let document = read::<T>(rt, alloc, text, owned);
             let place = Fault::Schema(owner, member);
-            check(rt, written(alloc, document), Err(place), text);
+            check(rt, written(rt, alloc, document), Err(place), text);
         }
     }
 }
 
 /// What an error of a reply is read as, and where it is refused.
 #[test]
-fn infos(rt: HostRuntime) -> std::result::Result<(), Fail> {
-    check_accepted::<ErrorInfo>(&rt, rt.alloc(), &INFOS)?;
+fn infos(rt: HostRuntime) {
+    check_accepted::<ErrorInfo>(&rt, rt.alloc(), &INFOS);
     check_refused::<ErrorInfo>(&rt, rt.alloc(), &REFUSED_INFOS);
-    Ok(())
 }
 
 /// What an error reply is read as, and where it is refused.
 #[test]
-fn responses(rt: HostRuntime) -> std::result::Result<(), Fail> {
-    check_accepted::<ErrorResponse>(&rt, rt.alloc(), &RESPONSES)?;
+fn responses(rt: HostRuntime) {
+    check_accepted::<ErrorResponse>(&rt, rt.alloc(), &RESPONSES);
     check_refused::<ErrorResponse>(&rt, rt.alloc(), &REFUSED_RESPONSES);
-    Ok(())
 }
 
 /// What a list of repositories is read as, and where it is refused.
 #[test]
-fn repositories(rt: HostRuntime) -> std::result::Result<(), Fail> {
-    check_accepted::<RepositoryList>(&rt, rt.alloc(), &REPOSITORIES)?;
+fn repositories(rt: HostRuntime) {
+    check_accepted::<RepositoryList>(&rt, rt.alloc(), &REPOSITORIES);
     check_refused::<RepositoryList>(&rt, rt.alloc(), &REFUSED_REPOSITORIES);
-    Ok(())
 }
 
 /// What a list of tags is read as, and where it is refused.
 #[test]
-fn tags(rt: HostRuntime) -> std::result::Result<(), Fail> {
-    check_accepted::<TagList>(&rt, rt.alloc(), &TAGS)?;
+fn tags(rt: HostRuntime) {
+    check_accepted::<TagList>(&rt, rt.alloc(), &TAGS);
     check_refused::<TagList>(&rt, rt.alloc(), &REFUSED_TAGS);
-    Ok(())
 }

@@ -1,95 +1,126 @@
 use super::rows::REPLIES;
 use super::unwritable::reply;
-use super::{Fault, check, check_refused, text_of};
+use super::{Fault, check, check_is, check_refused, text_of};
 use oci_distribution_records::ErrorResponse;
 use oci_json_engines::{from_file, from_slice, to_file, to_file_pretty};
 use oci_text_base::Result;
-use std::alloc::Global;
+use std::alloc::{Alloc, Global};
 use std::fs;
 use std::io::ErrorKind;
 use std::process::Abort;
 use std::rt::Files;
-use std::test::Fail;
 
 fn read_file(rt: &impl Files, alloc: Global, path: &str) -> Result<String> {
     text_of::<ErrorResponse>(alloc, from_file(rt, alloc, path))
 }
 
+/// A file is this text.
+fn check_file<R: Abort + Alloc + Files>(rt: &R, path: &str, expected: &str) {
+    let bytes = fs::read(rt, path).expect(rt, path);
+    check_is(rt, &bytes.as_slice(), &expected.as_bytes());
+}
+
+/// A file is this text, and is read as the document.
+fn check_document<R: Abort + Alloc + Files>(
+    rt: &R,
+    alloc: Global,
+    path: &str,
+    document: &ErrorResponse,
+    expected: &str,
+) {
+    check_file(rt, path, expected);
+    let found = from_file(rt, alloc, path).expect(rt, path);
+    check_is(rt, &found, document);
+}
+
+/// The pretty text and the compact one are written to a file.
+fn check_both<R: Abort + Alloc + Files>(
+    rt: &R,
+    alloc: Global,
+    path: &str,
+    text: &str,
+    compact: &str,
+    pretty: &str,
+) {
+    let document = from_slice(alloc, text.as_bytes()).expect(rt, text);
+    to_file_pretty(rt, &document, alloc, path).expect(rt, path);
+    check_document(rt, alloc, path, &document, pretty);
+    to_file(rt, &document, alloc, path).expect(rt, path);
+    check_document(rt, alloc, path, &document, compact);
+}
+
 /// What was written is the whole file, whatever stood there, and is read back as the document.
 #[test]
-fn written_and_read(rt: HostRuntime) -> std::result::Result<(), Fail> {
+fn written_and_read(rt: HostRuntime) {
     let path = "written_and_read.json";
-    let alloc = rt.alloc();
     for (text, compact, pretty) in &REPLIES {
-        let document: ErrorResponse = from_slice(alloc, text.as_bytes())?;
-        to_file_pretty(&rt, &document, alloc, path)?;
-        assert_eq!(rt; fs::read(&rt, path)?.as_slice(), pretty.as_bytes());
-        assert!(rt; from_file::<ErrorResponse, _>(&rt, alloc, path)? == document);
-        to_file(&rt, &document, alloc, path)?;
-        assert_eq!(rt; fs::read(&rt, path)?.as_slice(), compact.as_bytes());
-        assert!(rt; from_file::<ErrorResponse, _>(&rt, alloc, path)? == document);
+        check_both(&rt, rt.alloc(), path, text, compact, pretty);
     }
-    fs::remove_file(&rt, path)?;
-    Ok(())
+    fs::remove_file(&rt, path).expect(&rt, path);
+}
+
+/// Both engines refuse to write a reply of this `detail` to the file.
+fn check_unwritten(
+    rt: &(impl Abort + Files),
+    alloc: Global,
+    path: &str,
+    detail: &str,
+    fault: Fault,
+) {
+    let document = reply(rt, alloc, detail);
+    check_refused(rt, to_file(rt, &document, alloc, path), fault, path);
+    let pretty = to_file_pretty(rt, &document, alloc, path);
+    check_refused(rt, pretty, fault, path);
 }
 
 /// A document that can't be written leaves a file as it is, and makes none.
 #[test]
-fn kept(rt: HostRuntime) -> std::result::Result<(), Fail> {
+fn kept(rt: HostRuntime) {
     let path = "kept.json";
-    let alloc = rt.alloc();
-    let document = reply(alloc, "abcd")?;
     let place = Fault::Schema("ErrorInfo", "detail");
-    check_refused(&rt, to_file(&rt, &document, alloc, path), place, path);
-    check_refused(
-        &rt,
-        to_file_pretty(&rt, &document, alloc, path),
-        place,
-        path,
-    );
-    assert!(rt; !fs::exists(&rt, path)?);
-    fs::write(&rt, path, "these bytes stay")?;
-    check_refused(&rt, to_file(&rt, &document, alloc, path), place, path);
-    check_refused(
-        &rt,
-        to_file_pretty(&rt, &document, alloc, path),
-        place,
-        path,
-    );
-    assert_eq!(rt;
-        fs::read(&rt, path)?.as_slice(),
-        "these bytes stay".as_bytes()
-    );
-    fs::remove_file(&rt, path)?;
-    Ok(())
+    check_unwritten(&rt, rt.alloc(), path, "abcd", place);
+    check_is(&rt, &fs::exists(&rt, path).expect(&rt, path), &false);
+    fs::write(&rt, path, "these bytes stay").expect(&rt, path);
+    check_unwritten(&rt, rt.alloc(), path, "abcd", place);
+    check_file(&rt, path, "these bytes stay");
+    fs::remove_file(&rt, path).expect(&rt, path);
 }
 
-/// A file that is not there, a folder that is not there, and files of other bytes.
+/// A file that is not there, and a folder that is not there.
 #[test]
-fn refused_files(rt: HostRuntime) -> std::result::Result<(), Fail> {
-    let path = "refused_files.json";
-    let alloc = rt.alloc();
+fn missing_files(rt: HostRuntime) {
     let missing = Fault::Io(ErrorKind::NotFound);
-    check(
-        &rt,
-        read_file(&rt, alloc, "missing.json"),
-        Err(missing),
-        path,
-    );
-    let document = reply(alloc, "5")?;
-    let answer = to_file(&rt, &document, alloc, "missing/reply.json");
-    check_refused(&rt, answer, missing, path);
-    let answer = to_file_pretty(&rt, &document, alloc, "missing/reply.json");
-    check_refused(&rt, answer, missing, path);
-    for (text, fault) in [
-        ("", Fault::Json),
-        ("{\"errors\":[]", Fault::Json),
-        ("[]", Fault::Schema("ErrorResponse", "")),
-        ("{\"errors\":[{}]}", Fault::Schema("ErrorInfo", "code")),
-    ] {
-        fs::write(&rt, path, text)?;
-        check(&rt, read_file(&rt, alloc, path), Err(fault), text);
+    let read = read_file(&rt, rt.alloc(), "missing.json");
+    check(&rt, read, Err(missing), "missing.json");
+    check_unwritten(&rt, rt.alloc(), "missing/reply.json", "5", missing);
+}
+
+/// Texts of files, and how they are refused.
+static REFUSED: [(&str, Fault); 4] = [
+    ("", Fault::Json),
+    ("{\"errors\":[]", Fault::Json),
+    ("[]", Fault::Schema("ErrorResponse", "")),
+    ("{\"errors\":[{}]}", Fault::Schema("ErrorInfo", "code")),
+];
+
+/// A file of this text is refused.
+fn check_refused_file(
+    rt: &(impl Abort + Files),
+    alloc: Global,
+    path: &str,
+    text: &str,
+    fault: Fault,
+) {
+    fs::write(rt, path, text).expect(rt, path);
+    check(rt, read_file(rt, alloc, path), Err(fault), text);
+}
+
+/// Files of other bytes.
+#[test]
+fn refused_files(rt: HostRuntime) {
+    let path = "refused_files.json";
+    for (text, fault) in &REFUSED {
+        check_refused_file(&rt, rt.alloc(), path, text, *fault);
     }
-    fs::remove_file(&rt, path)?;
-    Ok(())
+    fs::remove_file(&rt, path).expect(&rt, path);
 }

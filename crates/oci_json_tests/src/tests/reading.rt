@@ -4,9 +4,9 @@ use oci_distribution_records::RepositoryList;
 use oci_json_engines::{from_reader, from_slice, normalize};
 use oci_test_streams::{Input, Output};
 use oci_text_base::Result;
-use std::alloc::{AllocError, Global};
+use std::alloc::Global;
+use std::io::ErrorKind;
 use std::process::Abort;
-use std::test::Fail;
 
 /// A list with a member that nests so deep.
 const NEST_BEGIN: &str = "{\"repositories\":[],\"other\":";
@@ -45,50 +45,82 @@ fn lists(rt: HostRuntime) {
     }
 }
 
-fn repeated(
-    alloc: Global,
-    begin: &str,
-    part: &str,
-    count: usize,
-) -> std::result::Result<String, AllocError> {
-    let mut text = String::from_str(alloc, begin)?;
+fn repeated(rt: &impl Abort, alloc: Global, begin: &str, part: &str, count: usize) -> String {
+    let mut text = String::from_str(alloc, begin).expect(rt, "memory");
     for _ in 0..count {
-        text.push_str(part)?;
+        text.push_str(part).expect(rt, "memory");
     }
-    Ok(text)
+    text
 }
 
-fn nested(alloc: Global, depth: usize) -> std::result::Result<String, AllocError> {
-    let mut text = repeated(alloc, NEST_BEGIN, "[", depth)?;
-    let end = repeated(alloc, "", "]", depth)?;
-    text.push_str(end.as_str())?;
-    text.push_str("}")?;
-    Ok(text)
+fn nested(rt: &impl Abort, alloc: Global, depth: usize) -> String {
+    let mut text = repeated(rt, alloc, NEST_BEGIN, "[", depth);
+    let end = repeated(rt, alloc, "", "]", depth);
+    text.push_str(end.as_str()).expect(rt, "memory");
+    text.push_str("}").expect(rt, "memory");
+    text
 }
+
+/// How deep a text nests, and the answer.
+static NESTING: [(usize, std::result::Result<&str, Fault>); 3] = [
+    (126, Ok("{\"repositories\":[]}")),
+    (127, Err(Fault::Json)),
+    (5000, Err(Fault::Json)),
+];
 
 /// A text nests 127 deep at most.
 #[test]
-fn nesting(rt: HostRuntime) -> std::result::Result<(), Fail> {
-    for (depth, expected) in [
-        (126, Ok("{\"repositories\":[]}")),
-        (127, Err(Fault::Json)),
-        (5000, Err(Fault::Json)),
-    ] {
-        let text = nested(rt.alloc(), depth)?;
-        check_reading(&rt, rt.alloc(), text.as_bytes(), expected, "nested");
+fn nesting(rt: HostRuntime) {
+    let alloc = rt.alloc();
+    for (depth, expected) in &NESTING {
+        let text = nested(&rt, alloc, *depth);
+        check_reading(&rt, alloc, text.as_bytes(), *expected, "nested");
     }
-    Ok(())
 }
 
 /// A text that is longer than what is read at once.
 #[test]
-fn long_texts(rt: HostRuntime) -> std::result::Result<(), Fail> {
+fn long_texts(rt: HostRuntime) {
+    let alloc = rt.alloc();
     for count in [4073, 4074, 4075, 4076, 10_000] {
-        let mut text = repeated(rt.alloc(), "{\"repositories\":[\"", "a", count)?;
-        text.push_str("\"]}")?;
-        check_reading(&rt, rt.alloc(), text.as_bytes(), Ok(text.as_str()), "long");
+        let mut text = repeated(&rt, alloc, "{\"repositories\":[\"", "a", count);
+        text.push_str("\"]}").expect(&rt, "memory");
+        check_reading(&rt, alloc, text.as_bytes(), Ok(text.as_str()), "long");
     }
-    Ok(())
+}
+
+/// `normalize` refuses the bytes, and writes nothing.
+fn check_not_normalized(
+    rt: &impl Abort,
+    alloc: Global,
+    input: Input<'_>,
+    fault: Fault,
+    case: &str,
+) {
+    let mut output = Output::new(alloc);
+    let answer = normalize::<RepositoryList, _, _>(alloc, input, &mut output);
+    check_refused(rt, answer, fault, case);
+    check_untouched(rt, &output, case);
+}
+
+/// The fault of a read is answered, and nothing is written then.
+fn check_failing(
+    rt: &impl Abort,
+    alloc: Global,
+    text: &str,
+    most: usize,
+    read: u32,
+    kind: ErrorKind,
+) {
+    let fault = Fault::Io(kind);
+    let input = Input::new(text.as_bytes())
+        .at_most(most)
+        .failing(read, kind);
+    check(rt, by_reader(alloc, input), Err(fault), text);
+    let input = Input::new(text.as_bytes())
+        .at_most(most)
+        .failing(read, kind);
+    check_not_normalized(rt, alloc, input, fault, text);
 }
 
 /// A read that fails is answered as it failed, also behind bytes that are no JSON; nothing is written then.
@@ -96,28 +128,9 @@ fn long_texts(rt: HostRuntime) -> std::result::Result<(), Fail> {
 fn failing_readers(rt: HostRuntime) {
     let alloc = rt.alloc();
     for (most, read, kind) in &FAILING_READERS {
-        for text in ["{\"repositories\":[]}", "no JSON in 19 bytes"] {
-            let input = Input::new(text.as_bytes())
-                .at_most(*most)
-                .failing(*read, *kind);
-            check(&rt, by_reader(alloc, input), Err(Fault::Io(*kind)), text);
-            let mut output = Output::new(alloc);
-            let input = Input::new(text.as_bytes())
-                .at_most(*most)
-                .failing(*read, *kind);
-            let answer = normalize::<RepositoryList, _, _>(alloc, input, &mut output);
-            check_refused(&rt, answer, Fault::Io(*kind), text);
-            check_untouched(&rt, &output, text);
-        }
+        check_failing(&rt, alloc, "{\"repositories\":[]}", *most, *read, *kind);
+        check_failing(&rt, alloc, "no JSON in 19 bytes", *most, *read, *kind);
     }
-}
-
-fn check_not_normalized(rt: &impl Abort, alloc: Global, text: &str, fault: Fault) {
-    let mut output = Output::new(alloc);
-    let input = Input::new(text.as_bytes());
-    let answer = normalize::<RepositoryList, _, _>(alloc, input, &mut output);
-    check_refused(rt, answer, fault, text);
-    check_untouched(rt, &output, text);
 }
 
 /// Where the bytes are refused, `normalize` writes nothing.
@@ -125,7 +138,8 @@ fn check_not_normalized(rt: &impl Abort, alloc: Global, text: &str, fault: Fault
 fn nothing_normalized(rt: HostRuntime) {
     for (text, expected) in &LISTS {
         if let Err(fault) = expected {
-            check_not_normalized(&rt, rt.alloc(), text, *fault);
+            let input = Input::new(text.as_bytes());
+            check_not_normalized(&rt, rt.alloc(), input, *fault, text);
         }
     }
 }

@@ -1,4 +1,4 @@
-use super::{Fault, check, check_refused, check_untouched};
+use super::{Fault, check, check_is, check_refused, check_untouched};
 use oci_distribution_records::{
     ErrorInfo, ErrorInfoBuilder, ErrorResponse, ErrorResponseBuilder, RepositoryList,
     RepositoryListBuilder,
@@ -6,11 +6,10 @@ use oci_distribution_records::{
 use oci_json_engines::{to_string, to_string_pretty, to_writer, to_writer_pretty};
 use oci_json_schema::OciRecord;
 use oci_test_streams::Output;
-use oci_text_base::Result;
 use oci_text_names::ErrorCode;
 use std::alloc::Global;
+use std::fmt::Debug;
 use std::process::Abort;
-use std::test::Fail;
 
 /// Texts that are no JSON, or hold a number that is no 64-bit whole one.
 static UNREADABLE: [&str; 8] = [
@@ -26,17 +25,25 @@ static UNREADABLE: [&str; 8] = [
 
 const PLACE: Fault = Fault::Schema("ErrorInfo", "detail");
 
-pub(super) fn info(alloc: Global, detail: &str) -> Result<ErrorInfo> {
-    ErrorInfoBuilder::default()
-        .code(ErrorCode::Unauthorized)
-        .detail(String::from_str(alloc, detail)?)
-        .build(alloc)
+fn string(rt: &impl Abort, alloc: Global, text: &str) -> String {
+    String::from_str(alloc, text).expect(rt, "memory")
 }
 
-pub(super) fn reply(alloc: Global, detail: &str) -> Result<ErrorResponse> {
+fn info(rt: &impl Abort, alloc: Global, detail: &str) -> ErrorInfo {
+    ErrorInfoBuilder::default()
+        .code(ErrorCode::Unauthorized)
+        .detail(string(rt, alloc, detail))
+        .build(alloc)
+        .expect(rt, "an error")
+}
+
+pub(super) fn reply(rt: &impl Abort, alloc: Global, detail: &str) -> ErrorResponse {
     let mut errors = Vec::new(alloc);
-    errors.push(info(alloc, detail)?)?;
-    ErrorResponseBuilder::default().errors(errors).build(alloc)
+    errors.push(info(rt, alloc, detail)).expect(rt, "memory");
+    ErrorResponseBuilder::default()
+        .errors(errors)
+        .build(alloc)
+        .expect(rt, "a reply")
 }
 
 /// Each engine refuses the document, and writes nothing.
@@ -53,48 +60,53 @@ fn check_unwritable<T: OciRecord>(rt: &impl Abort, alloc: Global, document: &T, 
 
 /// A `detail` that is no JSON, or holds other numbers, is refused before anything is written.
 #[test]
-fn unreadable_details(rt: HostRuntime) -> std::result::Result<(), Fail> {
+fn unreadable_details(rt: HostRuntime) {
     let alloc = rt.alloc();
-    for detail in UNREADABLE {
-        check_unwritable(&rt, alloc, &info(alloc, detail)?, detail);
-        check_unwritable(&rt, alloc, &reply(alloc, detail)?, detail);
+    for detail in &UNREADABLE {
+        check_unwritable(&rt, alloc, &info(&rt, alloc, detail), detail);
+        check_unwritable(&rt, alloc, &reply(&rt, alloc, detail), detail);
     }
-    Ok(())
+}
+
+/// A copy is equal to its document, and to no other one.
+fn check_copy<T: OciRecord + Debug>(rt: &impl Abort, copy: &T, document: &T, other: &T) {
+    check_is(rt, copy, document);
+    check_is(rt, &(*copy == *other), &false);
+}
+
+fn copied<T: OciRecord>(rt: &impl Abort, alloc: Global, document: &T) -> T {
+    document.duplicate(alloc).expect(rt, "memory")
 }
 
 /// A copy is equal, and is refused on writing as the document is.
 #[test]
-fn copies(rt: HostRuntime) -> std::result::Result<(), Fail> {
+fn copies(rt: HostRuntime) {
     let alloc = rt.alloc();
+    let other = reply(&rt, alloc, "5");
     for detail in ["abcd", "{ \"b\": 1, \"a\": null }", "null"] {
-        let document = reply(alloc, detail)?;
-        assert!(rt; document.duplicate(alloc)? == document, "{detail}");
-        assert!(rt;
-            document.duplicate(alloc)? != reply(alloc, "5")?,
-            "{detail}"
-        );
+        let document = reply(&rt, alloc, detail);
+        check_copy(&rt, &copied(&rt, alloc, &document), &document, &other);
     }
-    check_unwritable(&rt, alloc, &info(alloc, "abcd")?.duplicate(alloc)?, "abcd");
-    Ok(())
+    let copy = copied(&rt, alloc, &info(&rt, alloc, "abcd"));
+    check_unwritable(&rt, alloc, &copy, "abcd");
 }
 
-fn list(alloc: Global, name: &str) -> Result<RepositoryList> {
+fn list(rt: &impl Abort, alloc: Global, name: &str) -> RepositoryList {
     let mut names = Vec::new(alloc);
-    names.push(String::from_str(alloc, name)?)?;
+    names.push(string(rt, alloc, name)).expect(rt, "memory");
     RepositoryListBuilder::default()
         .repositories(names)
         .build(alloc)
+        .expect(rt, "a list")
 }
 
 /// A copy stays as it was where the document is changed.
 #[test]
-fn copies_stay(rt: HostRuntime) -> std::result::Result<(), Fail> {
+fn copies_stay(rt: HostRuntime) {
     let alloc = rt.alloc();
-    let mut document = list(alloc, "busybox")?;
-    let copy = document.duplicate(alloc)?;
-    assert!(rt; copy == document);
+    let mut document = list(&rt, alloc, "busybox");
+    let copy = copied(&rt, alloc, &document);
+    check_is(&rt, &copy, &document);
     document.set_repositories(Vec::new(alloc));
-    assert!(rt; copy != document);
-    assert!(rt; copy == list(alloc, "busybox")?);
-    Ok(())
+    check_copy(&rt, &copy, &list(&rt, alloc, "busybox"), &document);
 }

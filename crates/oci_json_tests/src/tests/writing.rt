@@ -1,10 +1,9 @@
 use super::rows::{FAILING_WRITERS, REPLIES};
-use super::{Fault, check, check_refused};
+use super::{Fault, check, check_is, check_refused};
 use oci_distribution_records::ErrorResponse;
 use oci_json_engines::{
     from_slice, normalize, to_string, to_string_pretty, to_writer, to_writer_pretty,
 };
-use oci_json_schema::OciRecord;
 use oci_test_streams::{Input, Output};
 use oci_text_base::Result;
 use std::alloc::Global;
@@ -21,18 +20,25 @@ enum Engine {
 
 static ENGINES: [Engine; 3] = [Engine::Compact, Engine::Pretty, Engine::Normal];
 
+fn document(rt: &impl Abort, alloc: Global, text: &str) -> ErrorResponse {
+    from_slice(alloc, text.as_bytes()).expect(rt, text)
+}
+
 /// Reads a document, and writes it by the engine.
-fn write_by<T: OciRecord>(
+fn write_by(
+    rt: &impl Abort,
     engine: Engine,
     alloc: Global,
     text: &str,
     output: &mut Output,
 ) -> Result<()> {
-    let document: T = from_slice(alloc, text.as_bytes())?;
+    let document = document(rt, alloc, text);
     match engine {
         Engine::Compact => to_writer(&document, alloc, output),
         Engine::Pretty => to_writer_pretty(&document, alloc, output),
-        Engine::Normal => normalize::<T, _, _>(alloc, Input::new(text.as_bytes()), output),
+        Engine::Normal => {
+            normalize::<ErrorResponse, _, _>(alloc, Input::new(text.as_bytes()), output)
+        }
     }
 }
 
@@ -44,14 +50,10 @@ fn expected_by<'a>(engine: Engine, compact: &'a str, pretty: &'a str) -> &'a str
     }
 }
 
-fn compact_of<T: OciRecord>(alloc: Global, text: &str) -> Result<String> {
-    let document: T = from_slice(alloc, text.as_bytes())?;
-    to_string(&document, alloc)
-}
-
-fn pretty_of<T: OciRecord>(alloc: Global, text: &str) -> Result<String> {
-    let document: T = from_slice(alloc, text.as_bytes())?;
-    to_string_pretty(&document, alloc)
+fn check_texts(rt: &impl Abort, alloc: Global, text: &str, compact: &str, pretty: &str) {
+    let document = document(rt, alloc, text);
+    check(rt, to_string(&document, alloc), Ok(compact), text);
+    check(rt, to_string_pretty(&document, alloc), Ok(pretty), text);
 }
 
 /// The compact and the pretty text; what was written is written again.
@@ -60,20 +62,24 @@ fn texts(rt: HostRuntime) {
     let alloc = rt.alloc();
     for (text, compact, pretty) in &REPLIES {
         for again in [*text, *compact, *pretty] {
-            check(
-                &rt,
-                compact_of::<ErrorResponse>(alloc, again),
-                Ok(*compact),
-                again,
-            );
-            check(
-                &rt,
-                pretty_of::<ErrorResponse>(alloc, again),
-                Ok(*pretty),
-                again,
-            );
+            check_texts(&rt, alloc, again, compact, pretty);
         }
     }
+}
+
+/// The engine writes the whole text, so many bytes at once, and flushes once.
+fn check_written(
+    rt: &impl Abort,
+    alloc: Global,
+    engine: Engine,
+    most: usize,
+    text: &str,
+    expected: &str,
+) {
+    let mut output = Output::new(alloc).at_most(most);
+    write_by(rt, engine, alloc, text, &mut output).expect(rt, text);
+    check_is(rt, &output.taken(), &expected.as_bytes());
+    check_is(rt, &output.flushes(), &1);
 }
 
 /// The whole text is written, however little is taken at once, and flushed once behind its end.
@@ -82,13 +88,9 @@ fn writers(rt: HostRuntime) {
     let alloc = rt.alloc();
     for (text, compact, pretty) in &REPLIES {
         for engine in ENGINES {
+            let expected = expected_by(engine, compact, pretty);
             for most in [1, 10, usize::MAX] {
-                let mut output = Output::new(alloc).at_most(most);
-                let answer = write_by::<ErrorResponse>(engine, alloc, text, &mut output);
-                assert!(rt; answer.is_ok(), "{text}");
-                let expected = expected_by(engine, compact, pretty);
-                assert_eq!(rt; output.taken(), expected.as_bytes());
-                assert_eq!(rt; output.flushes(), 1, "{text}");
+                check_written(&rt, alloc, engine, most, text, expected);
             }
         }
     }
@@ -104,11 +106,11 @@ fn check_begun(
     count: usize,
 ) {
     let (text, compact, pretty) = REPLIES[1];
-    let answer = write_by::<ErrorResponse>(engine, alloc, text, &mut output);
+    let answer = write_by(rt, engine, alloc, text, &mut output);
     check_refused(rt, answer, Fault::Io(kind), text);
     let expected = expected_by(engine, compact, pretty).as_bytes();
-    assert!(rt; expected.starts_with(output.taken()), "{count} bytes");
-    assert_eq!(rt; output.taken().len(), count.min(expected.len()));
+    let begun = expected.get(..count.min(expected.len()));
+    check_is(rt, &Some(output.taken()), &begun);
 }
 
 /// A write that fails, also one that is interrupted, is answered as it failed; a beginning of the text was written.
