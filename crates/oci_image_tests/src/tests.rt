@@ -1,4 +1,6 @@
-use oci_test_records::samples;
+use oci_test_records::{samples, shown, strings, written};
+use std::fmt::Debug;
+use std::process::Abort;
 
 mod artifact_manifest;
 mod config;
@@ -12,3 +14,8 @@ mod oci_layout;
 mod platform;
 mod reading;
 mod root_fs;
+
+/// A value is what was expected.
+fn check_is<T: PartialEq + Debug>(rt: &impl Abort, found: &T, expected: &T) {
+    assert_eq!(rt; found, expected);
+}

@@ -1,6 +1,6 @@
 use super::{
-    check, check_equal, check_is, check_made, check_text, check_unequal, check_unset, inner, map,
-    read, shown, string, strings,
+    check, check_is, check_made, check_text, check_unequal, check_unset, inner, map, read, shown,
+    string, strings,
 };
 use oci_image::{
     Arch, Descriptor, DescriptorBuilder, Digest, MediaType, Os, Platform, PlatformBuilder,
@@ -9,7 +9,7 @@ use oci_image::{
 use oci_json_engines::to_string;
 use oci_text_base::Result;
 use std::alloc::Global;
-use std::test::Fail;
+use std::process::Abort;
 
 /// All members.
 const WHOLE: &str =
@@ -28,51 +28,51 @@ static CHANGED: [&str; 8] = [
 ];
 
 /// The document of all members.
-fn whole(alloc: Global) -> Result<Descriptor> {
-    read(alloc, WHOLE)
+fn whole(rt: &impl Abort, alloc: Global) -> Descriptor {
+    read(alloc, WHOLE).expect(rt, "a document")
 }
 
-fn with_media_type(alloc: Global) -> Result<String> {
-    let mut document = whole(alloc)?;
+fn with_media_type(rt: &impl Abort, alloc: Global) -> Result<String> {
+    let mut document = whole(rt, alloc);
     to_string(document.set_media_type(MediaType::ImageLayer), alloc)
 }
 
-fn with_digest(alloc: Global) -> Result<String> {
-    let digest = Digest::from_str(alloc, "baz:bar")?;
-    let mut document = whole(alloc)?;
+fn with_digest(rt: &impl Abort, alloc: Global) -> Result<String> {
+    let digest = Digest::from_str(alloc, "baz:bar").expect(rt, "a digest");
+    let mut document = whole(rt, alloc);
     to_string(document.set_digest(digest), alloc)
 }
 
-fn with_size(alloc: Global) -> Result<String> {
-    let mut document = whole(alloc)?;
+fn with_size(rt: &impl Abort, alloc: Global) -> Result<String> {
+    let mut document = whole(rt, alloc);
     to_string(document.set_size(u64::MAX), alloc)
 }
 
-fn with_urls(alloc: Global) -> Result<String> {
-    let urls = strings(alloc, &["v", "u"])?;
-    let mut document = whole(alloc)?;
+fn with_urls(rt: &impl Abort, alloc: Global) -> Result<String> {
+    let urls = strings(alloc, &["v", "u"]).expect(rt, "memory");
+    let mut document = whole(rt, alloc);
     to_string(document.set_urls(Some(urls)), alloc)
 }
 
-fn with_annotations(alloc: Global) -> Result<String> {
-    let annotations = map(alloc, "b", "1")?;
-    let mut document = whole(alloc)?;
+fn with_annotations(rt: &impl Abort, alloc: Global) -> Result<String> {
+    let annotations = map(alloc, "b", "1").expect(rt, "memory");
+    let mut document = whole(rt, alloc);
     to_string(document.set_annotations(Some(annotations)), alloc)
 }
 
-fn with_platform(alloc: Global) -> Result<String> {
-    let platform = platform(alloc, Arch::ARM64, Os::Windows)?;
-    let mut document = whole(alloc)?;
+fn with_platform(rt: &impl Abort, alloc: Global) -> Result<String> {
+    let platform = platform(rt, alloc, Arch::ARM64, Os::Windows);
+    let mut document = whole(rt, alloc);
     to_string(document.set_platform(Some(platform)), alloc)
 }
 
-fn with_artifact_type(alloc: Global) -> Result<String> {
-    let mut document = whole(alloc)?;
+fn with_artifact_type(rt: &impl Abort, alloc: Global) -> Result<String> {
+    let mut document = whole(rt, alloc);
     to_string(document.set_artifact_type(None), alloc)
 }
 
-fn with_data(alloc: Global) -> Result<String> {
-    let mut document = whole(alloc)?;
+fn with_data(rt: &impl Abort, alloc: Global) -> Result<String> {
+    let mut document = whole(rt, alloc);
     to_string(document.set_data(Some(String::new(alloc))), alloc)
 }
 
@@ -80,14 +80,24 @@ fn with_data(alloc: Global) -> Result<String> {
 #[test]
 fn setters(rt: HostRuntime) {
     let alloc = rt.alloc();
-    check(&rt, with_media_type(alloc), CHANGED[0]);
-    check(&rt, with_digest(alloc), CHANGED[1]);
-    check(&rt, with_size(alloc), CHANGED[2]);
-    check(&rt, with_urls(alloc), CHANGED[3]);
-    check(&rt, with_annotations(alloc), CHANGED[4]);
-    check(&rt, with_platform(alloc), CHANGED[5]);
-    check(&rt, with_artifact_type(alloc), CHANGED[6]);
-    check(&rt, with_data(alloc), CHANGED[7]);
+    let [
+        media_type,
+        digest,
+        size,
+        urls,
+        annotations,
+        platform,
+        artifact_type,
+        data,
+    ] = CHANGED;
+    check(&rt, with_media_type(&rt, alloc), media_type);
+    check(&rt, with_digest(&rt, alloc), digest);
+    check(&rt, with_size(&rt, alloc), size);
+    check(&rt, with_urls(&rt, alloc), urls);
+    check(&rt, with_annotations(&rt, alloc), annotations);
+    check(&rt, with_platform(&rt, alloc), platform);
+    check(&rt, with_artifact_type(&rt, alloc), artifact_type);
+    check(&rt, with_data(&rt, alloc), data);
 }
 
 /// Documents that differ in one member are unequal.
@@ -98,9 +108,9 @@ fn equality(rt: HostRuntime) {
 
 /// The getters lend what was read.
 #[test]
-fn getters(rt: HostRuntime) -> std::result::Result<(), Fail> {
+fn getters(rt: HostRuntime) {
     let alloc = rt.alloc();
-    let document = whole(alloc)?;
+    let document = whole(&rt, alloc);
     check_is(&rt, document.media_type(), &MediaType::EmptyJSON);
     check_text(&rt, document.digest().as_ref(), "foo:bar");
     check_is(&rt, &document.size(), &2);
@@ -121,49 +131,46 @@ fn getters(rt: HostRuntime) -> std::result::Result<(), Fail> {
         r#"Some(Other("application/spdx+json"))"#,
     );
     check(&rt, shown(alloc, document.data()), r#"Some("e30=")"#);
-    Ok(())
 }
 
-fn copied(alloc: Global) -> Result<Descriptor> {
-    let document = whole(alloc)?;
-    document.clone(alloc)
+fn copied(rt: &impl Abort, alloc: Global) -> Descriptor {
+    whole(rt, alloc).clone(alloc).expect(rt, "memory")
 }
 
 /// A clone is an equal document.
 #[test]
 fn clones(rt: HostRuntime) {
     let alloc = rt.alloc();
-    check_equal(&rt, whole(alloc), copied(alloc), "clone");
-    check_made(&rt, alloc, copied(alloc), WHOLE);
+    check_is(&rt, &copied(&rt, alloc), &whole(&rt, alloc));
+    check_made(&rt, alloc, Ok(copied(&rt, alloc)), WHOLE);
 }
 
-fn platform(alloc: Global, architecture: Arch, os: Os) -> Result<Platform> {
+fn platform(rt: &impl Abort, alloc: Global, architecture: Arch, os: Os) -> Platform {
     PlatformBuilder::default()
         .architecture(architecture)
         .os(os)
         .build(alloc)
+        .expect(rt, "a platform")
 }
 
 /// The first half of the members.
-fn begun(alloc: Global) -> Result<DescriptorBuilder> {
-    let digest = Digest::from_str(alloc, "foo:bar")?;
-    let urls = strings(alloc, &["u"])?;
-    Ok(
-        DescriptorBuilder::default()
-            .media_type(MediaType::EmptyJSON)
-            .digest(digest)
-            .size(2)
-            .urls(urls),
-    )
+fn begun(rt: &impl Abort, alloc: Global) -> DescriptorBuilder {
+    let digest = Digest::from_str(alloc, "foo:bar").expect(rt, "a digest");
+    let urls = strings(alloc, &["u"]).expect(rt, "memory");
+    DescriptorBuilder::default()
+        .media_type(MediaType::EmptyJSON)
+        .digest(digest)
+        .size(2)
+        .urls(urls)
 }
 
 /// What a builder makes of all members.
-fn built(alloc: Global) -> Result<Descriptor> {
-    let annotations = map(alloc, "a", "1")?;
-    let platform = platform(alloc, Arch::Amd64, Os::Linux)?;
-    let artifact_type = MediaType::from_text(alloc, "application/spdx+json")?;
-    let data = string(alloc, "e30=")?;
-    begun(alloc)?
+fn built(rt: &impl Abort, alloc: Global) -> Result<Descriptor> {
+    let annotations = map(alloc, "a", "1").expect(rt, "memory");
+    let platform = platform(rt, alloc, Arch::Amd64, Os::Linux);
+    let artifact_type = MediaType::from_text(alloc, "application/spdx+json").expect(rt, "memory");
+    let data = string(alloc, "e30=").expect(rt, "memory");
+    begun(rt, alloc)
         .annotations(annotations)
         .platform(platform)
         .artifact_type(artifact_type)
@@ -174,17 +181,25 @@ fn built(alloc: Global) -> Result<Descriptor> {
 /// What is set is in the document.
 #[test]
 fn builders(rt: HostRuntime) {
-    check_made(&rt, rt.alloc(), built(rt.alloc()), WHOLE);
+    let alloc = rt.alloc();
+    check_made(&rt, alloc, built(&rt, alloc), WHOLE);
 }
 
 /// A builder of those members that are asked for.
-fn part(alloc: Global, media_type: bool, digest: bool, size: bool) -> Result<Descriptor> {
+fn part(
+    rt: &impl Abort,
+    alloc: Global,
+    media_type: bool,
+    digest: bool,
+    size: bool,
+) -> Result<Descriptor> {
     let mut builder = DescriptorBuilder::default();
     if media_type {
         builder = builder.media_type(MediaType::ImageConfig);
     }
     if digest {
-        builder = builder.digest(Digest::from_str(alloc, "foo:bar")?);
+        let digest = Digest::from_str(alloc, "foo:bar").expect(rt, "a digest");
+        builder = builder.digest(digest);
     }
     if size {
         builder = builder.size(0);
@@ -208,44 +223,45 @@ static PARTS: [(bool, bool, bool, &str); 7] = [
 fn unset(rt: HostRuntime) {
     let alloc = rt.alloc();
     for (media_type, digest, size, field) in &PARTS {
-        let built = part(alloc, *media_type, *digest, *size);
+        let built = part(&rt, alloc, *media_type, *digest, *size);
         check_unset(&rt, built, *field);
     }
     check_made(
         &rt,
         alloc,
-        part(alloc, true, true, true),
+        part(&rt, alloc, true, true, true),
         r#"{"digest":"foo:bar","mediaType":"application/vnd.oci.image.config.v1+json","size":0}"#,
     );
 }
 
 const SHA256: &str = "6c3c624b58dbbcd3c0dd82b4c53f04194d1247c6eebdaab7c610cf7d66709b3b";
 
-fn of_three(alloc: Global) -> Result<Descriptor> {
-    let digest = Sha256Digest::from_str(alloc, SHA256)?.into_digest()?;
-    Ok(Descriptor::new(MediaType::ImageManifest, 5, digest))
+fn of_three(rt: &impl Abort, alloc: Global) -> Descriptor {
+    let digits = Sha256Digest::from_str(alloc, SHA256).expect(rt, "digits");
+    let digest = digits.into_digest().expect(rt, "memory");
+    Descriptor::new(MediaType::ImageManifest, 5, digest)
 }
 
 /// A descriptor of a media type, a size and a digest.
 #[test]
 fn made_of_three(rt: HostRuntime) {
+    let alloc = rt.alloc();
     check_made(
         &rt,
-        rt.alloc(),
-        of_three(rt.alloc()),
+        alloc,
+        Ok(of_three(&rt, alloc)),
         r#"{"digest":"sha256:6c3c624b58dbbcd3c0dd82b4c53f04194d1247c6eebdaab7c610cf7d66709b3b","mediaType":"application/vnd.oci.image.manifest.v1+json","size":5}"#,
     );
 }
 
-fn digits_of(alloc: Global, made: Result<Descriptor>) -> Result<String> {
-    let document = made?;
-    string(alloc, document.as_digest_sha256().unwrap_or("-"))
+fn check_digits(rt: &impl Abort, document: Descriptor, expected: &str) {
+    check_text(rt, document.as_digest_sha256().unwrap_or("-"), expected);
 }
 
 /// The digits of a SHA-256 digest, and none of another one.
 #[test]
 fn digits(rt: HostRuntime) {
     let alloc = rt.alloc();
-    check(&rt, digits_of(alloc, of_three(alloc)), SHA256);
-    check(&rt, digits_of(alloc, whole(alloc)), "-");
+    check_digits(&rt, of_three(&rt, alloc), SHA256);
+    check_digits(&rt, whole(&rt, alloc), "-");
 }

@@ -1,12 +1,12 @@
 use super::{
-    check, check_equal, check_is, check_made, check_unequal, check_unset, content, inner, lines,
+    add_content, check, check_is, check_made, check_unequal, check_unset, content, inner, lines,
     map, read, shown, single,
 };
 use oci_image::{Descriptor, ImageIndex, ImageIndexBuilder, MediaType};
 use oci_json_engines::to_string;
 use oci_text_base::Result;
 use std::alloc::Global;
-use std::test::Fail;
+use std::process::Abort;
 
 /// All members.
 const WHOLE: &str =
@@ -23,43 +23,43 @@ static CHANGED: [&str; 6] = [
 ];
 
 /// The document of all members.
-fn whole(alloc: Global) -> Result<ImageIndex> {
-    read(alloc, WHOLE)
+fn whole(rt: &impl Abort, alloc: Global) -> ImageIndex {
+    read(alloc, WHOLE).expect(rt, "a document")
 }
 
-fn with_schema_version(alloc: Global) -> Result<String> {
-    let mut document = whole(alloc)?;
+fn with_schema_version(rt: &impl Abort, alloc: Global) -> Result<String> {
+    let mut document = whole(rt, alloc);
     to_string(document.set_schema_version(u32::MAX), alloc)
 }
 
-fn with_media_type(alloc: Global) -> Result<String> {
-    let mut document = whole(alloc)?;
+fn with_media_type(rt: &impl Abort, alloc: Global) -> Result<String> {
+    let mut document = whole(rt, alloc);
     to_string(
         document.set_media_type(Some(MediaType::ImageManifest)),
         alloc,
     )
 }
 
-fn with_artifact_type(alloc: Global) -> Result<String> {
-    let mut document = whole(alloc)?;
+fn with_artifact_type(rt: &impl Abort, alloc: Global) -> Result<String> {
+    let mut document = whole(rt, alloc);
     to_string(document.set_artifact_type(None), alloc)
 }
 
-fn with_manifests(alloc: Global) -> Result<String> {
-    let manifests = single(alloc, content(alloc, "x:1"))?;
-    let mut document = whole(alloc)?;
+fn with_manifests(rt: &impl Abort, alloc: Global) -> Result<String> {
+    let manifests = single(alloc, content(alloc, "x:1")).expect(rt, "memory");
+    let mut document = whole(rt, alloc);
     to_string(document.set_manifests(manifests), alloc)
 }
 
-fn with_subject(alloc: Global) -> Result<String> {
-    let subject = content(alloc, "x:1")?;
-    let mut document = whole(alloc)?;
+fn with_subject(rt: &impl Abort, alloc: Global) -> Result<String> {
+    let subject = content(alloc, "x:1").expect(rt, "memory");
+    let mut document = whole(rt, alloc);
     to_string(document.set_subject(Some(subject)), alloc)
 }
 
-fn with_annotations(alloc: Global) -> Result<String> {
-    let annotations = map(alloc, "b", "1")?;
-    let mut document = whole(alloc)?;
+fn with_annotations(rt: &impl Abort, alloc: Global) -> Result<String> {
+    let annotations = map(alloc, "b", "1").expect(rt, "memory");
+    let mut document = whole(rt, alloc);
     to_string(document.set_annotations(Some(annotations)), alloc)
 }
 
@@ -67,12 +67,20 @@ fn with_annotations(alloc: Global) -> Result<String> {
 #[test]
 fn setters(rt: HostRuntime) {
     let alloc = rt.alloc();
-    check(&rt, with_schema_version(alloc), CHANGED[0]);
-    check(&rt, with_media_type(alloc), CHANGED[1]);
-    check(&rt, with_artifact_type(alloc), CHANGED[2]);
-    check(&rt, with_manifests(alloc), CHANGED[3]);
-    check(&rt, with_subject(alloc), CHANGED[4]);
-    check(&rt, with_annotations(alloc), CHANGED[5]);
+    let [
+        schema_version,
+        media_type,
+        artifact_type,
+        manifests,
+        subject,
+        annotations,
+    ] = CHANGED;
+    check(&rt, with_schema_version(&rt, alloc), schema_version);
+    check(&rt, with_media_type(&rt, alloc), media_type);
+    check(&rt, with_artifact_type(&rt, alloc), artifact_type);
+    check(&rt, with_manifests(&rt, alloc), manifests);
+    check(&rt, with_subject(&rt, alloc), subject);
+    check(&rt, with_annotations(&rt, alloc), annotations);
 }
 
 /// Documents that differ in one member are unequal.
@@ -83,9 +91,9 @@ fn equality(rt: HostRuntime) {
 
 /// The getters lend what was read.
 #[test]
-fn getters(rt: HostRuntime) -> std::result::Result<(), Fail> {
+fn getters(rt: HostRuntime) {
     let alloc = rt.alloc();
-    let document = whole(alloc)?;
+    let document = whole(&rt, alloc);
     check_is(&rt, &document.schema_version(), &2);
     check(&rt, shown(alloc, document.media_type()), "Some(ImageIndex)");
     check(
@@ -108,34 +116,32 @@ fn getters(rt: HostRuntime) -> std::result::Result<(), Fail> {
         shown(alloc, document.annotations()),
         r#"Some({"a": "1"})"#,
     );
-    Ok(())
 }
 
-fn copied(alloc: Global) -> Result<ImageIndex> {
-    let document = whole(alloc)?;
-    document.clone(alloc)
+fn copied(rt: &impl Abort, alloc: Global) -> ImageIndex {
+    whole(rt, alloc).clone(alloc).expect(rt, "memory")
 }
 
 /// A clone is an equal document.
 #[test]
 fn clones(rt: HostRuntime) {
     let alloc = rt.alloc();
-    check_equal(&rt, whole(alloc), copied(alloc), "clone");
-    check_made(&rt, alloc, copied(alloc), WHOLE);
+    check_is(&rt, &copied(&rt, alloc), &whole(&rt, alloc));
+    check_made(&rt, alloc, Ok(copied(&rt, alloc)), WHOLE);
 }
 
-fn manifests(alloc: Global) -> Result<Vec<Descriptor>> {
-    let mut manifests = single(alloc, content(alloc, "m:1"))?;
-    manifests.push(content(alloc, "m:2")?)?;
-    Ok(manifests)
+fn manifests(rt: &impl Abort, alloc: Global) -> Vec<Descriptor> {
+    let mut manifests = single(alloc, content(alloc, "m:1")).expect(rt, "memory");
+    add_content(&mut manifests, alloc, "m:2").expect(rt, "memory");
+    manifests
 }
 
 /// What a builder makes of all members.
-fn built(alloc: Global) -> Result<ImageIndex> {
-    let artifact_type = MediaType::from_text(alloc, "t")?;
-    let manifests = manifests(alloc)?;
-    let subject = content(alloc, "s:1")?;
-    let annotations = map(alloc, "a", "1")?;
+fn built(rt: &impl Abort, alloc: Global) -> Result<ImageIndex> {
+    let artifact_type = MediaType::from_text(alloc, "t").expect(rt, "memory");
+    let manifests = manifests(rt, alloc);
+    let subject = content(alloc, "s:1").expect(rt, "memory");
+    let annotations = map(alloc, "a", "1").expect(rt, "memory");
     ImageIndexBuilder::default()
         .schema_version(2)
         .media_type(MediaType::ImageIndex)
@@ -149,7 +155,8 @@ fn built(alloc: Global) -> Result<ImageIndex> {
 /// What is set is in the document.
 #[test]
 fn builders(rt: HostRuntime) {
-    check_made(&rt, rt.alloc(), built(rt.alloc()), WHOLE);
+    let alloc = rt.alloc();
+    check_made(&rt, alloc, built(&rt, alloc), WHOLE);
 }
 
 /// The manifests, a line each.

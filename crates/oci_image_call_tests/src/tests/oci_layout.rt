@@ -1,9 +1,9 @@
-use super::{check, check_equal, check_made, check_text, check_unequal, check_unset, read, string};
+use super::{check, check_is, check_made, check_text, check_unequal, check_unset, read, string};
 use oci_image::{OciLayout, OciLayoutBuilder};
 use oci_json_engines::to_string;
 use oci_text_base::Result;
 use std::alloc::Global;
-use std::test::Fail;
+use std::process::Abort;
 
 /// All members.
 const WHOLE: &str = r#"{"imageLayoutVersion":"1.0.0"}"#;
@@ -12,13 +12,13 @@ const WHOLE: &str = r#"{"imageLayoutVersion":"1.0.0"}"#;
 static CHANGED: [&str; 1] = [r#"{"imageLayoutVersion":"2"}"#];
 
 /// The document of all members.
-fn whole(alloc: Global) -> Result<OciLayout> {
-    read(alloc, WHOLE)
+fn whole(rt: &impl Abort, alloc: Global) -> OciLayout {
+    read(alloc, WHOLE).expect(rt, "a document")
 }
 
-fn with_image_layout_version(alloc: Global) -> Result<String> {
-    let image_layout_version = string(alloc, "2")?;
-    let mut document = whole(alloc)?;
+fn with_image_layout_version(rt: &impl Abort, alloc: Global) -> Result<String> {
+    let image_layout_version = string(alloc, "2").expect(rt, "memory");
+    let mut document = whole(rt, alloc);
     to_string(
         document.set_image_layout_version(image_layout_version),
         alloc,
@@ -29,7 +29,7 @@ fn with_image_layout_version(alloc: Global) -> Result<String> {
 #[test]
 fn setters(rt: HostRuntime) {
     let alloc = rt.alloc();
-    check(&rt, with_image_layout_version(alloc), CHANGED[0]);
+    check(&rt, with_image_layout_version(&rt, alloc), CHANGED[0]);
 }
 
 /// Documents of other texts are unequal.
@@ -40,29 +40,27 @@ fn equality(rt: HostRuntime) {
 
 /// The getters lend what was read.
 #[test]
-fn getters(rt: HostRuntime) -> std::result::Result<(), Fail> {
+fn getters(rt: HostRuntime) {
     let alloc = rt.alloc();
-    let document = whole(alloc)?;
+    let document = whole(&rt, alloc);
     check_text(&rt, document.image_layout_version().as_str(), "1.0.0");
-    Ok(())
 }
 
-fn copied(alloc: Global) -> Result<OciLayout> {
-    let document = whole(alloc)?;
-    document.clone(alloc)
+fn copied(rt: &impl Abort, alloc: Global) -> OciLayout {
+    whole(rt, alloc).clone(alloc).expect(rt, "memory")
 }
 
 /// A clone is an equal document.
 #[test]
 fn clones(rt: HostRuntime) {
     let alloc = rt.alloc();
-    check_equal(&rt, whole(alloc), copied(alloc), "clone");
-    check_made(&rt, alloc, copied(alloc), WHOLE);
+    check_is(&rt, &copied(&rt, alloc), &whole(&rt, alloc));
+    check_made(&rt, alloc, Ok(copied(&rt, alloc)), WHOLE);
 }
 
 /// What a builder makes of all members.
-fn built(alloc: Global) -> Result<OciLayout> {
-    let version = string(alloc, "1.0.0")?;
+fn built(rt: &impl Abort, alloc: Global) -> Result<OciLayout> {
+    let version = string(alloc, "1.0.0").expect(rt, "memory");
     OciLayoutBuilder::default()
         .image_layout_version(version)
         .build(alloc)
@@ -71,7 +69,8 @@ fn built(alloc: Global) -> Result<OciLayout> {
 /// What is set is in the document.
 #[test]
 fn builders(rt: HostRuntime) {
-    check_made(&rt, rt.alloc(), built(rt.alloc()), WHOLE);
+    let alloc = rt.alloc();
+    check_made(&rt, alloc, built(&rt, alloc), WHOLE);
 }
 
 /// The version has to be set.

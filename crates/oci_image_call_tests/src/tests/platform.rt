@@ -1,12 +1,11 @@
 use super::{
-    check, check_equal, check_is, check_made, check_unequal, check_unset, read, shown, string,
-    strings,
+    check, check_is, check_made, check_unequal, check_unset, read, shown, string, strings,
 };
 use oci_image::{Arch, Os, Platform, PlatformBuilder};
 use oci_json_engines::to_string;
 use oci_text_base::Result;
 use std::alloc::Global;
-use std::test::Fail;
+use std::process::Abort;
 
 /// All members.
 const WHOLE: &str =
@@ -23,39 +22,39 @@ static CHANGED: [&str; 6] = [
 ];
 
 /// The document of all members.
-fn whole(alloc: Global) -> Result<Platform> {
-    read(alloc, WHOLE)
+fn whole(rt: &impl Abort, alloc: Global) -> Platform {
+    read(alloc, WHOLE).expect(rt, "a document")
 }
 
-fn with_architecture(alloc: Global) -> Result<String> {
-    let mut document = whole(alloc)?;
+fn with_architecture(rt: &impl Abort, alloc: Global) -> Result<String> {
+    let mut document = whole(rt, alloc);
     to_string(document.set_architecture(Arch::Amd64), alloc)
 }
 
-fn with_os(alloc: Global) -> Result<String> {
-    let mut document = whole(alloc)?;
+fn with_os(rt: &impl Abort, alloc: Global) -> Result<String> {
+    let mut document = whole(rt, alloc);
     to_string(document.set_os(Os::Linux), alloc)
 }
 
-fn with_os_version(alloc: Global) -> Result<String> {
-    let mut document = whole(alloc)?;
+fn with_os_version(rt: &impl Abort, alloc: Global) -> Result<String> {
+    let mut document = whole(rt, alloc);
     to_string(document.set_os_version(None), alloc)
 }
 
-fn with_os_features(alloc: Global) -> Result<String> {
-    let os_features = strings(alloc, &["a", "b"])?;
-    let mut document = whole(alloc)?;
+fn with_os_features(rt: &impl Abort, alloc: Global) -> Result<String> {
+    let os_features = strings(alloc, &["a", "b"]).expect(rt, "memory");
+    let mut document = whole(rt, alloc);
     to_string(document.set_os_features(Some(os_features)), alloc)
 }
 
-fn with_variant(alloc: Global) -> Result<String> {
-    let variant = string(alloc, "v8")?;
-    let mut document = whole(alloc)?;
+fn with_variant(rt: &impl Abort, alloc: Global) -> Result<String> {
+    let variant = string(alloc, "v8").expect(rt, "memory");
+    let mut document = whole(rt, alloc);
     to_string(document.set_variant(Some(variant)), alloc)
 }
 
-fn with_features(alloc: Global) -> Result<String> {
-    let mut document = whole(alloc)?;
+fn with_features(rt: &impl Abort, alloc: Global) -> Result<String> {
+    let mut document = whole(rt, alloc);
     to_string(document.set_features(Some(Vec::new(alloc))), alloc)
 }
 
@@ -63,12 +62,13 @@ fn with_features(alloc: Global) -> Result<String> {
 #[test]
 fn setters(rt: HostRuntime) {
     let alloc = rt.alloc();
-    check(&rt, with_architecture(alloc), CHANGED[0]);
-    check(&rt, with_os(alloc), CHANGED[1]);
-    check(&rt, with_os_version(alloc), CHANGED[2]);
-    check(&rt, with_os_features(alloc), CHANGED[3]);
-    check(&rt, with_variant(alloc), CHANGED[4]);
-    check(&rt, with_features(alloc), CHANGED[5]);
+    let [architecture, os, os_version, os_features, variant, features] = CHANGED;
+    check(&rt, with_architecture(&rt, alloc), architecture);
+    check(&rt, with_os(&rt, alloc), os);
+    check(&rt, with_os_version(&rt, alloc), os_version);
+    check(&rt, with_os_features(&rt, alloc), os_features);
+    check(&rt, with_variant(&rt, alloc), variant);
+    check(&rt, with_features(&rt, alloc), features);
 }
 
 /// Documents that differ in one member are unequal.
@@ -79,9 +79,9 @@ fn equality(rt: HostRuntime) {
 
 /// The getters lend what was read.
 #[test]
-fn getters(rt: HostRuntime) -> std::result::Result<(), Fail> {
+fn getters(rt: HostRuntime) {
     let alloc = rt.alloc();
-    let document = whole(alloc)?;
+    let document = whole(&rt, alloc);
     check_is(&rt, document.architecture(), &Arch::ARM);
     check_is(&rt, document.os(), &Os::Windows);
     check(&rt, shown(alloc, document.os_version()), r#"Some("10.0")"#);
@@ -92,28 +92,26 @@ fn getters(rt: HostRuntime) -> std::result::Result<(), Fail> {
     );
     check(&rt, shown(alloc, document.variant()), r#"Some("v7")"#);
     check(&rt, shown(alloc, document.features()), r#"Some(["f"])"#);
-    Ok(())
 }
 
-fn copied(alloc: Global) -> Result<Platform> {
-    let document = whole(alloc)?;
-    document.clone(alloc)
+fn copied(rt: &impl Abort, alloc: Global) -> Platform {
+    whole(rt, alloc).clone(alloc).expect(rt, "memory")
 }
 
 /// A clone is an equal document.
 #[test]
 fn clones(rt: HostRuntime) {
     let alloc = rt.alloc();
-    check_equal(&rt, whole(alloc), copied(alloc), "clone");
-    check_made(&rt, alloc, copied(alloc), WHOLE);
+    check_is(&rt, &copied(&rt, alloc), &whole(&rt, alloc));
+    check_made(&rt, alloc, Ok(copied(&rt, alloc)), WHOLE);
 }
 
 /// What a builder makes of all members.
-fn built(alloc: Global) -> Result<Platform> {
-    let os_version = string(alloc, "10.0")?;
-    let os_features = strings(alloc, &["win32k"])?;
-    let variant = string(alloc, "v7")?;
-    let features = strings(alloc, &["f"])?;
+fn built(rt: &impl Abort, alloc: Global) -> Result<Platform> {
+    let os_version = string(alloc, "10.0").expect(rt, "memory");
+    let os_features = strings(alloc, &["win32k"]).expect(rt, "memory");
+    let variant = string(alloc, "v7").expect(rt, "memory");
+    let features = strings(alloc, &["f"]).expect(rt, "memory");
     PlatformBuilder::default()
         .architecture(Arch::ARM)
         .os(Os::Windows)
@@ -127,7 +125,8 @@ fn built(alloc: Global) -> Result<Platform> {
 /// What is set is in the document.
 #[test]
 fn builders(rt: HostRuntime) {
-    check_made(&rt, rt.alloc(), built(rt.alloc()), WHOLE);
+    let alloc = rt.alloc();
+    check_made(&rt, alloc, built(&rt, alloc), WHOLE);
 }
 
 /// The first member that has to be set and is not is named; the others may be absent.

@@ -1,44 +1,45 @@
 use super::samples::{LAYOUT, LAYOUT_FILE, LAYOUT_PRETTY};
-use super::{check, check_equal, check_file, check_stream};
+use super::{check, check_equal, check_file, check_stream, string};
 use oci_image::{OciLayout, OciLayoutBuilder};
 use oci_test_streams::{Input, Output};
 use oci_text_base::Result;
 use std::alloc::Global;
 use std::fs;
+use std::process::Abort;
 use std::rt::Files;
 
 /// The document that is built.
-fn made(alloc: Global) -> Result<OciLayout> {
+fn made(rt: &impl Abort, alloc: Global) -> OciLayout {
+    let version = string(alloc, "lorem ipsum").expect(rt, "memory");
     OciLayoutBuilder::default()
-        .image_layout_version(String::from_str(alloc, "lorem ipsum")?)
+        .image_layout_version(version)
         .build(alloc)
+        .expect(rt, "a document")
 }
 
 /// What a reader gives is the document that is built.
 #[test]
 fn from_readers(rt: HostRuntime) {
     let read = OciLayout::from_reader(rt.alloc(), Input::new(LAYOUT_FILE.as_bytes()));
-    check_equal(&rt, read, made(rt.alloc()), "reader");
+    check_equal(&rt, read, Ok(made(&rt, rt.alloc())), "reader");
 }
 
 /// What stands in a file is the document that is built.
 #[test]
 fn from_files(rt: HostRuntime) {
     let path = "oci_layout_read.json";
-    assert!(rt; fs::write(&rt, path, LAYOUT_FILE).is_ok());
+    fs::write(&rt, path, LAYOUT_FILE).expect(&rt, path);
     let read = OciLayout::from_file(&rt, rt.alloc(), path);
-    check_equal(&rt, read, made(rt.alloc()), "file");
-    assert!(rt; fs::remove_file(&rt, path).is_ok());
+    check_equal(&rt, read, Ok(made(&rt, rt.alloc())), "file");
+    fs::remove_file(&rt, path).expect(&rt, path);
 }
 
-fn to_file(rt: &impl Files, alloc: Global, path: &str) -> Result<()> {
-    let document = made(alloc)?;
-    document.to_file(rt, alloc, path)
+fn to_file(rt: &(impl Abort + Files), alloc: Global, path: &str) -> Result<()> {
+    made(rt, alloc).to_file(rt, alloc, path)
 }
 
-fn to_file_pretty(rt: &impl Files, alloc: Global, path: &str) -> Result<()> {
-    let document = made(alloc)?;
-    document.to_file_pretty(rt, alloc, path)
+fn to_file_pretty(rt: &(impl Abort + Files), alloc: Global, path: &str) -> Result<()> {
+    made(rt, alloc).to_file_pretty(rt, alloc, path)
 }
 
 /// A file is the compact or the pretty text.
@@ -54,40 +55,36 @@ fn to_files(rt: HostRuntime) {
     );
 }
 
-fn to_writer(alloc: Global, output: &mut Output) -> Result<()> {
-    let document = made(alloc)?;
-    document.to_writer(alloc, output)
+fn to_writer(rt: &impl Abort, alloc: Global, output: &mut Output) -> Result<()> {
+    made(rt, alloc).to_writer(alloc, output)
 }
 
-fn to_writer_pretty(alloc: Global, output: &mut Output) -> Result<()> {
-    let document = made(alloc)?;
-    document.to_writer_pretty(alloc, output)
+fn to_writer_pretty(rt: &impl Abort, alloc: Global, output: &mut Output) -> Result<()> {
+    made(rt, alloc).to_writer_pretty(alloc, output)
 }
 
 /// A writer takes the compact or the pretty text.
 #[test]
 fn to_writers(rt: HostRuntime) {
     let mut output = Output::new(rt.alloc());
-    let answer = to_writer(rt.alloc(), &mut output);
+    let answer = to_writer(&rt, rt.alloc(), &mut output);
     check_stream(&rt, answer, &output, LAYOUT);
     let mut output = Output::new(rt.alloc());
-    let answer = to_writer_pretty(rt.alloc(), &mut output);
+    let answer = to_writer_pretty(&rt, rt.alloc(), &mut output);
     check_stream(&rt, answer, &output, LAYOUT_PRETTY);
 }
 
-fn compact(alloc: Global) -> Result<String> {
-    let document = made(alloc)?;
-    document.to_string(alloc)
+fn compact(rt: &impl Abort, alloc: Global) -> Result<String> {
+    made(rt, alloc).to_string(alloc)
 }
 
-fn pretty(alloc: Global) -> Result<String> {
-    let document = made(alloc)?;
-    document.to_string_pretty(alloc)
+fn pretty(rt: &impl Abort, alloc: Global) -> Result<String> {
+    made(rt, alloc).to_string_pretty(alloc)
 }
 
 /// The compact and the pretty text.
 #[test]
 fn texts(rt: HostRuntime) {
-    check(&rt, compact(rt.alloc()), LAYOUT);
-    check(&rt, pretty(rt.alloc()), LAYOUT_PRETTY);
+    check(&rt, compact(&rt, rt.alloc()), LAYOUT);
+    check(&rt, pretty(&rt, rt.alloc()), LAYOUT_PRETTY);
 }

@@ -1,7 +1,9 @@
-use super::reading::{Refusal, check_read, check_refused, is_line, is_written, list, owned};
+use super::reading::{Refusal, check_line, check_read, check_refused, check_written, owned};
+use super::{check_is, shown, strings};
 use oci_image::{Config, ConfigBuilder};
 use oci_text::Result;
 use std::alloc::Global;
+use std::process::Abort;
 
 /// Texts, and the record and the member that refuse them.
 static REFUSED: [Refusal; 21] = [
@@ -81,41 +83,37 @@ fn texts(rt: HostRuntime) {
     check_read::<Config>(&rt, rt.alloc(), &READ);
 }
 
-fn with_ports(alloc: Global, ports: &[&str]) -> Result<Config> {
-    let ports = list(alloc, ports)?;
+fn with_ports(rt: &impl Abort, alloc: Global, ports: &[&str]) -> Result<Config> {
+    let ports = strings(alloc, ports).expect(rt, "memory");
     ConfigBuilder::default().exposed_ports(ports).build(alloc)
 }
 
-fn are_equal(alloc: Global, ports: &[&str], others: &[&str]) -> Result<bool> {
-    let config = with_ports(alloc, ports)?;
-    Ok(config == with_ports(alloc, others)?)
+fn are_equal(rt: &impl Abort, alloc: Global, ports: &[&str], others: &[&str]) -> bool {
+    let config = with_ports(rt, alloc, ports).expect(rt, "a document");
+    let other = with_ports(rt, alloc, others).expect(rt, "a document");
+    config == other
 }
 
 /// The ports that are read from a text.
-fn ports_read(alloc: Global, json: &str) -> Result<String> {
-    let config = owned::<Config>(alloc, json)?;
-    let ports = config.exposed_ports();
-    Ok(format!(in alloc; "{ports:?}")?)
+fn ports_read(rt: &impl Abort, alloc: Global, json: &str) -> Result<String> {
+    let config = owned::<Config>(rt, alloc, json).expect(rt, json);
+    shown(alloc, config.exposed_ports())
 }
 
 /// Ports in another order, or twice, make another document of the same text; it is read in byte order.
 #[test]
 fn ports(rt: HostRuntime) {
     let alloc = rt.alloc();
-    let written = r#"{"ExposedPorts":{"a":{},"b":{}}}"#;
-    assert!(rt; is_written(alloc, with_ports(alloc, &["b", "a"]), written));
-    assert!(rt; is_written(alloc, with_ports(alloc, &["a", "b", "a"]), written));
-    let unequal = are_equal(alloc, &["b", "a"], &["a", "b", "a"]);
-    assert!(rt; unequal.is_ok_and(|equal| !equal));
-    let equal = are_equal(alloc, &["b", "a"], &["b", "a"]);
-    assert!(rt; equal.is_ok_and(|equal| equal));
-    let given = with_ports(alloc, &["8080/tcp", "443/tcp", "8080/tcp"]);
-    let written = r#"{"ExposedPorts":{"443/tcp":{},"8080/tcp":{}}}"#;
-    assert!(rt; is_written(alloc, given, written));
-    assert!(rt;
-        is_line(
-            ports_read(alloc, written),
-            r#"Some(["443/tcp", "8080/tcp"])"#
-        )
-    );
+    let text = r#"{"ExposedPorts":{"a":{},"b":{}}}"#;
+    check_written(&rt, alloc, with_ports(&rt, alloc, &["b", "a"]), text);
+    check_written(&rt, alloc, with_ports(&rt, alloc, &["a", "b", "a"]), text);
+    let unequal = are_equal(&rt, alloc, &["b", "a"], &["a", "b", "a"]);
+    check_is(&rt, &unequal, &false);
+    let equal = are_equal(&rt, alloc, &["b", "a"], &["b", "a"]);
+    check_is(&rt, &equal, &true);
+    let given = with_ports(&rt, alloc, &["8080/tcp", "443/tcp", "8080/tcp"]);
+    let text = r#"{"ExposedPorts":{"443/tcp":{},"8080/tcp":{}}}"#;
+    check_written(&rt, alloc, given, text);
+    let read = r#"Some(["443/tcp", "8080/tcp"])"#;
+    check_line(&rt, ports_read(&rt, alloc, text), read);
 }

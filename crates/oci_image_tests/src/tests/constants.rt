@@ -1,3 +1,5 @@
+use super::check_is;
+use super::reading::check_line;
 use oci_image::annotations::{
     ANNOTATION_AUTHORS, ANNOTATION_BASE_IMAGE_DIGEST, ANNOTATION_BASE_IMAGE_NAME,
     ANNOTATION_CREATED, ANNOTATION_DESCRIPTION, ANNOTATION_DOCUMENTATION, ANNOTATION_LICENSES,
@@ -30,21 +32,20 @@ static ANNOTATIONS: [(&str, &str); 14] = [
 #[test]
 fn annotations(rt: HostRuntime) {
     for (key, part) in &ANNOTATIONS {
-        assert!(rt;
-            key.strip_prefix("org.opencontainers.image.") == Some(*part),
-            "{part}"
-        );
+        let found = key.strip_prefix("org.opencontainers.image.");
+        check_is(&rt, &found, &Some(*part));
     }
-    assert_eq!(rt; LABEL_VERSION, "version");
+    check_is(&rt, &LABEL_VERSION, &"version");
 }
 
 /// The version of the specification, and the version that manifests and indexes name.
 #[test]
 fn versions(rt: HostRuntime) {
-    assert_eq!(rt; (VERSION_MAJOR, VERSION_MINOR, VERSION_PATCH), (1, 0, 1));
-    assert_eq!(rt; VERSION, "1.0.1");
-    assert_eq!(rt; VERSION_DEV, "");
-    assert_eq!(rt; SCHEMA_VERSION, 2);
-    let text = version(rt.alloc());
-    assert!(rt; text.is_ok_and(|text| text.as_str() == "1.0.1"));
+    check_is(&rt, &VERSION_MAJOR, &1);
+    check_is(&rt, &VERSION_MINOR, &0);
+    check_is(&rt, &VERSION_PATCH, &1);
+    check_is(&rt, &VERSION, &"1.0.1");
+    check_is(&rt, &VERSION_DEV, &"");
+    check_is(&rt, &SCHEMA_VERSION, &2);
+    check_line(&rt, version(rt.alloc()), "1.0.1");
 }

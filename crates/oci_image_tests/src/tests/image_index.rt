@@ -1,4 +1,4 @@
-use super::reading::{Refusal, check_read, check_refused, is_document, owned};
+use super::reading::{Refusal, check_document, check_read, check_refused, owned};
 use super::samples::{INDEX, INDEX_FILE, INDEX_PRETTY};
 use oci_image::ImageIndex;
 
@@ -146,6 +146,6 @@ const WHOLE: &str =
 fn texts(rt: HostRuntime) {
     check_refused::<ImageIndex>(&rt, rt.alloc(), &REFUSED);
     check_read::<ImageIndex>(&rt, rt.alloc(), &READ);
-    let read = owned::<ImageIndex>(rt.alloc(), OLD_NAMES);
-    assert!(rt; is_document(rt.alloc(), read, NEW_NAMES));
+    let read = owned::<ImageIndex>(&rt, rt.alloc(), OLD_NAMES);
+    check_document(&rt, rt.alloc(), read, NEW_NAMES);
 }

@@ -1,22 +1,27 @@
 //! Readings of JSON texts, and what is compared of them.
 
-use oci_json_engines::{from_slice, to_string};
+use super::{check_is, written};
+use oci_json_engines::from_slice;
 use oci_json_schema::OciRecord;
 use oci_text::{OciSpecError, Result, SchemaFault, SerDeError};
 use serde_json::Value;
 use std::alloc::Global;
+use std::fmt::Debug;
 use std::process::Abort;
 
+/// The value of a JSON text.
+fn value(rt: &impl Abort, alloc: Global, json: &str) -> Value {
+    Value::from_str(alloc, json).expect(rt, json)
+}
+
 /// The document of a JSON text, from a value that is lent.
-pub fn lent<T: OciRecord>(alloc: Global, json: &str) -> Result<T> {
-    let value = Value::from_str(alloc, json)?;
-    T::from_value(alloc, &value)
+fn lent<T: OciRecord>(rt: &impl Abort, alloc: Global, json: &str) -> Result<T> {
+    T::from_value(alloc, &value(rt, alloc, json))
 }
 
 /// The document of a JSON text, from a value that is taken apart.
-pub fn owned<T: OciRecord>(alloc: Global, json: &str) -> Result<T> {
-    let value = Value::from_str(alloc, json)?;
-    T::from_value_owned(alloc, value)
+pub fn owned<T: OciRecord>(rt: &impl Abort, alloc: Global, json: &str) -> Result<T> {
+    T::from_value_owned(alloc, value(rt, alloc, json))
 }
 
 /// The place of a refusal.
@@ -34,64 +39,57 @@ pub type Refusal = (&'static str, &'static str, &'static str);
 pub fn check_refused<T: OciRecord>(rt: &impl Abort, alloc: Global, rows: &[Refusal]) {
     for (json, owner, member) in rows {
         let fault = Some(SchemaFault { owner, member });
-        assert!(rt; place(lent::<T>(alloc, json)) == fault, "lent: {json}");
-        assert!(rt; place(owned::<T>(alloc, json)) == fault, "owned: {json}");
+        let expected = (*json, fault);
+        check_is(rt, &(*json, place(lent::<T>(rt, alloc, json))), &expected);
+        check_is(rt, &(*json, place(owned::<T>(rt, alloc, json))), &expected);
         let sliced = from_slice::<T>(alloc, json.as_bytes());
-        assert!(rt; place(sliced) == fault, "sliced: {json}");
+        check_is(rt, &(*json, place(sliced)), &expected);
     }
 }
 
-/// Whether an answer is a document of this compact text.
-pub fn is_written<T: OciRecord>(alloc: Global, answer: Result<T>, json: &str) -> bool {
-    match answer {
-        Ok(document) => match to_string(&document, alloc) {
-            Ok(text) => text.as_str() == json,
-            Err(_) => false,
-        },
-        Err(_) => false,
-    }
+/// An answer is this text.
+pub fn check_line(rt: &impl Abort, answer: Result<String>, line: &str) {
+    check_is(rt, &answer.expect(rt, line).as_str(), &line);
 }
 
-/// Whether both readings, bytes and a copy give equal documents.
-fn agree<T: OciRecord>(alloc: Global, json: &str) -> Result<bool> {
-    let document = lent::<T>(alloc, json)?;
-    let taken = owned::<T>(alloc, json)?;
-    let sliced = from_slice::<T>(alloc, json.as_bytes())?;
-    let copy = document.duplicate(alloc)?;
-    Ok(document == taken && document == sliced && document == copy)
+/// An answer is a document of this compact text.
+pub fn check_written<T: OciRecord>(rt: &impl Abort, alloc: Global, answer: Result<T>, json: &str) {
+    check_line(rt, written(alloc, answer), json);
+}
+
+/// An answer is a document that is equal to another.
+fn check_equal<T: PartialEq + Debug + Drop>(
+    rt: &impl Abort,
+    answer: Result<T>,
+    document: &T,
+    json: &str,
+) {
+    check_is(rt, &answer.expect(rt, json), document);
+}
+
+/// Both readings, bytes and a copy give equal documents.
+fn check_agree<T: OciRecord + Debug>(rt: &impl Abort, alloc: Global, json: &str) {
+    let document = lent::<T>(rt, alloc, json).expect(rt, json);
+    check_equal(rt, owned(rt, alloc, json), &document, json);
+    check_equal(rt, from_slice(alloc, json.as_bytes()), &document, json);
+    check_equal(rt, document.duplicate(alloc), &document, json);
 }
 
 /// Each text is read as one document, which is written as the other text.
-pub fn check_read<T: OciRecord>(rt: &impl Abort, alloc: Global, rows: &[(&str, &str)]) {
+pub fn check_read<T: OciRecord + Debug>(rt: &impl Abort, alloc: Global, rows: &[(&str, &str)]) {
     for (json, compact) in rows {
-        assert!(rt; agree::<T>(alloc, json).is_ok_and(|same| same), "{json}");
-        assert!(rt;
-            is_written(alloc, owned::<T>(alloc, json), compact),
-            "{json}"
-        );
+        check_agree::<T>(rt, alloc, json);
+        check_written(rt, alloc, owned::<T>(rt, alloc, json), compact);
     }
 }
 
-pub fn list(alloc: Global, texts: &[&str]) -> Result<Vec<String>> {
-    let mut list = Vec::new(alloc);
-    for text in texts {
-        list.push(String::from_str(alloc, text)?)?;
-    }
-    Ok(list)
-}
-
-/// Whether an answer is this text.
-pub fn is_line(answer: Result<String>, line: &str) -> bool {
-    match answer {
-        Ok(text) => text.as_str() == line,
-        Err(_) => false,
-    }
-}
-
-/// Whether an answer is the document of a JSON text.
-pub fn is_document<T: OciRecord>(alloc: Global, answer: Result<T>, json: &str) -> bool {
-    match (answer, owned::<T>(alloc, json)) {
-        (Ok(document), Ok(read)) => document == read,
-        _ => false,
-    }
+/// An answer is the document of a JSON text.
+pub fn check_document<T: OciRecord + Debug>(
+    rt: &impl Abort,
+    alloc: Global,
+    answer: Result<T>,
+    json: &str,
+) {
+    let document = owned::<T>(rt, alloc, json).expect(rt, json);
+    check_equal(rt, answer, &document, json);
 }
