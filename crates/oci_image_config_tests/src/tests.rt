@@ -1,3 +1,4 @@
+use oci_json_engines::to_string;
 use oci_json_schema::OciRecord;
 use oci_test_records::{
     are_equal, displayed, file_is, inner, lines, map, read, samples, shown, single, string,
@@ -19,10 +20,17 @@ mod stored_image_configuration;
 
 /// An answer is this text.
 fn check(rt: &impl Abort, found: Result<String>, expected: &str) {
-    match found {
-        Ok(text) => assert!(rt; text.as_str() == expected, "{expected}: {text}"),
-        Err(error) => panic!(rt; "{expected}: {error}"),
-    }
+    check_is(rt, &found.expect(rt, expected).as_str(), &expected);
+}
+
+/// A member that is no document is this text as `{:?}` prints it.
+fn check_shown<T: Debug>(rt: &impl Abort, alloc: Global, member: &T, expected: &str) {
+    check(rt, shown(alloc, member), expected);
+}
+
+/// The compact text of a document is this one.
+fn check_document<T: OciRecord>(rt: &impl Abort, alloc: Global, document: &T, expected: &str) {
+    check(rt, to_string(document, alloc), expected);
 }
 
 /// An answer is a document of this compact text.
@@ -30,34 +38,25 @@ fn check_made<T: OciRecord>(rt: &impl Abort, alloc: Global, made: Result<T>, exp
     check(rt, written(alloc, made), expected);
 }
 
-/// Two answers are equal documents.
-fn check_equal<T: OciRecord>(rt: &impl Abort, found: Result<T>, expected: Result<T>, case: &str) {
-    match (found, expected) {
-        (Ok(found), Ok(expected)) => assert!(rt; found == expected, "{case}"),
-        _ => panic!(rt; "{case}: one is refused"),
-    }
+/// An answer is this document.
+fn check_equal<T: Eq + Debug + Drop>(rt: &impl Abort, found: Result<T>, expected: &T, case: &str) {
+    check_is(rt, &found.expect(rt, case), expected);
 }
 
 /// What was written to a file is this text.
 fn check_file<R: Abort + Alloc + Files>(rt: &R, answer: Result<()>, path: &str, expected: &str) {
-    assert!(rt; answer.is_ok(), "{path}");
-    let same = file_is(rt, path, expected);
-    assert!(rt; same.is_ok_and(|same| same), "{path}: {expected}");
+    answer.expect(rt, path);
+    check_is(rt, &file_is(rt, path, expected).expect(rt, path), &true);
 }
 
 /// The document of a text is equal to itself read again, and to none of the others.
 fn check_unequal<T: OciRecord>(rt: &impl Abort, alloc: Global, text: &str, others: &[&str]) {
     let same = are_equal::<T>(alloc, text, text);
-    assert!(rt; same.is_ok_and(|equal| equal), "{text}");
+    check_is(rt, &same.expect(rt, text), &true);
     for other in others {
         let same = are_equal::<T>(alloc, text, other);
-        assert!(rt; same.is_ok_and(|equal| !equal), "{other}");
+        check_is(rt, &same.expect(rt, other), &false);
     }
-}
-
-/// A text is what was expected.
-fn check_text(rt: &impl Abort, found: &str, expected: &str) {
-    assert_eq!(rt; found, expected);
 }
 
 /// A member is what was expected.
@@ -67,6 +66,6 @@ fn check_is<T: Eq + Debug>(rt: &impl Abort, found: &T, expected: &T) {
 
 /// What was written to a stream is this text.
 fn check_stream(rt: &impl Abort, answer: Result<()>, output: &Output, expected: &str) {
-    assert!(rt; answer.is_ok(), "{expected}");
-    assert_eq!(rt; output.taken(), expected.as_bytes());
+    answer.expect(rt, expected);
+    check_is(rt, &output.taken(), &expected.as_bytes());
 }

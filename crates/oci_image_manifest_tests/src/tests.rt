@@ -1,3 +1,4 @@
+use oci_json_engines::to_string;
 use oci_json_schema::OciRecord;
 use oci_test_records::{
     add_content, are_equal, content, displayed, field_of, file_is, inner, lines, map, read,
@@ -17,10 +18,17 @@ mod stored_image_manifest;
 
 /// An answer is this text.
 fn check(rt: &impl Abort, found: Result<String>, expected: &str) {
-    match found {
-        Ok(text) => assert!(rt; text.as_str() == expected, "{expected}: {text}"),
-        Err(error) => panic!(rt; "{expected}: {error}"),
-    }
+    check_is(rt, &found.expect(rt, expected).as_str(), &expected);
+}
+
+/// A member that is no document is this text as `{:?}` prints it.
+fn check_shown<T: Debug>(rt: &impl Abort, alloc: Global, member: &T, expected: &str) {
+    check(rt, shown(alloc, member), expected);
+}
+
+/// The compact text of a document is this one.
+fn check_document<T: OciRecord>(rt: &impl Abort, alloc: Global, document: &T, expected: &str) {
+    check(rt, to_string(document, alloc), expected);
 }
 
 /// An answer is a document of this compact text.
@@ -28,28 +36,24 @@ fn check_made<T: OciRecord>(rt: &impl Abort, alloc: Global, made: Result<T>, exp
     check(rt, written(alloc, made), expected);
 }
 
-/// Two answers are equal documents.
-fn check_equal<T: OciRecord>(rt: &impl Abort, found: Result<T>, expected: Result<T>, case: &str) {
-    match (found, expected) {
-        (Ok(found), Ok(expected)) => assert!(rt; found == expected, "{case}"),
-        _ => panic!(rt; "{case}: one is refused"),
-    }
+/// An answer is this document.
+fn check_equal<T: Eq + Debug + Drop>(rt: &impl Abort, found: Result<T>, expected: &T, case: &str) {
+    check_is(rt, &found.expect(rt, case), expected);
 }
 
 /// What was written to a file is this text.
 fn check_file<R: Abort + Alloc + Files>(rt: &R, answer: Result<()>, path: &str, expected: &str) {
-    assert!(rt; answer.is_ok(), "{path}");
-    let same = file_is(rt, path, expected);
-    assert!(rt; same.is_ok_and(|same| same), "{path}: {expected}");
+    answer.expect(rt, path);
+    check_is(rt, &file_is(rt, path, expected).expect(rt, path), &true);
 }
 
 /// The document of a text is equal to itself read again, and to none of the others.
 fn check_unequal<T: OciRecord>(rt: &impl Abort, alloc: Global, text: &str, others: &[&str]) {
     let same = are_equal::<T>(alloc, text, text);
-    assert!(rt; same.is_ok_and(|equal| equal), "{text}");
+    check_is(rt, &same.expect(rt, text), &true);
     for other in others {
         let same = are_equal::<T>(alloc, text, other);
-        assert!(rt; same.is_ok_and(|equal| !equal), "{other}");
+        check_is(rt, &same.expect(rt, other), &false);
     }
 }
 
@@ -60,11 +64,11 @@ fn check_is<T: Eq + Debug>(rt: &impl Abort, found: &T, expected: &T) {
 
 /// A builder names this field as the first that it lacks.
 fn check_unset<T: Drop>(rt: &impl Abort, built: Result<T>, field: &str) {
-    assert_eq!(rt; field_of(built), field);
+    check_is(rt, &field_of(built), &field);
 }
 
 /// What was written to a stream is this text.
 fn check_stream(rt: &impl Abort, answer: Result<()>, output: &Output, expected: &str) {
-    assert!(rt; answer.is_ok(), "{expected}");
-    assert_eq!(rt; output.taken(), expected.as_bytes());
+    answer.expect(rt, expected);
+    check_is(rt, &output.taken(), &expected.as_bytes());
 }

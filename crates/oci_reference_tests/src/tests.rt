@@ -61,14 +61,28 @@ fn read(rt: &impl Abort, alloc: Global, text: &str) -> Reference {
     Reference::from_str(alloc, text).expect(rt, text)
 }
 
-#[test]
-fn texts(rt: HostRuntime) {
-    let alloc = rt.alloc();
-    for (text, answer) in &rows::ROWS {
-        check_answer(&rt, alloc, Reference::from_str(alloc, text), *answer);
-        let read = Reference::try_from(owned(&rt, alloc, text));
-        check_answer(&rt, alloc, read, *answer);
+/// Each text is read as said, by both readings.
+fn check_texts(rt: &impl Abort, alloc: Global, rows: &[(&str, Result<&str, ParseError>)]) {
+    for (text, answer) in rows {
+        check_answer(rt, alloc, Reference::from_str(alloc, text), *answer);
+        let read = Reference::try_from(owned(rt, alloc, text));
+        check_answer(rt, alloc, read, *answer);
     }
+}
+
+#[test]
+fn of_the_default_registry(rt: HostRuntime) {
+    check_texts(&rt, rt.alloc(), &rows::OF_DEFAULT);
+}
+
+#[test]
+fn of_other_registries(rt: HostRuntime) {
+    check_texts(&rt, rt.alloc(), &rows::OF_OTHERS);
+}
+
+#[test]
+fn refused_texts(rt: HostRuntime) {
+    check_texts(&rt, rt.alloc(), &rows::REFUSED);
 }
 
 fn repeated(

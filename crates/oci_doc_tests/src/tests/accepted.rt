@@ -1,7 +1,7 @@
 use super::rows::{COMPACT_MANIFEST, INDEX, MANIFEST};
 
-/// A kind, a document, and its compact text.
-pub(super) static ACCEPTED: [(&str, &str, &str); 33] = [
+/// A kind, a document, and its compact text: manifests and indexes.
+pub(super) static MANIFESTS: [(&str, &str, &str); 9] = [
     ("manifest", MANIFEST, COMPACT_MANIFEST),
     (
         "manifest",
@@ -29,6 +29,20 @@ pub(super) static ACCEPTED: [(&str, &str, &str); 33] = [
         r#"{"schemaVersion":2,"manifests":[{"mediaType":"m","digest":"foo:bar","size":1,"platform":{"architecture":"amd64","os":"windows","os_version":"10.0","os_features":["win32k"]}}]}"#,
         r#"{"manifests":[{"digest":"foo:bar","mediaType":"m","platform":{"architecture":"amd64","os":"windows","os.features":["win32k"],"os.version":"10.0"},"size":1}],"schemaVersion":2}"#,
     ),
+    (
+        "artifact",
+        r#"{"mediaType":"application/vnd.oci.artifact.manifest.v1+json","artifactType":"t","blobs":[]}"#,
+        r#"{"artifactType":"t","blobs":[],"mediaType":"application/vnd.oci.artifact.manifest.v1+json"}"#,
+    ),
+    (
+        "artifact",
+        r#"{"mediaType":"application/vnd.oci.artifact.manifest.v1+json","artifactType":"application/vnd.example.sbom.v1","blobs":[{"mediaType":"application/gzip","size":123,"digest":"sha256:87923725d74f4bfb94c9e86d64170f7521aad8221a5de834851470ca142da630"}],"subject":{"mediaType":"application/vnd.oci.image.manifest.v1+json","size":1234,"digest":"sha256:cc06a2839488b8bd2a2b99dcdc03d5cfd818eed72ad08ef3cc197aac64c0d0a0"},"annotations":{"org.example.sbom.format":"json","org.opencontainers.artifact.created":"2022-01-01T14:42:55Z"}}"#,
+        r#"{"annotations":{"org.example.sbom.format":"json","org.opencontainers.artifact.created":"2022-01-01T14:42:55Z"},"artifactType":"application/vnd.example.sbom.v1","blobs":[{"digest":"sha256:87923725d74f4bfb94c9e86d64170f7521aad8221a5de834851470ca142da630","mediaType":"application/gzip","size":123}],"mediaType":"application/vnd.oci.artifact.manifest.v1+json","subject":{"digest":"sha256:cc06a2839488b8bd2a2b99dcdc03d5cfd818eed72ad08ef3cc197aac64c0d0a0","mediaType":"application/vnd.oci.image.manifest.v1+json","size":1234}}"#,
+    ),
+];
+
+/// A kind, a document, and its compact text: descriptors.
+pub(super) static DESCRIPTORS: [(&str, &str, &str); 6] = [
     (
         "descriptor",
         r#"{"mediaType":"m","digest":"foo:bar","size":0,"platform":{"architecture":"amd64","os":"windows","os.version":"10.0"}}"#,
@@ -59,6 +73,10 @@ pub(super) static ACCEPTED: [(&str, &str, &str); 33] = [
         r#"{"mediaType":"m","digest":"sha256+b64u:LCa0a2j_xo_5m0U8HTBBNBNCLXBkg7-g-YpeiGJm564","size":18446744073709551615}"#,
         r#"{"digest":"sha256+b64u:LCa0a2j_xo_5m0U8HTBBNBNCLXBkg7-g-YpeiGJm564","mediaType":"m","size":18446744073709551615}"#,
     ),
+];
+
+/// A kind, a document, and its compact text: image configurations.
+pub(super) static CONFIGS: [(&str, &str, &str); 5] = [
     (
         "config",
         r#"{"architecture":"armbe","os":"linux","rootfs":{"type":"layers","diff_ids":[]},"config":{"Volumes":{"/b":{},"/a":{"x":1}}}}"#,
@@ -84,16 +102,10 @@ pub(super) static ACCEPTED: [(&str, &str, &str); 33] = [
         r#"{"architecture":"amd64","os":"linux","config":{"user":5,"User":null,"Env":null},"rootfs":{"type":"layers","diff_ids":[]},"history":[{"empty_layer":false,"created":null}]}"#,
         r#"{"architecture":"amd64","config":{},"history":[{"empty_layer":false}],"os":"linux","rootfs":{"diff_ids":[],"type":"layers"}}"#,
     ),
-    (
-        "artifact",
-        r#"{"mediaType":"application/vnd.oci.artifact.manifest.v1+json","artifactType":"t","blobs":[]}"#,
-        r#"{"artifactType":"t","blobs":[],"mediaType":"application/vnd.oci.artifact.manifest.v1+json"}"#,
-    ),
-    (
-        "artifact",
-        r#"{"mediaType":"application/vnd.oci.artifact.manifest.v1+json","artifactType":"application/vnd.example.sbom.v1","blobs":[{"mediaType":"application/gzip","size":123,"digest":"sha256:87923725d74f4bfb94c9e86d64170f7521aad8221a5de834851470ca142da630"}],"subject":{"mediaType":"application/vnd.oci.image.manifest.v1+json","size":1234,"digest":"sha256:cc06a2839488b8bd2a2b99dcdc03d5cfd818eed72ad08ef3cc197aac64c0d0a0"},"annotations":{"org.example.sbom.format":"json","org.opencontainers.artifact.created":"2022-01-01T14:42:55Z"}}"#,
-        r#"{"annotations":{"org.example.sbom.format":"json","org.opencontainers.artifact.created":"2022-01-01T14:42:55Z"},"artifactType":"application/vnd.example.sbom.v1","blobs":[{"digest":"sha256:87923725d74f4bfb94c9e86d64170f7521aad8221a5de834851470ca142da630","mediaType":"application/gzip","size":123}],"mediaType":"application/vnd.oci.artifact.manifest.v1+json","subject":{"digest":"sha256:cc06a2839488b8bd2a2b99dcdc03d5cfd818eed72ad08ef3cc197aac64c0d0a0","mediaType":"application/vnd.oci.image.manifest.v1+json","size":1234}}"#,
-    ),
+];
+
+/// A kind, a document, and its compact text: other kinds.
+pub(super) static OTHERS: [(&str, &str, &str); 13] = [
     (
         "layout",
         r#"{"imageLayoutVersion":"1.0.0"}"#,

@@ -1,9 +1,10 @@
-use super::{check, check_equal, check_made, check_unequal, map, read, shown, string, strings};
+use super::{
+    check_document, check_is, check_made, check_shown, check_unequal, map, read, string, strings,
+};
 use oci_image::{Config, ConfigBuilder};
-use oci_json_engines::to_string;
 use oci_text_base::Result;
 use std::alloc::Global;
-use std::test::Fail;
+use std::process::Abort;
 
 /// All members.
 const WHOLE: &str =
@@ -23,74 +24,94 @@ static CHANGED: [&str; 9] = [
 ];
 
 /// The document of all members.
-fn whole(alloc: Global) -> Result<Config> {
-    read(alloc, WHOLE)
+fn whole(rt: &impl Abort, alloc: Global) -> Config {
+    read(alloc, WHOLE).expect(rt, "a document")
 }
 
-fn with_user(alloc: Global) -> Result<String> {
-    let mut document = whole(alloc)?;
-    to_string(document.set_user(None), alloc)
+fn check_user(rt: &impl Abort, alloc: Global) {
+    let mut document = whole(rt, alloc);
+    check_document(rt, alloc, document.set_user(None), CHANGED[0]);
 }
 
-fn with_exposed_ports(alloc: Global) -> Result<String> {
-    let exposed_ports = strings(alloc, &["53/udp"])?;
-    let mut document = whole(alloc)?;
-    to_string(document.set_exposed_ports(Some(exposed_ports)), alloc)
+fn check_exposed_ports(rt: &impl Abort, alloc: Global) {
+    let exposed_ports = strings(alloc, &["53/udp"]).expect(rt, "memory");
+    let mut document = whole(rt, alloc);
+    check_document(
+        rt,
+        alloc,
+        document.set_exposed_ports(Some(exposed_ports)),
+        CHANGED[1],
+    );
 }
 
-fn with_env(alloc: Global) -> Result<String> {
-    let env = strings(alloc, &["B=2", "A=1"])?;
-    let mut document = whole(alloc)?;
-    to_string(document.set_env(Some(env)), alloc)
+fn check_env(rt: &impl Abort, alloc: Global) {
+    let env = strings(alloc, &["B=2", "A=1"]).expect(rt, "memory");
+    let mut document = whole(rt, alloc);
+    check_document(rt, alloc, document.set_env(Some(env)), CHANGED[2]);
 }
 
-fn with_entrypoint(alloc: Global) -> Result<String> {
-    let entrypoint = strings(alloc, &["/bin/other"])?;
-    let mut document = whole(alloc)?;
-    to_string(document.set_entrypoint(Some(entrypoint)), alloc)
+fn check_entrypoint(rt: &impl Abort, alloc: Global) {
+    let entrypoint = strings(alloc, &["/bin/other"]).expect(rt, "memory");
+    let mut document = whole(rt, alloc);
+    check_document(
+        rt,
+        alloc,
+        document.set_entrypoint(Some(entrypoint)),
+        CHANGED[3],
+    );
 }
 
-fn with_cmd(alloc: Global) -> Result<String> {
-    let mut document = whole(alloc)?;
-    to_string(document.set_cmd(Some(Vec::new(alloc))), alloc)
+fn check_cmd(rt: &impl Abort, alloc: Global) {
+    let mut document = whole(rt, alloc);
+    check_document(
+        rt,
+        alloc,
+        document.set_cmd(Some(Vec::new(alloc))),
+        CHANGED[4],
+    );
 }
 
-fn with_volumes(alloc: Global) -> Result<String> {
-    let volumes = strings(alloc, &["/b", "/a"])?;
-    let mut document = whole(alloc)?;
-    to_string(document.set_volumes(Some(volumes)), alloc)
+fn check_volumes(rt: &impl Abort, alloc: Global) {
+    let volumes = strings(alloc, &["/b", "/a"]).expect(rt, "memory");
+    let mut document = whole(rt, alloc);
+    check_document(rt, alloc, document.set_volumes(Some(volumes)), CHANGED[5]);
 }
 
-fn with_working_dir(alloc: Global) -> Result<String> {
-    let working_dir = string(alloc, "/")?;
-    let mut document = whole(alloc)?;
-    to_string(document.set_working_dir(Some(working_dir)), alloc)
+fn check_working_dir(rt: &impl Abort, alloc: Global) {
+    let working_dir = string(alloc, "/").expect(rt, "memory");
+    let mut document = whole(rt, alloc);
+    check_document(
+        rt,
+        alloc,
+        document.set_working_dir(Some(working_dir)),
+        CHANGED[6],
+    );
 }
 
-fn with_labels(alloc: Global) -> Result<String> {
-    let labels = map(alloc, "b", "2")?;
-    let mut document = whole(alloc)?;
-    to_string(document.set_labels(Some(labels)), alloc)
+fn check_labels(rt: &impl Abort, alloc: Global) {
+    let labels = map(alloc, "b", "2").expect(rt, "memory");
+    let mut document = whole(rt, alloc);
+    check_document(rt, alloc, document.set_labels(Some(labels)), CHANGED[7]);
 }
 
-fn with_stop_signal(alloc: Global) -> Result<String> {
-    let mut document = whole(alloc)?;
-    to_string(document.set_stop_signal(None), alloc)
+fn check_stop_signal(rt: &impl Abort, alloc: Global) {
+    let mut document = whole(rt, alloc);
+    check_document(rt, alloc, document.set_stop_signal(None), CHANGED[8]);
 }
 
 /// A setter changes its member alone, and answers the document.
 #[test]
 fn setters(rt: HostRuntime) {
     let alloc = rt.alloc();
-    check(&rt, with_user(alloc), CHANGED[0]);
-    check(&rt, with_exposed_ports(alloc), CHANGED[1]);
-    check(&rt, with_env(alloc), CHANGED[2]);
-    check(&rt, with_entrypoint(alloc), CHANGED[3]);
-    check(&rt, with_cmd(alloc), CHANGED[4]);
-    check(&rt, with_volumes(alloc), CHANGED[5]);
-    check(&rt, with_working_dir(alloc), CHANGED[6]);
-    check(&rt, with_labels(alloc), CHANGED[7]);
-    check(&rt, with_stop_signal(alloc), CHANGED[8]);
+    check_user(&rt, alloc);
+    check_exposed_ports(&rt, alloc);
+    check_env(&rt, alloc);
+    check_entrypoint(&rt, alloc);
+    check_cmd(&rt, alloc);
+    check_volumes(&rt, alloc);
+    check_working_dir(&rt, alloc);
+    check_labels(&rt, alloc);
+    check_stop_signal(&rt, alloc);
 }
 
 /// Documents that differ in one member are unequal.
@@ -101,74 +122,61 @@ fn equality(rt: HostRuntime) {
 
 /// The getters lend what was read.
 #[test]
-fn texts(rt: HostRuntime) -> std::result::Result<(), Fail> {
+fn texts(rt: HostRuntime) {
     let alloc = rt.alloc();
-    let document = whole(alloc)?;
-    check(&rt, shown(alloc, document.user()), r#"Some("alice")"#);
-    check(&rt, shown(alloc, document.working_dir()), r#"Some("/srv")"#);
-    check(
-        &rt,
-        shown(alloc, document.stop_signal()),
-        r#"Some("SIGKILL")"#,
-    );
-    Ok(())
+    let document = whole(&rt, alloc);
+    check_shown(&rt, alloc, document.user(), r#"Some("alice")"#);
+    check_shown(&rt, alloc, document.working_dir(), r#"Some("/srv")"#);
+    check_shown(&rt, alloc, document.stop_signal(), r#"Some("SIGKILL")"#);
 }
 
 /// The getters lend what was read, key sets in byte order.
 #[test]
-fn lists(rt: HostRuntime) -> std::result::Result<(), Fail> {
+fn lists(rt: HostRuntime) {
     let alloc = rt.alloc();
-    let document = whole(alloc)?;
+    let document = whole(&rt, alloc);
     let ports = r#"Some(["443/tcp", "80/tcp"])"#;
-    check(&rt, shown(alloc, document.exposed_ports()), ports);
-    check(&rt, shown(alloc, document.env()), r#"Some(["A=1"])"#);
-    check(
-        &rt,
-        shown(alloc, document.entrypoint()),
-        r#"Some(["/bin/app"])"#,
-    );
-    check(&rt, shown(alloc, document.cmd()), r#"Some(["--all"])"#);
-    check(&rt, shown(alloc, document.volumes()), r#"Some(["/data"])"#);
-    check(&rt, shown(alloc, document.labels()), r#"Some({"a": "1"})"#);
-    Ok(())
+    check_shown(&rt, alloc, document.exposed_ports(), ports);
+    check_shown(&rt, alloc, document.env(), r#"Some(["A=1"])"#);
+    check_shown(&rt, alloc, document.entrypoint(), r#"Some(["/bin/app"])"#);
+    check_shown(&rt, alloc, document.cmd(), r#"Some(["--all"])"#);
+    check_shown(&rt, alloc, document.volumes(), r#"Some(["/data"])"#);
+    check_shown(&rt, alloc, document.labels(), r#"Some({"a": "1"})"#);
 }
 
-fn copied(alloc: Global) -> Result<Config> {
-    let document = whole(alloc)?;
-    document.clone(alloc)
+fn copied(rt: &impl Abort, alloc: Global) -> Config {
+    whole(rt, alloc).clone(alloc).expect(rt, "memory")
 }
 
 /// A clone is an equal document.
 #[test]
 fn clones(rt: HostRuntime) {
     let alloc = rt.alloc();
-    check_equal(&rt, whole(alloc), copied(alloc), "clone");
-    check_made(&rt, alloc, copied(alloc), WHOLE);
+    check_is(&rt, &copied(&rt, alloc), &whole(&rt, alloc));
+    check_made(&rt, alloc, Ok(copied(&rt, alloc)), WHOLE);
 }
 
 /// The first half of the members.
-fn begun(alloc: Global) -> Result<ConfigBuilder> {
-    let user = string(alloc, "alice")?;
-    let exposed_ports = strings(alloc, &["80/tcp", "443/tcp"])?;
-    let env = strings(alloc, &["A=1"])?;
-    let entrypoint = strings(alloc, &["/bin/app"])?;
-    Ok(
-        ConfigBuilder::default()
-            .user(user)
-            .exposed_ports(exposed_ports)
-            .env(env)
-            .entrypoint(entrypoint),
-    )
+fn begun(rt: &impl Abort, alloc: Global) -> ConfigBuilder {
+    let user = string(alloc, "alice").expect(rt, "memory");
+    let exposed_ports = strings(alloc, &["80/tcp", "443/tcp"]).expect(rt, "memory");
+    let env = strings(alloc, &["A=1"]).expect(rt, "memory");
+    let entrypoint = strings(alloc, &["/bin/app"]).expect(rt, "memory");
+    ConfigBuilder::default()
+        .user(user)
+        .exposed_ports(exposed_ports)
+        .env(env)
+        .entrypoint(entrypoint)
 }
 
 /// What a builder makes of all members.
-fn built(alloc: Global) -> Result<Config> {
-    let cmd = strings(alloc, &["--all"])?;
-    let volumes = strings(alloc, &["/data"])?;
-    let working_dir = string(alloc, "/srv")?;
-    let labels = map(alloc, "a", "1")?;
-    let stop_signal = string(alloc, "SIGKILL")?;
-    begun(alloc)?
+fn built(rt: &impl Abort, alloc: Global) -> Result<Config> {
+    let cmd = strings(alloc, &["--all"]).expect(rt, "memory");
+    let volumes = strings(alloc, &["/data"]).expect(rt, "memory");
+    let working_dir = string(alloc, "/srv").expect(rt, "memory");
+    let labels = map(alloc, "a", "1").expect(rt, "memory");
+    let stop_signal = string(alloc, "SIGKILL").expect(rt, "memory");
+    begun(rt, alloc)
         .cmd(cmd)
         .volumes(volumes)
         .working_dir(working_dir)
@@ -180,21 +188,22 @@ fn built(alloc: Global) -> Result<Config> {
 /// What is set is in the document.
 #[test]
 fn builders(rt: HostRuntime) {
-    check_made(&rt, rt.alloc(), built(rt.alloc()), WHOLE);
+    let alloc = rt.alloc();
+    check_made(&rt, alloc, built(&rt, alloc), WHOLE);
 }
 
-fn with_other_labels(alloc: Global) -> Result<String> {
-    let labels = map(alloc, "b", "2")?;
-    let mut document = whole(alloc)?;
+fn check_other_labels(rt: &impl Abort, alloc: Global) {
+    let labels = map(alloc, "b", "2").expect(rt, "memory");
+    let mut document = whole(rt, alloc);
     *document.labels_mut() = Some(labels);
-    to_string(&document, alloc)
+    check_document(rt, alloc, &document, CHANGED[7]);
 }
 
 /// What is changed through a borrow is changed in the document, and nothing else.
 #[test]
 fn mutable_getters(rt: HostRuntime) {
     let alloc = rt.alloc();
-    check(&rt, with_other_labels(alloc), CHANGED[7]);
+    check_other_labels(&rt, alloc);
 }
 
 /// A default document, and one of a builder that sets nothing.

@@ -1,9 +1,8 @@
-use super::{check, check_equal, check_is, check_made, check_unequal, read, shown, string};
+use super::{check_document, check_is, check_made, check_shown, check_unequal, read, string};
 use oci_image::{History, HistoryBuilder};
-use oci_json_engines::to_string;
 use oci_text_base::Result;
 use std::alloc::Global;
-use std::test::Fail;
+use std::process::Abort;
 
 /// All members.
 const WHOLE: &str =
@@ -19,46 +18,47 @@ static CHANGED: [&str; 5] = [
 ];
 
 /// The document of all members.
-fn whole(alloc: Global) -> Result<History> {
-    read(alloc, WHOLE)
+fn whole(rt: &impl Abort, alloc: Global) -> History {
+    read(alloc, WHOLE).expect(rt, "a document")
 }
 
-fn with_created(alloc: Global) -> Result<String> {
-    let created = string(alloc, "2016-10-31T22:22:54Z")?;
-    let mut document = whole(alloc)?;
-    to_string(document.set_created(Some(created)), alloc)
+fn check_created(rt: &impl Abort, alloc: Global) {
+    let created = string(alloc, "2016-10-31T22:22:54Z").expect(rt, "memory");
+    let mut document = whole(rt, alloc);
+    check_document(rt, alloc, document.set_created(Some(created)), CHANGED[0]);
 }
 
-fn with_author(alloc: Global) -> Result<String> {
-    let mut document = whole(alloc)?;
-    to_string(document.set_author(None), alloc)
+fn check_author(rt: &impl Abort, alloc: Global) {
+    let mut document = whole(rt, alloc);
+    check_document(rt, alloc, document.set_author(None), CHANGED[1]);
 }
 
-fn with_created_by(alloc: Global) -> Result<String> {
-    let mut document = whole(alloc)?;
-    to_string(document.set_created_by(Some(String::new(alloc))), alloc)
+fn check_created_by(rt: &impl Abort, alloc: Global) {
+    let mut document = whole(rt, alloc);
+    let changed = document.set_created_by(Some(String::new(alloc)));
+    check_document(rt, alloc, changed, CHANGED[2]);
 }
 
-fn with_comment(alloc: Global) -> Result<String> {
-    let comment = string(alloc, "second")?;
-    let mut document = whole(alloc)?;
-    to_string(document.set_comment(Some(comment)), alloc)
+fn check_comment(rt: &impl Abort, alloc: Global) {
+    let comment = string(alloc, "second").expect(rt, "memory");
+    let mut document = whole(rt, alloc);
+    check_document(rt, alloc, document.set_comment(Some(comment)), CHANGED[3]);
 }
 
-fn with_empty_layer(alloc: Global) -> Result<String> {
-    let mut document = whole(alloc)?;
-    to_string(document.set_empty_layer(Some(true)), alloc)
+fn check_empty_layer(rt: &impl Abort, alloc: Global) {
+    let mut document = whole(rt, alloc);
+    check_document(rt, alloc, document.set_empty_layer(Some(true)), CHANGED[4]);
 }
 
 /// A setter changes its member alone, and answers the document.
 #[test]
 fn setters(rt: HostRuntime) {
     let alloc = rt.alloc();
-    check(&rt, with_created(alloc), CHANGED[0]);
-    check(&rt, with_author(alloc), CHANGED[1]);
-    check(&rt, with_created_by(alloc), CHANGED[2]);
-    check(&rt, with_comment(alloc), CHANGED[3]);
-    check(&rt, with_empty_layer(alloc), CHANGED[4]);
+    check_created(&rt, alloc);
+    check_author(&rt, alloc);
+    check_created_by(&rt, alloc);
+    check_comment(&rt, alloc);
+    check_empty_layer(&rt, alloc);
 }
 
 /// Documents that differ in one member are unequal.
@@ -69,44 +69,39 @@ fn equality(rt: HostRuntime) {
 
 /// The getters lend what was read.
 #[test]
-fn getters(rt: HostRuntime) -> std::result::Result<(), Fail> {
+fn getters(rt: HostRuntime) {
     let alloc = rt.alloc();
-    let document = whole(alloc)?;
-    check(
+    let document = whole(&rt, alloc);
+    check_shown(
         &rt,
-        shown(alloc, document.created()),
+        alloc,
+        document.created(),
         r#"Some("2015-10-31T22:22:54Z")"#,
     );
-    check(&rt, shown(alloc, document.author()), r#"Some("alice")"#);
-    check(
-        &rt,
-        shown(alloc, document.created_by()),
-        r#"Some("/bin/sh")"#,
-    );
-    check(&rt, shown(alloc, document.comment()), r#"Some("first")"#);
+    check_shown(&rt, alloc, document.author(), r#"Some("alice")"#);
+    check_shown(&rt, alloc, document.created_by(), r#"Some("/bin/sh")"#);
+    check_shown(&rt, alloc, document.comment(), r#"Some("first")"#);
     check_is(&rt, &document.empty_layer(), &Some(false));
-    Ok(())
 }
 
-fn copied(alloc: Global) -> Result<History> {
-    let document = whole(alloc)?;
-    document.clone(alloc)
+fn copied(rt: &impl Abort, alloc: Global) -> History {
+    whole(rt, alloc).clone(alloc).expect(rt, "memory")
 }
 
 /// A clone is an equal document.
 #[test]
 fn clones(rt: HostRuntime) {
     let alloc = rt.alloc();
-    check_equal(&rt, whole(alloc), copied(alloc), "clone");
-    check_made(&rt, alloc, copied(alloc), WHOLE);
+    check_is(&rt, &copied(&rt, alloc), &whole(&rt, alloc));
+    check_made(&rt, alloc, Ok(copied(&rt, alloc)), WHOLE);
 }
 
 /// What a builder makes of all members.
-fn built(alloc: Global) -> Result<History> {
-    let created = string(alloc, "2015-10-31T22:22:54Z")?;
-    let author = string(alloc, "alice")?;
-    let created_by = string(alloc, "/bin/sh")?;
-    let comment = string(alloc, "first")?;
+fn built(rt: &impl Abort, alloc: Global) -> Result<History> {
+    let created = string(alloc, "2015-10-31T22:22:54Z").expect(rt, "memory");
+    let author = string(alloc, "alice").expect(rt, "memory");
+    let created_by = string(alloc, "/bin/sh").expect(rt, "memory");
+    let comment = string(alloc, "first").expect(rt, "memory");
     HistoryBuilder::default()
         .created(created)
         .author(author)
@@ -119,7 +114,8 @@ fn built(alloc: Global) -> Result<History> {
 /// What is set is in the document.
 #[test]
 fn builders(rt: HostRuntime) {
-    check_made(&rt, rt.alloc(), built(rt.alloc()), WHOLE);
+    let alloc = rt.alloc();
+    check_made(&rt, alloc, built(&rt, alloc), WHOLE);
 }
 
 /// A default document, and one of a builder that sets nothing.

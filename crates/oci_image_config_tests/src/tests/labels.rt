@@ -1,9 +1,9 @@
-use super::{map, read};
+use super::{check_is, map, read, string};
 use oci_image::annotations::{ANNOTATION_CREATED, ANNOTATION_VERSION};
 use oci_image::{ConfigBuilder, ImageConfiguration, ImageConfigurationBuilder};
-use oci_text_base::Result;
 use std::alloc::Global;
-use std::test::Fail;
+use std::collections::BTreeMap;
+use std::process::Abort;
 
 /// No `config`.
 const BARE: &str =
@@ -34,41 +34,59 @@ static ROWS: [(&str, Option<usize>, Option<&str>, Option<&str>); 5] = [
     (OTHER, Some(1), None, None),
 ];
 
+/// The number of labels, the label of a key, and the version.
+fn check_labels(
+    rt: &impl Abort,
+    document: &ImageConfiguration,
+    count: Option<usize>,
+    key: &str,
+    label: Option<&str>,
+    version: Option<&str>,
+) {
+    let labels = document.labels_of_config();
+    check_is(rt, &labels.map(|labels| labels.len()), &count);
+    check_is(rt, &document.get_config_annotation(key), &label);
+    check_is(rt, &document.version(), &version);
+}
+
 /// The labels that are looked up by their keys, and the version, for which the specification's key goes before the older one.
 #[test]
-fn rows(rt: HostRuntime) -> std::result::Result<(), Fail> {
+fn rows(rt: HostRuntime) {
     for (text, count, older, version) in &ROWS {
-        let document: ImageConfiguration = read(rt.alloc(), text)?;
-        let labels = document.labels_of_config();
-        assert_eq!(rt; labels.map(|labels| labels.len()), *count);
-        assert!(rt;
-            document.get_config_annotation("version") == *older,
-            "{text}"
-        );
-        assert!(rt; document.version() == *version, "{text}");
+        let document: ImageConfiguration = read(rt.alloc(), text).expect(&rt, text);
+        check_labels(&rt, &document, *count, "version", *older, *version);
     }
-    Ok(())
+}
+
+fn add_version(rt: &impl Abort, alloc: Global, labels: &mut BTreeMap<String, String>) {
+    let key = string(alloc, ANNOTATION_VERSION).expect(rt, "memory");
+    let version = string(alloc, "42.27").expect(rt, "memory");
+    let replaced: Result<_, _> = labels.insert(key, version);
+    replaced.expect(rt, "memory");
 }
 
 /// A configuration of two labels.
-fn labelled(alloc: Global) -> Result<ImageConfiguration> {
-    let mut labels = map(alloc, ANNOTATION_CREATED, "2023-09-16T19:22:18.014Z")?;
-    let key = String::from_str(alloc, ANNOTATION_VERSION)?;
-    labels.insert(key, String::from_str(alloc, "42.27")?)?;
-    let config = ConfigBuilder::default().labels(labels).build(alloc)?;
+fn labelled(rt: &impl Abort, alloc: Global) -> ImageConfiguration {
+    let labels = map(alloc, ANNOTATION_CREATED, "2023-09-16T19:22:18.014Z");
+    let mut labels = labels.expect(rt, "memory");
+    add_version(rt, alloc, &mut labels);
+    let config = ConfigBuilder::default().labels(labels).build(alloc);
     ImageConfigurationBuilder::default()
-        .config(config)
+        .config(config.expect(rt, "a configuration"))
         .build(alloc)
+        .expect(rt, "a document")
 }
 
 /// The labels of a configuration that is built.
 #[test]
-fn of_a_builder(rt: HostRuntime) -> std::result::Result<(), Fail> {
-    let document = labelled(rt.alloc())?;
-    let labels = document.labels_of_config();
-    assert!(rt; labels.map(|labels| labels.len()) == Some(2));
-    let created = document.get_config_annotation(ANNOTATION_CREATED);
-    assert!(rt; created == Some("2023-09-16T19:22:18.014Z"));
-    assert!(rt; document.version() == Some("42.27"));
-    Ok(())
+fn of_a_builder(rt: HostRuntime) {
+    let document = labelled(&rt, rt.alloc());
+    check_labels(
+        &rt,
+        &document,
+        Some(2),
+        ANNOTATION_CREATED,
+        Some("2023-09-16T19:22:18.014Z"),
+        Some("42.27"),
+    );
 }

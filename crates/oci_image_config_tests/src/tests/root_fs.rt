@@ -1,11 +1,10 @@
 use super::{
-    check, check_equal, check_made, check_text, check_unequal, read, shown, string, strings,
+    check_document, check_is, check_made, check_shown, check_unequal, read, string, strings,
 };
 use oci_image::{RootFs, RootFsBuilder};
-use oci_json_engines::to_string;
 use oci_text_base::Result;
 use std::alloc::Global;
-use std::test::Fail;
+use std::process::Abort;
 
 /// All members.
 const WHOLE: &str = r#"{"diff_ids":["sha256:abc123"],"type":"others"}"#;
@@ -17,28 +16,28 @@ static CHANGED: [&str; 2] = [
 ];
 
 /// The document of all members.
-fn whole(alloc: Global) -> Result<RootFs> {
-    read(alloc, WHOLE)
+fn whole(rt: &impl Abort, alloc: Global) -> RootFs {
+    read(alloc, WHOLE).expect(rt, "a document")
 }
 
-fn with_typ(alloc: Global) -> Result<String> {
-    let typ = string(alloc, "layers")?;
-    let mut document = whole(alloc)?;
-    to_string(document.set_typ(typ), alloc)
+fn check_typ(rt: &impl Abort, alloc: Global) {
+    let typ = string(alloc, "layers").expect(rt, "memory");
+    let mut document = whole(rt, alloc);
+    check_document(rt, alloc, document.set_typ(typ), CHANGED[0]);
 }
 
-fn with_diff_ids(alloc: Global) -> Result<String> {
-    let diff_ids = strings(alloc, &["b", "a"])?;
-    let mut document = whole(alloc)?;
-    to_string(document.set_diff_ids(diff_ids), alloc)
+fn check_diff_ids(rt: &impl Abort, alloc: Global) {
+    let diff_ids = strings(alloc, &["b", "a"]).expect(rt, "memory");
+    let mut document = whole(rt, alloc);
+    check_document(rt, alloc, document.set_diff_ids(diff_ids), CHANGED[1]);
 }
 
 /// A setter changes its member alone, and answers the document.
 #[test]
 fn setters(rt: HostRuntime) {
     let alloc = rt.alloc();
-    check(&rt, with_typ(alloc), CHANGED[0]);
-    check(&rt, with_diff_ids(alloc), CHANGED[1]);
+    check_typ(&rt, alloc);
+    check_diff_ids(&rt, alloc);
 }
 
 /// Documents that differ in one member are unequal.
@@ -49,35 +48,29 @@ fn equality(rt: HostRuntime) {
 
 /// The getters lend what was read.
 #[test]
-fn getters(rt: HostRuntime) -> std::result::Result<(), Fail> {
+fn getters(rt: HostRuntime) {
     let alloc = rt.alloc();
-    let document = whole(alloc)?;
-    check_text(&rt, document.typ().as_str(), "others");
-    check(
-        &rt,
-        shown(alloc, document.diff_ids()),
-        r#"["sha256:abc123"]"#,
-    );
-    Ok(())
+    let document = whole(&rt, alloc);
+    check_is(&rt, &document.typ().as_str(), &"others");
+    check_shown(&rt, alloc, document.diff_ids(), r#"["sha256:abc123"]"#);
 }
 
-fn copied(alloc: Global) -> Result<RootFs> {
-    let document = whole(alloc)?;
-    document.clone(alloc)
+fn copied(rt: &impl Abort, alloc: Global) -> RootFs {
+    whole(rt, alloc).clone(alloc).expect(rt, "memory")
 }
 
 /// A clone is an equal document.
 #[test]
 fn clones(rt: HostRuntime) {
     let alloc = rt.alloc();
-    check_equal(&rt, whole(alloc), copied(alloc), "clone");
-    check_made(&rt, alloc, copied(alloc), WHOLE);
+    check_is(&rt, &copied(&rt, alloc), &whole(&rt, alloc));
+    check_made(&rt, alloc, Ok(copied(&rt, alloc)), WHOLE);
 }
 
 /// What a builder makes of all members.
-fn built(alloc: Global) -> Result<RootFs> {
-    let typ = string(alloc, "others")?;
-    let diff_ids = strings(alloc, &["sha256:abc123"])?;
+fn built(rt: &impl Abort, alloc: Global) -> Result<RootFs> {
+    let typ = string(alloc, "others").expect(rt, "memory");
+    let diff_ids = strings(alloc, &["sha256:abc123"]).expect(rt, "memory");
     RootFsBuilder::default()
         .typ(typ)
         .diff_ids(diff_ids)
@@ -87,24 +80,27 @@ fn built(alloc: Global) -> Result<RootFs> {
 /// What is set is in the document.
 #[test]
 fn builders(rt: HostRuntime) {
-    check_made(&rt, rt.alloc(), built(rt.alloc()), WHOLE);
+    let alloc = rt.alloc();
+    check_made(&rt, alloc, built(&rt, alloc), WHOLE);
 }
 
-fn with_more_layers(alloc: Global) -> Result<String> {
-    let mut document = whole(alloc)?;
-    document.diff_ids_mut().push(string(alloc, "a")?)?;
-    to_string(&document, alloc)
+fn check_more_layers(rt: &impl Abort, alloc: Global) {
+    let layer = string(alloc, "a").expect(rt, "memory");
+    let mut document = whole(rt, alloc);
+    document.diff_ids_mut().push(layer).expect(rt, "memory");
+    check_document(
+        rt,
+        alloc,
+        &document,
+        r#"{"diff_ids":["sha256:abc123","a"],"type":"others"}"#,
+    );
 }
 
 /// What is changed through a borrow is changed in the document, and nothing else.
 #[test]
 fn mutable_getters(rt: HostRuntime) {
     let alloc = rt.alloc();
-    check(
-        &rt,
-        with_more_layers(alloc),
-        r#"{"diff_ids":["sha256:abc123","a"],"type":"others"}"#,
-    );
+    check_more_layers(&rt, alloc);
 }
 
 /// A default document, and one of a builder that sets nothing.

@@ -1,12 +1,11 @@
 use super::{
-    add_content, check, check_equal, check_is, check_made, check_unequal, check_unset, content,
-    inner, lines, map, read, shown, single,
+    add_content, check, check_document, check_is, check_made, check_shown, check_unequal,
+    check_unset, content, inner, lines, map, read, single,
 };
 use oci_image::{ArtifactManifest, ArtifactManifestBuilder, MediaType};
-use oci_json_engines::to_string;
 use oci_text_base::Result;
 use std::alloc::Global;
-use std::test::Fail;
+use std::process::Abort;
 
 /// All members.
 const WHOLE: &str =
@@ -21,40 +20,50 @@ static CHANGED: [&str; 4] = [
 ];
 
 /// The document of all members.
-fn whole(alloc: Global) -> Result<ArtifactManifest> {
-    read(alloc, WHOLE)
+fn whole(rt: &impl Abort, alloc: Global) -> ArtifactManifest {
+    read(alloc, WHOLE).expect(rt, "a document")
 }
 
-fn with_artifact_type(alloc: Global) -> Result<String> {
-    let mut document = whole(alloc)?;
-    to_string(document.set_artifact_type(MediaType::EmptyJSON), alloc)
+fn check_artifact_type(rt: &impl Abort, alloc: Global) {
+    let mut document = whole(rt, alloc);
+    check_document(
+        rt,
+        alloc,
+        document.set_artifact_type(MediaType::EmptyJSON),
+        CHANGED[0],
+    );
 }
 
-fn with_blobs(alloc: Global) -> Result<String> {
-    let blobs = single(alloc, content(alloc, "x:1"))?;
-    let mut document = whole(alloc)?;
-    to_string(document.set_blobs(blobs), alloc)
+fn check_blobs(rt: &impl Abort, alloc: Global) {
+    let blobs = single(alloc, content(alloc, "x:1")).expect(rt, "a descriptor");
+    let mut document = whole(rt, alloc);
+    check_document(rt, alloc, document.set_blobs(blobs), CHANGED[1]);
 }
 
-fn with_subject(alloc: Global) -> Result<String> {
-    let mut document = whole(alloc)?;
-    to_string(document.set_subject(None), alloc)
+fn check_subject(rt: &impl Abort, alloc: Global) {
+    let mut document = whole(rt, alloc);
+    check_document(rt, alloc, document.set_subject(None), CHANGED[2]);
 }
 
-fn with_annotations(alloc: Global) -> Result<String> {
-    let annotations = map(alloc, "b", "1")?;
-    let mut document = whole(alloc)?;
-    to_string(document.set_annotations(Some(annotations)), alloc)
+fn check_annotations(rt: &impl Abort, alloc: Global) {
+    let annotations = map(alloc, "b", "1").expect(rt, "memory");
+    let mut document = whole(rt, alloc);
+    check_document(
+        rt,
+        alloc,
+        document.set_annotations(Some(annotations)),
+        CHANGED[3],
+    );
 }
 
 /// A setter changes its member alone, and answers the document.
 #[test]
 fn setters(rt: HostRuntime) {
     let alloc = rt.alloc();
-    check(&rt, with_artifact_type(alloc), CHANGED[0]);
-    check(&rt, with_blobs(alloc), CHANGED[1]);
-    check(&rt, with_subject(alloc), CHANGED[2]);
-    check(&rt, with_annotations(alloc), CHANGED[3]);
+    check_artifact_type(&rt, alloc);
+    check_blobs(&rt, alloc);
+    check_subject(&rt, alloc);
+    check_annotations(&rt, alloc);
 }
 
 /// Documents that differ in one member are unequal.
@@ -65,54 +74,46 @@ fn equality(rt: HostRuntime) {
 
 /// The getters lend what was read.
 #[test]
-fn getters(rt: HostRuntime) -> std::result::Result<(), Fail> {
+fn getters(rt: HostRuntime) {
     let alloc = rt.alloc();
-    let document = whole(alloc)?;
+    let document = whole(&rt, alloc);
     check_is(&rt, document.media_type(), &MediaType::ArtifactManifest);
-    check(&rt, shown(alloc, document.artifact_type()), r#"Other("t")"#);
+    check_shown(&rt, alloc, document.artifact_type(), r#"Other("t")"#);
     check(&rt, lines(alloc, document.blobs().as_slice()), BLOBS);
     check(
         &rt,
         inner(alloc, document.subject()),
         r#"{"digest":"s:1","mediaType":"application/vnd.oci.empty.v1+json","size":1}"#,
     );
-    check(
-        &rt,
-        shown(alloc, document.annotations()),
-        r#"Some({"a": "1"})"#,
-    );
-    Ok(())
+    check_shown(&rt, alloc, document.annotations(), r#"Some({"a": "1"})"#);
 }
 
-fn copied(alloc: Global) -> Result<ArtifactManifest> {
-    let document = whole(alloc)?;
-    document.clone(alloc)
+fn copied(rt: &impl Abort, alloc: Global) -> ArtifactManifest {
+    whole(rt, alloc).clone(alloc).expect(rt, "memory")
 }
 
 /// A clone is an equal document.
 #[test]
 fn clones(rt: HostRuntime) {
     let alloc = rt.alloc();
-    check_equal(&rt, whole(alloc), copied(alloc), "clone");
-    check_made(&rt, alloc, copied(alloc), WHOLE);
+    check_is(&rt, &copied(&rt, alloc), &whole(&rt, alloc));
+    check_made(&rt, alloc, Ok(copied(&rt, alloc)), WHOLE);
 }
 
 /// The first half of the members.
-fn begun(alloc: Global) -> Result<ArtifactManifestBuilder> {
-    let artifact_type = MediaType::from_text(alloc, "t")?;
-    let blobs = single(alloc, content(alloc, "b:1"))?;
-    Ok(
-        ArtifactManifestBuilder::default()
-            .artifact_type(artifact_type)
-            .blobs(blobs),
-    )
+fn begun(rt: &impl Abort, alloc: Global) -> ArtifactManifestBuilder {
+    let artifact_type = MediaType::from_text(alloc, "t").expect(rt, "memory");
+    let blobs = single(alloc, content(alloc, "b:1")).expect(rt, "a descriptor");
+    ArtifactManifestBuilder::default()
+        .artifact_type(artifact_type)
+        .blobs(blobs)
 }
 
 /// What a builder makes of all members.
-fn built(alloc: Global) -> Result<ArtifactManifest> {
-    let subject = content(alloc, "s:1")?;
-    let annotations = map(alloc, "a", "1")?;
-    begun(alloc)?
+fn built(rt: &impl Abort, alloc: Global) -> Result<ArtifactManifest> {
+    let subject = content(alloc, "s:1").expect(rt, "a descriptor");
+    let annotations = map(alloc, "a", "1").expect(rt, "memory");
+    begun(rt, alloc)
         .subject(subject)
         .annotations(annotations)
         .build(alloc)
@@ -121,53 +122,65 @@ fn built(alloc: Global) -> Result<ArtifactManifest> {
 /// What is set is in the document.
 #[test]
 fn builders(rt: HostRuntime) {
-    check_made(&rt, rt.alloc(), built(rt.alloc()), WHOLE);
+    let alloc = rt.alloc();
+    check_made(&rt, alloc, built(&rt, alloc), WHOLE);
 }
 
 /// The blobs, a line each.
 const BLOBS: &str = r#"{"digest":"b:1","mediaType":"application/vnd.oci.empty.v1+json","size":1}
 "#;
 
-/// The type has to be set; what else is not has its default, or is absent.
-#[test]
-fn unset(rt: HostRuntime) {
-    let alloc = rt.alloc();
+/// A builder of nothing.
+fn check_nothing(rt: &impl Abort, alloc: Global) {
     let built = ArtifactManifestBuilder::default().build(alloc);
-    check_unset(&rt, built, "artifact_type");
-    let built = ArtifactManifestBuilder::default()
-        .blobs(Vec::new(alloc))
-        .build(alloc);
-    check_unset(&rt, built, "artifact_type");
+    check_unset(rt, built, "artifact_type");
+}
+
+fn check_blobs_alone(rt: &impl Abort, alloc: Global) {
+    let blobs = ArtifactManifestBuilder::default().blobs(Vec::new(alloc));
+    check_unset(rt, blobs.build(alloc), "artifact_type");
+}
+
+fn check_type_alone(rt: &impl Abort, alloc: Global) {
     let built = ArtifactManifestBuilder::default()
         .artifact_type(MediaType::EmptyJSON)
         .build(alloc);
     check_made(
-        &rt,
+        rt,
         alloc,
         built,
         r#"{"artifactType":"application/vnd.oci.empty.v1+json","blobs":[],"mediaType":"application/vnd.oci.artifact.manifest.v1+json"}"#,
     );
 }
 
-fn with_more_blobs(alloc: Global) -> Result<String> {
-    let mut document = whole(alloc)?;
-    add_content(document.blobs_mut(), alloc, "x:1")?;
-    to_string(&document, alloc)
+/// The type has to be set; what else is not has its default, or is absent.
+#[test]
+fn unset(rt: HostRuntime) {
+    let alloc = rt.alloc();
+    check_nothing(&rt, alloc);
+    check_blobs_alone(&rt, alloc);
+    check_type_alone(&rt, alloc);
 }
 
-fn with_other_annotations(alloc: Global) -> Result<String> {
-    let annotations = map(alloc, "b", "1")?;
-    let mut document = whole(alloc)?;
+fn check_more_blobs(rt: &impl Abort, alloc: Global) {
+    let mut document = whole(rt, alloc);
+    add_content(document.blobs_mut(), alloc, "x:1").expect(rt, "a descriptor");
+    check_document(rt, alloc, &document, MORE_BLOBS);
+}
+
+fn check_other_annotations(rt: &impl Abort, alloc: Global) {
+    let annotations = map(alloc, "b", "1").expect(rt, "memory");
+    let mut document = whole(rt, alloc);
     *document.annotations_mut() = Some(annotations);
-    to_string(&document, alloc)
+    check_document(rt, alloc, &document, CHANGED[3]);
 }
 
 /// What is changed through a borrow is changed in the document, and nothing else.
 #[test]
 fn mutable_getters(rt: HostRuntime) {
     let alloc = rt.alloc();
-    check(&rt, with_more_blobs(alloc), MORE_BLOBS);
-    check(&rt, with_other_annotations(alloc), CHANGED[3]);
+    check_more_blobs(&rt, alloc);
+    check_other_annotations(&rt, alloc);
 }
 
 /// All members, and one more blob.

@@ -1,12 +1,11 @@
 use super::{
-    add_content, check, check_equal, check_is, check_made, check_unequal, check_unset, content,
-    inner, lines, map, read, shown, single,
+    add_content, check, check_document, check_is, check_made, check_shown, check_unequal,
+    check_unset, content, inner, lines, map, read, single,
 };
 use oci_image::{Descriptor, ImageManifest, ImageManifestBuilder, MediaType};
-use oci_json_engines::to_string;
 use oci_text_base::Result;
 use std::alloc::Global;
-use std::test::Fail;
+use std::process::Abort;
 
 /// All members.
 const WHOLE: &str =
@@ -24,59 +23,69 @@ static CHANGED: [&str; 7] = [
 ];
 
 /// The document of all members.
-fn whole(alloc: Global) -> Result<ImageManifest> {
-    read(alloc, WHOLE)
+fn whole(rt: &impl Abort, alloc: Global) -> ImageManifest {
+    read(alloc, WHOLE).expect(rt, "a document")
 }
 
-fn with_schema_version(alloc: Global) -> Result<String> {
-    let mut document = whole(alloc)?;
-    to_string(document.set_schema_version(u32::MAX), alloc)
+fn check_schema_version(rt: &impl Abort, alloc: Global) {
+    let mut document = whole(rt, alloc);
+    check_document(rt, alloc, document.set_schema_version(u32::MAX), CHANGED[0]);
 }
 
-fn with_media_type(alloc: Global) -> Result<String> {
-    let mut document = whole(alloc)?;
-    to_string(document.set_media_type(Some(MediaType::ImageIndex)), alloc)
+fn check_media_type(rt: &impl Abort, alloc: Global) {
+    let mut document = whole(rt, alloc);
+    check_document(
+        rt,
+        alloc,
+        document.set_media_type(Some(MediaType::ImageIndex)),
+        CHANGED[1],
+    );
 }
 
-fn with_artifact_type(alloc: Global) -> Result<String> {
-    let mut document = whole(alloc)?;
-    to_string(document.set_artifact_type(None), alloc)
+fn check_artifact_type(rt: &impl Abort, alloc: Global) {
+    let mut document = whole(rt, alloc);
+    check_document(rt, alloc, document.set_artifact_type(None), CHANGED[2]);
 }
 
-fn with_config(alloc: Global) -> Result<String> {
-    let config = content(alloc, "x:1")?;
-    let mut document = whole(alloc)?;
-    to_string(document.set_config(config), alloc)
+fn check_config(rt: &impl Abort, alloc: Global) {
+    let config = content(alloc, "x:1").expect(rt, "a descriptor");
+    let mut document = whole(rt, alloc);
+    check_document(rt, alloc, document.set_config(config), CHANGED[3]);
 }
 
-fn with_layers(alloc: Global) -> Result<String> {
-    let layers = single(alloc, content(alloc, "x:1"))?;
-    let mut document = whole(alloc)?;
-    to_string(document.set_layers(layers), alloc)
+fn check_layers(rt: &impl Abort, alloc: Global) {
+    let layers = single(alloc, content(alloc, "x:1")).expect(rt, "a descriptor");
+    let mut document = whole(rt, alloc);
+    check_document(rt, alloc, document.set_layers(layers), CHANGED[4]);
 }
 
-fn with_subject(alloc: Global) -> Result<String> {
-    let mut document = whole(alloc)?;
-    to_string(document.set_subject(None), alloc)
+fn check_subject(rt: &impl Abort, alloc: Global) {
+    let mut document = whole(rt, alloc);
+    check_document(rt, alloc, document.set_subject(None), CHANGED[5]);
 }
 
-fn with_annotations(alloc: Global) -> Result<String> {
-    let annotations = map(alloc, "b", "1")?;
-    let mut document = whole(alloc)?;
-    to_string(document.set_annotations(Some(annotations)), alloc)
+fn check_annotations(rt: &impl Abort, alloc: Global) {
+    let annotations = map(alloc, "b", "1").expect(rt, "memory");
+    let mut document = whole(rt, alloc);
+    check_document(
+        rt,
+        alloc,
+        document.set_annotations(Some(annotations)),
+        CHANGED[6],
+    );
 }
 
 /// A setter changes its member alone, and answers the document.
 #[test]
 fn setters(rt: HostRuntime) {
     let alloc = rt.alloc();
-    check(&rt, with_schema_version(alloc), CHANGED[0]);
-    check(&rt, with_media_type(alloc), CHANGED[1]);
-    check(&rt, with_artifact_type(alloc), CHANGED[2]);
-    check(&rt, with_config(alloc), CHANGED[3]);
-    check(&rt, with_layers(alloc), CHANGED[4]);
-    check(&rt, with_subject(alloc), CHANGED[5]);
-    check(&rt, with_annotations(alloc), CHANGED[6]);
+    check_schema_version(&rt, alloc);
+    check_media_type(&rt, alloc);
+    check_artifact_type(&rt, alloc);
+    check_config(&rt, alloc);
+    check_layers(&rt, alloc);
+    check_subject(&rt, alloc);
+    check_annotations(&rt, alloc);
 }
 
 /// Documents that differ in one member are unequal.
@@ -87,20 +96,12 @@ fn equality(rt: HostRuntime) {
 
 /// The getters lend what was read.
 #[test]
-fn getters(rt: HostRuntime) -> std::result::Result<(), Fail> {
+fn getters(rt: HostRuntime) {
     let alloc = rt.alloc();
-    let document = whole(alloc)?;
+    let document = whole(&rt, alloc);
     check_is(&rt, &document.schema_version(), &2);
-    check(
-        &rt,
-        shown(alloc, document.media_type()),
-        "Some(ImageManifest)",
-    );
-    check(
-        &rt,
-        shown(alloc, document.artifact_type()),
-        r#"Some(Other("t"))"#,
-    );
+    check_shown(&rt, alloc, document.media_type(), "Some(ImageManifest)");
+    check_shown(&rt, alloc, document.artifact_type(), r#"Some(Other("t"))"#);
     check_made(
         &rt,
         alloc,
@@ -113,52 +114,44 @@ fn getters(rt: HostRuntime) -> std::result::Result<(), Fail> {
         inner(alloc, document.subject()),
         r#"{"digest":"s:1","mediaType":"application/vnd.oci.empty.v1+json","size":1}"#,
     );
-    check(
-        &rt,
-        shown(alloc, document.annotations()),
-        r#"Some({"a": "1"})"#,
-    );
-    Ok(())
+    check_shown(&rt, alloc, document.annotations(), r#"Some({"a": "1"})"#);
 }
 
-fn copied(alloc: Global) -> Result<ImageManifest> {
-    let document = whole(alloc)?;
-    document.clone(alloc)
+fn copied(rt: &impl Abort, alloc: Global) -> ImageManifest {
+    whole(rt, alloc).clone(alloc).expect(rt, "memory")
 }
 
 /// A clone is an equal document.
 #[test]
 fn clones(rt: HostRuntime) {
     let alloc = rt.alloc();
-    check_equal(&rt, whole(alloc), copied(alloc), "clone");
-    check_made(&rt, alloc, copied(alloc), WHOLE);
+    check_is(&rt, &copied(&rt, alloc), &whole(&rt, alloc));
+    check_made(&rt, alloc, Ok(copied(&rt, alloc)), WHOLE);
 }
 
 /// The first half of the members.
-fn begun(alloc: Global) -> Result<ImageManifestBuilder> {
-    let artifact_type = MediaType::from_text(alloc, "t")?;
-    let config = content(alloc, "c:1")?;
-    Ok(
-        ImageManifestBuilder::default()
-            .schema_version(2)
-            .media_type(MediaType::ImageManifest)
-            .artifact_type(artifact_type)
-            .config(config),
-    )
+fn begun(rt: &impl Abort, alloc: Global) -> ImageManifestBuilder {
+    let artifact_type = MediaType::from_text(alloc, "t").expect(rt, "memory");
+    let config = content(alloc, "c:1").expect(rt, "a descriptor");
+    ImageManifestBuilder::default()
+        .schema_version(2)
+        .media_type(MediaType::ImageManifest)
+        .artifact_type(artifact_type)
+        .config(config)
 }
 
-fn layers(alloc: Global) -> Result<Vec<Descriptor>> {
-    let mut layers = single(alloc, content(alloc, "l:1"))?;
-    layers.push(content(alloc, "l:2")?)?;
-    Ok(layers)
+fn layers(rt: &impl Abort, alloc: Global) -> Vec<Descriptor> {
+    let mut layers = single(alloc, content(alloc, "l:1")).expect(rt, "a descriptor");
+    add_content(&mut layers, alloc, "l:2").expect(rt, "a descriptor");
+    layers
 }
 
 /// What a builder makes of all members.
-fn built(alloc: Global) -> Result<ImageManifest> {
-    let layers = layers(alloc)?;
-    let subject = content(alloc, "s:1")?;
-    let annotations = map(alloc, "a", "1")?;
-    begun(alloc)?
+fn built(rt: &impl Abort, alloc: Global) -> Result<ImageManifest> {
+    let layers = layers(rt, alloc);
+    let subject = content(alloc, "s:1").expect(rt, "a descriptor");
+    let annotations = map(alloc, "a", "1").expect(rt, "memory");
+    begun(rt, alloc)
         .layers(layers)
         .subject(subject)
         .annotations(annotations)
@@ -168,7 +161,8 @@ fn built(alloc: Global) -> Result<ImageManifest> {
 /// What is set is in the document.
 #[test]
 fn builders(rt: HostRuntime) {
-    check_made(&rt, rt.alloc(), built(rt.alloc()), WHOLE);
+    let alloc = rt.alloc();
+    check_made(&rt, alloc, built(&rt, alloc), WHOLE);
 }
 
 /// The layers, a line each.
@@ -176,52 +170,65 @@ const LAYERS: &str = r#"{"digest":"l:1","mediaType":"application/vnd.oci.empty.v
 {"digest":"l:2","mediaType":"application/vnd.oci.empty.v1+json","size":1}
 "#;
 
+/// A builder of nothing.
+fn check_nothing(rt: &impl Abort, alloc: Global) {
+    let built = ImageManifestBuilder::default().build(alloc);
+    check_unset(rt, built, "schema_version");
+}
+
 /// A builder of the configuration alone.
-fn of_config(alloc: Global) -> Result<ImageManifest> {
-    let config = content(alloc, "c:1")?;
-    ImageManifestBuilder::default().config(config).build(alloc)
+fn check_config_alone(rt: &impl Abort, alloc: Global) {
+    let config = content(alloc, "c:1").expect(rt, "a descriptor");
+    let built = ImageManifestBuilder::default().config(config).build(alloc);
+    check_unset(rt, built, "schema_version");
 }
 
-fn without_layers(alloc: Global) -> Result<ImageManifest> {
-    let config = content(alloc, "c:1")?;
-    ImageManifestBuilder::default()
-        .schema_version(0)
-        .config(config)
-        .build(alloc)
-}
-
-fn without_config(alloc: Global) -> Result<ImageManifest> {
-    ImageManifestBuilder::default()
-        .schema_version(0)
-        .layers(Vec::new(alloc))
-        .build(alloc)
-}
-
-fn without_version(alloc: Global) -> Result<ImageManifest> {
-    let config = content(alloc, "c:1")?;
-    ImageManifestBuilder::default()
+fn check_without_version(rt: &impl Abort, alloc: Global) {
+    let config = content(alloc, "c:1").expect(rt, "a descriptor");
+    let built = ImageManifestBuilder::default()
         .config(config)
         .layers(Vec::new(alloc))
-        .build(alloc)
+        .build(alloc);
+    check_unset(rt, built, "schema_version");
+}
+
+fn check_version_alone(rt: &impl Abort, alloc: Global) {
+    let version = ImageManifestBuilder::default().schema_version(0);
+    check_unset(rt, version.build(alloc), "config");
+}
+
+fn check_without_config(rt: &impl Abort, alloc: Global) {
+    let built = ImageManifestBuilder::default()
+        .schema_version(0)
+        .layers(Vec::new(alloc))
+        .build(alloc);
+    check_unset(rt, built, "config");
+}
+
+fn check_without_layers(rt: &impl Abort, alloc: Global) {
+    let config = content(alloc, "c:1").expect(rt, "a descriptor");
+    let built = ImageManifestBuilder::default()
+        .schema_version(0)
+        .config(config)
+        .build(alloc);
+    check_unset(rt, built, "layers");
 }
 
 /// The first member that has to be set and is not is named.
 #[test]
 fn unset(rt: HostRuntime) {
     let alloc = rt.alloc();
-    let none = ImageManifestBuilder::default().build(alloc);
-    check_unset(&rt, none, "schema_version");
-    check_unset(&rt, of_config(alloc), "schema_version");
-    check_unset(&rt, without_version(alloc), "schema_version");
-    let version = ImageManifestBuilder::default().schema_version(0);
-    check_unset(&rt, version.build(alloc), "config");
-    check_unset(&rt, without_config(alloc), "config");
-    check_unset(&rt, without_layers(alloc), "layers");
+    check_nothing(&rt, alloc);
+    check_config_alone(&rt, alloc);
+    check_without_version(&rt, alloc);
+    check_version_alone(&rt, alloc);
+    check_without_config(&rt, alloc);
+    check_without_layers(&rt, alloc);
 }
 
 /// No more than what has to be set.
-fn least(alloc: Global) -> Result<ImageManifest> {
-    let config = content(alloc, "c:1")?;
+fn least(rt: &impl Abort, alloc: Global) -> Result<ImageManifest> {
+    let config = content(alloc, "c:1").expect(rt, "a descriptor");
     ImageManifestBuilder::default()
         .schema_version(0)
         .config(config)
@@ -232,40 +239,41 @@ fn least(alloc: Global) -> Result<ImageManifest> {
 /// The other members may be absent.
 #[test]
 fn least_members(rt: HostRuntime) {
+    let alloc = rt.alloc();
     check_made(
         &rt,
-        rt.alloc(),
-        least(rt.alloc()),
+        alloc,
+        least(&rt, alloc),
         r#"{"config":{"digest":"c:1","mediaType":"application/vnd.oci.empty.v1+json","size":1},"layers":[],"schemaVersion":0}"#,
     );
 }
 
-fn with_more_layers(alloc: Global) -> Result<String> {
-    let mut document = whole(alloc)?;
-    add_content(document.layers_mut(), alloc, "x:1")?;
-    to_string(&document, alloc)
+fn check_more_layers(rt: &impl Abort, alloc: Global) {
+    let mut document = whole(rt, alloc);
+    add_content(document.layers_mut(), alloc, "x:1").expect(rt, "a descriptor");
+    check_document(rt, alloc, &document, MORE_LAYERS);
 }
 
-fn with_other_annotations(alloc: Global) -> Result<String> {
-    let annotations = map(alloc, "b", "1")?;
-    let mut document = whole(alloc)?;
+fn check_other_annotations(rt: &impl Abort, alloc: Global) {
+    let annotations = map(alloc, "b", "1").expect(rt, "memory");
+    let mut document = whole(rt, alloc);
     *document.annotations_mut() = Some(annotations);
-    to_string(&document, alloc)
+    check_document(rt, alloc, &document, CHANGED[6]);
 }
 
-fn with_no_annotations(alloc: Global) -> Result<String> {
-    let mut document = whole(alloc)?;
+fn check_no_annotations(rt: &impl Abort, alloc: Global) {
+    let mut document = whole(rt, alloc);
     *document.annotations_mut() = None;
-    to_string(&document, alloc)
+    check_document(rt, alloc, &document, NO_ANNOTATIONS);
 }
 
 /// What is changed through a borrow is changed in the document, and nothing else.
 #[test]
 fn mutable_getters(rt: HostRuntime) {
     let alloc = rt.alloc();
-    check(&rt, with_more_layers(alloc), MORE_LAYERS);
-    check(&rt, with_other_annotations(alloc), CHANGED[6]);
-    check(&rt, with_no_annotations(alloc), NO_ANNOTATIONS);
+    check_more_layers(&rt, alloc);
+    check_other_annotations(&rt, alloc);
+    check_no_annotations(&rt, alloc);
 }
 
 /// All members, and one more layer.

@@ -2,130 +2,114 @@ use super::samples::{ARTIFACT, ARTIFACT_FILE, ARTIFACT_PRETTY};
 use super::{check, check_equal, check_file, check_stream, map, sha256, single};
 use oci_image::{ArtifactManifest, ArtifactManifestBuilder, Descriptor, MediaType};
 use oci_test_streams::{Input, Output};
-use oci_text_base::Result;
 use std::alloc::Global;
 use std::collections::BTreeMap;
 use std::fs;
-use std::rt::Files;
+use std::process::Abort;
 
-fn blob(alloc: Global) -> Result<Descriptor> {
-    let media_type = MediaType::from_text(alloc, "application/gzip")?;
-    sha256(
+fn blobs(rt: &impl Abort, alloc: Global) -> Vec<Descriptor> {
+    let media_type = MediaType::from_text(alloc, "application/gzip");
+    let blob = sha256(
         alloc,
-        media_type,
+        media_type.expect(rt, "memory"),
         123,
         "87923725d74f4bfb94c9e86d64170f7521aad8221a5de834851470ca142da630",
-    )
+    );
+    single(alloc, blob).expect(rt, "a descriptor")
 }
 
-fn subject(alloc: Global) -> Result<Descriptor> {
-    sha256(
+fn subject(rt: &impl Abort, alloc: Global) -> Descriptor {
+    let subject = sha256(
         alloc,
         MediaType::ImageManifest,
         1234,
         "cc06a2839488b8bd2a2b99dcdc03d5cfd818eed72ad08ef3cc197aac64c0d0a0",
-    )
+    );
+    subject.expect(rt, "a descriptor")
 }
 
-fn annotations(alloc: Global) -> Result<BTreeMap<String, String>> {
-    let mut annotations = map(
+fn add_format(rt: &impl Abort, alloc: Global, annotations: &mut BTreeMap<String, String>) {
+    let key = String::from_str(alloc, "org.example.sbom.format").expect(rt, "memory");
+    let format = String::from_str(alloc, "json").expect(rt, "memory");
+    let replaced: Result<_, _> = annotations.insert(key, format);
+    replaced.expect(rt, "memory");
+}
+
+fn annotations(rt: &impl Abort, alloc: Global) -> BTreeMap<String, String> {
+    let annotations = map(
         alloc,
         "org.opencontainers.artifact.created",
         "2022-01-01T14:42:55Z",
-    )?;
-    let key = String::from_str(alloc, "org.example.sbom.format")?;
-    annotations.insert(key, String::from_str(alloc, "json")?)?;
-    Ok(annotations)
+    );
+    let mut annotations = annotations.expect(rt, "memory");
+    add_format(rt, alloc, &mut annotations);
+    annotations
 }
 
 /// The document that is built.
-fn made(alloc: Global) -> Result<ArtifactManifest> {
-    let artifact_type = MediaType::from_text(alloc, "application/vnd.example.sbom.v1")?;
-    let blobs = single(alloc, blob(alloc))?;
-    let subject = subject(alloc)?;
-    let annotations = annotations(alloc)?;
+fn made(rt: &impl Abort, alloc: Global) -> ArtifactManifest {
+    let artifact_type = MediaType::from_text(alloc, "application/vnd.example.sbom.v1");
+    let blobs = blobs(rt, alloc);
+    let subject = subject(rt, alloc);
+    let annotations = annotations(rt, alloc);
     ArtifactManifestBuilder::default()
-        .artifact_type(artifact_type)
+        .artifact_type(artifact_type.expect(rt, "memory"))
         .blobs(blobs)
         .subject(subject)
         .annotations(annotations)
         .build(alloc)
+        .expect(rt, "a document")
 }
 
 /// What a reader gives is the document that is built.
 #[test]
 fn from_readers(rt: HostRuntime) {
-    let read = ArtifactManifest::from_reader(rt.alloc(), Input::new(ARTIFACT_FILE.as_bytes()));
-    check_equal(&rt, read, made(rt.alloc()), "reader");
+    let alloc = rt.alloc();
+    let read = ArtifactManifest::from_reader(alloc, Input::new(ARTIFACT_FILE.as_bytes()));
+    check_equal(&rt, read, &made(&rt, alloc), "reader");
 }
 
 /// What stands in a file is the document that is built.
 #[test]
 fn from_files(rt: HostRuntime) {
+    let alloc = rt.alloc();
     let path = "artifact_manifest_read.json";
-    assert!(rt; fs::write(&rt, path, ARTIFACT_FILE).is_ok());
-    let read = ArtifactManifest::from_file(&rt, rt.alloc(), path);
-    check_equal(&rt, read, made(rt.alloc()), "file");
-    assert!(rt; fs::remove_file(&rt, path).is_ok());
-}
-
-fn to_file(rt: &impl Files, alloc: Global, path: &str) -> Result<()> {
-    let document = made(alloc)?;
-    document.to_file(rt, alloc, path)
-}
-
-fn to_file_pretty(rt: &impl Files, alloc: Global, path: &str) -> Result<()> {
-    let document = made(alloc)?;
-    document.to_file_pretty(rt, alloc, path)
+    fs::write(&rt, path, ARTIFACT_FILE).expect(&rt, path);
+    let read = ArtifactManifest::from_file(&rt, alloc, path);
+    check_equal(&rt, read, &made(&rt, alloc), "file");
+    fs::remove_file(&rt, path).expect(&rt, path);
 }
 
 /// A file is the compact or the pretty text.
 #[test]
 fn to_files(rt: HostRuntime) {
+    let alloc = rt.alloc();
     let path = "artifact_manifest_written.json";
-    check_file(&rt, to_file(&rt, rt.alloc(), path), path, ARTIFACT);
-    check_file(
-        &rt,
-        to_file_pretty(&rt, rt.alloc(), path),
-        path,
-        ARTIFACT_PRETTY,
-    );
-}
-
-fn to_writer(alloc: Global, output: &mut Output) -> Result<()> {
-    let document = made(alloc)?;
-    document.to_writer(alloc, output)
-}
-
-fn to_writer_pretty(alloc: Global, output: &mut Output) -> Result<()> {
-    let document = made(alloc)?;
-    document.to_writer_pretty(alloc, output)
+    let document = made(&rt, alloc);
+    let answer = document.to_file(&rt, alloc, path);
+    check_file(&rt, answer, path, ARTIFACT);
+    let answer = document.to_file_pretty(&rt, alloc, path);
+    check_file(&rt, answer, path, ARTIFACT_PRETTY);
 }
 
 /// A writer takes the compact or the pretty text.
 #[test]
 fn to_writers(rt: HostRuntime) {
-    let mut output = Output::new(rt.alloc());
-    let answer = to_writer(rt.alloc(), &mut output);
+    let alloc = rt.alloc();
+    let document = made(&rt, alloc);
+    let mut output = Output::new(alloc);
+    let answer = document.to_writer(alloc, &mut output);
     check_stream(&rt, answer, &output, ARTIFACT);
-    let mut output = Output::new(rt.alloc());
-    let answer = to_writer_pretty(rt.alloc(), &mut output);
+    let mut output = Output::new(alloc);
+    let answer = document.to_writer_pretty(alloc, &mut output);
     check_stream(&rt, answer, &output, ARTIFACT_PRETTY);
-}
-
-fn compact(alloc: Global) -> Result<String> {
-    let document = made(alloc)?;
-    document.to_string(alloc)
-}
-
-fn pretty(alloc: Global) -> Result<String> {
-    let document = made(alloc)?;
-    document.to_string_pretty(alloc)
 }
 
 /// The compact and the pretty text.
 #[test]
 fn texts(rt: HostRuntime) {
-    check(&rt, compact(rt.alloc()), ARTIFACT);
-    check(&rt, pretty(rt.alloc()), ARTIFACT_PRETTY);
+    let alloc = rt.alloc();
+    let document = made(&rt, alloc);
+    check(&rt, document.to_string(alloc), ARTIFACT);
+    check(&rt, document.to_string_pretty(alloc), ARTIFACT_PRETTY);
 }

@@ -2,10 +2,9 @@ use super::samples::{MANIFEST, MANIFEST_FILE, MANIFEST_PRETTY};
 use super::{check, check_equal, check_file, check_stream, displayed, sha256};
 use oci_image::{Descriptor, ImageManifest, ImageManifestBuilder, MediaType, SCHEMA_VERSION};
 use oci_test_streams::{Input, Output};
-use oci_text_base::Result;
 use std::alloc::Global;
 use std::fs;
-use std::rt::Files;
+use std::process::Abort;
 
 /// The sizes of the layers, and the digits of their digests.
 static LAYERS: [(u64, &str); 3] = [
@@ -23,49 +22,46 @@ static LAYERS: [(u64, &str); 3] = [
     ),
 ];
 
-fn layers(alloc: Global) -> Result<Vec<Descriptor>> {
+fn layers(rt: &impl Abort, alloc: Global) -> Vec<Descriptor> {
     let mut layers = Vec::new(alloc);
     for (size, digits) in &LAYERS {
-        layers.push(sha256(alloc, MediaType::ImageLayerGzip, *size, digits)?)?;
+        let layer = sha256(alloc, MediaType::ImageLayerGzip, *size, digits);
+        layers.push(layer.expect(rt, digits)).expect(rt, "memory");
     }
-    Ok(layers)
+    layers
 }
 
 /// The document that is built.
-fn made(alloc: Global) -> Result<ImageManifest> {
-    let layers = layers(alloc)?;
+fn made(rt: &impl Abort, alloc: Global) -> ImageManifest {
+    let layers = layers(rt, alloc);
     let config = sha256(
         alloc,
         MediaType::ImageConfig,
         7023,
         "b5b2b2c507a0944348e0303114d8d93aaaa081732b86451d9bce1f432a537bc7",
-    )?;
+    );
     ImageManifestBuilder::default()
         .schema_version(SCHEMA_VERSION)
-        .config(config)
+        .config(config.expect(rt, "a descriptor"))
         .layers(layers)
         .build(alloc)
+        .expect(rt, "a document")
 }
 
 /// A copy of the first layer behind the others.
-fn repeat_first(layers: &mut Vec<Descriptor>, alloc: Global) -> Result<()> {
-    if let Some(first) = layers.first() {
-        let copy = first.clone(alloc)?;
-        layers.push(copy)?;
-    }
-    Ok(())
-}
-
-fn with_four_layers(alloc: Global) -> Result<String> {
-    let mut document = made(alloc)?;
-    repeat_first(document.layers_mut(), alloc)?;
-    document.to_string(alloc)
+fn repeat_first(rt: &impl Abort, alloc: Global, layers: &mut Vec<Descriptor>) {
+    let first = layers.first().expect(rt, "a layer");
+    let copy = first.clone(alloc).expect(rt, "memory");
+    layers.push(copy).expect(rt, "memory");
 }
 
 /// A layer that is pushed stands behind the three of the document.
 #[test]
 fn one_more_layer(rt: HostRuntime) {
-    check(&rt, with_four_layers(rt.alloc()), FOUR_LAYERS);
+    let alloc = rt.alloc();
+    let mut document = made(&rt, alloc);
+    repeat_first(&rt, alloc, document.layers_mut());
+    check(&rt, document.to_string(alloc), FOUR_LAYERS);
 }
 
 /// The manifest of three layers, and a copy of the first behind them.
@@ -75,83 +71,53 @@ const FOUR_LAYERS: &str =
 /// What a reader gives is the document that is built.
 #[test]
 fn from_readers(rt: HostRuntime) {
-    let read = ImageManifest::from_reader(rt.alloc(), Input::new(MANIFEST_FILE.as_bytes()));
-    check_equal(&rt, read, made(rt.alloc()), "reader");
+    let alloc = rt.alloc();
+    let read = ImageManifest::from_reader(alloc, Input::new(MANIFEST_FILE.as_bytes()));
+    check_equal(&rt, read, &made(&rt, alloc), "reader");
 }
 
 /// What stands in a file is the document that is built.
 #[test]
 fn from_files(rt: HostRuntime) {
+    let alloc = rt.alloc();
     let path = "image_manifest_read.json";
-    assert!(rt; fs::write(&rt, path, MANIFEST_FILE).is_ok());
-    let read = ImageManifest::from_file(&rt, rt.alloc(), path);
-    check_equal(&rt, read, made(rt.alloc()), "file");
-    assert!(rt; fs::remove_file(&rt, path).is_ok());
-}
-
-fn to_file(rt: &impl Files, alloc: Global, path: &str) -> Result<()> {
-    let document = made(alloc)?;
-    document.to_file(rt, alloc, path)
-}
-
-fn to_file_pretty(rt: &impl Files, alloc: Global, path: &str) -> Result<()> {
-    let document = made(alloc)?;
-    document.to_file_pretty(rt, alloc, path)
+    fs::write(&rt, path, MANIFEST_FILE).expect(&rt, path);
+    let read = ImageManifest::from_file(&rt, alloc, path);
+    check_equal(&rt, read, &made(&rt, alloc), "file");
+    fs::remove_file(&rt, path).expect(&rt, path);
 }
 
 /// A file is the compact or the pretty text.
 #[test]
 fn to_files(rt: HostRuntime) {
+    let alloc = rt.alloc();
     let path = "image_manifest_written.json";
-    check_file(&rt, to_file(&rt, rt.alloc(), path), path, MANIFEST);
-    check_file(
-        &rt,
-        to_file_pretty(&rt, rt.alloc(), path),
-        path,
-        MANIFEST_PRETTY,
-    );
-}
-
-fn to_writer(alloc: Global, output: &mut Output) -> Result<()> {
-    let document = made(alloc)?;
-    document.to_writer(alloc, output)
-}
-
-fn to_writer_pretty(alloc: Global, output: &mut Output) -> Result<()> {
-    let document = made(alloc)?;
-    document.to_writer_pretty(alloc, output)
+    let document = made(&rt, alloc);
+    let answer = document.to_file(&rt, alloc, path);
+    check_file(&rt, answer, path, MANIFEST);
+    let answer = document.to_file_pretty(&rt, alloc, path);
+    check_file(&rt, answer, path, MANIFEST_PRETTY);
 }
 
 /// A writer takes the compact or the pretty text.
 #[test]
 fn to_writers(rt: HostRuntime) {
-    let mut output = Output::new(rt.alloc());
-    let answer = to_writer(rt.alloc(), &mut output);
+    let alloc = rt.alloc();
+    let document = made(&rt, alloc);
+    let mut output = Output::new(alloc);
+    let answer = document.to_writer(alloc, &mut output);
     check_stream(&rt, answer, &output, MANIFEST);
-    let mut output = Output::new(rt.alloc());
-    let answer = to_writer_pretty(rt.alloc(), &mut output);
+    let mut output = Output::new(alloc);
+    let answer = document.to_writer_pretty(alloc, &mut output);
     check_stream(&rt, answer, &output, MANIFEST_PRETTY);
-}
-
-fn compact(alloc: Global) -> Result<String> {
-    let document = made(alloc)?;
-    document.to_string(alloc)
-}
-
-fn pretty(alloc: Global) -> Result<String> {
-    let document = made(alloc)?;
-    document.to_string_pretty(alloc)
-}
-
-fn printed(alloc: Global) -> Result<String> {
-    let document = made(alloc)?;
-    displayed(alloc, &document)
 }
 
 /// The compact and the pretty text, which is displayed.
 #[test]
 fn texts(rt: HostRuntime) {
-    check(&rt, compact(rt.alloc()), MANIFEST);
-    check(&rt, pretty(rt.alloc()), MANIFEST_PRETTY);
-    check(&rt, printed(rt.alloc()), MANIFEST_PRETTY);
+    let alloc = rt.alloc();
+    let document = made(&rt, alloc);
+    check(&rt, document.to_string(alloc), MANIFEST);
+    check(&rt, document.to_string_pretty(alloc), MANIFEST_PRETTY);
+    check(&rt, displayed(alloc, &document), MANIFEST_PRETTY);
 }

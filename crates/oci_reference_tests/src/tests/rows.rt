@@ -1,7 +1,7 @@
 use oci_reference::ParseError;
 
-/// A text, and what it is read as.
-pub(super) static ROWS: [(&str, Result<&str, ParseError>); 45] = [
+/// A text of an image of the default registry, and what it is read as.
+pub(super) static OF_DEFAULT: [(&str, Result<&str, ParseError>); 11] = [
     (
         "busybox",
         Ok("docker.io library/busybox latest - - index.docker.io docker.io/library/busybox:latest"),
@@ -11,12 +11,54 @@ pub(super) static ROWS: [(&str, Result<&str, ParseError>); 45] = [
         Ok("docker.io library/localhost 5000 - - index.docker.io docker.io/library/localhost:5000"),
     ),
     (
-        "test:5000/repo",
-        Ok("test:5000 repo latest - - test:5000 test:5000/repo:latest"),
-    ),
-    (
         "index.docker.io/busybox:1",
         Ok("docker.io library/busybox 1 - - index.docker.io docker.io/library/busybox:1"),
+    ),
+    (
+        "a--b/c",
+        Ok("docker.io a--b/c latest - - index.docker.io docker.io/a--b/c:latest"),
+    ),
+    (
+        "repo@sha256:FFFFFFFFFFFFFFFFFFFFFFFFFFFFFFFFFFFFFFFFFFFFFFFFFFFFFFFFFFFFFFFF",
+        Ok(
+            "docker.io library/repo - sha256:FFFFFFFFFFFFFFFFFFFFFFFFFFFFFFFFFFFFFFFFFFFFFFFFFFFFFFFFFFFFFFFF - index.docker.io docker.io/library/repo@sha256:FFFFFFFFFFFFFFFFFFFFFFFFFFFFFFFFFFFFFFFFFFFFFFFFFFFFFFFFFFFFFFFF",
+        ),
+    ),
+    (
+        "test.com:tag",
+        Ok("docker.io library/test.com tag - - index.docker.io docker.io/library/test.com:tag"),
+    ),
+    (
+        "test.com:5000",
+        Ok("docker.io library/test.com 5000 - - index.docker.io docker.io/library/test.com:5000"),
+    ),
+    (
+        "lowercase:Uppercase",
+        Ok(
+            "docker.io library/lowercase Uppercase - - index.docker.io docker.io/library/lowercase:Uppercase",
+        ),
+    ),
+    (
+        "foo_bar.com:8080",
+        Ok(
+            "docker.io library/foo_bar.com 8080 - - index.docker.io docker.io/library/foo_bar.com:8080",
+        ),
+    ),
+    (
+        "foo/foo_bar.com:8080",
+        Ok("docker.io foo/foo_bar.com 8080 - - index.docker.io docker.io/foo/foo_bar.com:8080"),
+    ),
+    (
+        "opensuse/leap:15.3",
+        Ok("docker.io opensuse/leap 15.3 - - index.docker.io docker.io/opensuse/leap:15.3"),
+    ),
+];
+
+/// A text of an image of another registry, and what it is read as.
+pub(super) static OF_OTHERS: [(&str, Result<&str, ParseError>); 14] = [
+    (
+        "test:5000/repo",
+        Ok("test:5000 repo latest - - test:5000 test:5000/repo:latest"),
     ),
     (
         "foo_bar.com/x",
@@ -27,22 +69,12 @@ pub(super) static ROWS: [(&str, Result<&str, ParseError>); 45] = [
         Ok("Foo.com x latest - - Foo.com Foo.com/x:latest"),
     ),
     (
-        "a--b/c",
-        Ok("docker.io a--b/c latest - - index.docker.io docker.io/a--b/c:latest"),
-    ),
-    (
         "localhost/x",
         Ok("localhost x latest - - localhost localhost/x:latest"),
     ),
     (
         "docker.io:443/x",
         Ok("docker.io:443 x latest - - docker.io:443 docker.io:443/x:latest"),
-    ),
-    (
-        "repo@sha256:FFFFFFFFFFFFFFFFFFFFFFFFFFFFFFFFFFFFFFFFFFFFFFFFFFFFFFFFFFFFFFFF",
-        Ok(
-            "docker.io library/repo - sha256:FFFFFFFFFFFFFFFFFFFFFFFFFFFFFFFFFFFFFFFFFFFFFFFFFFFFFFFFFFFFFFFF - index.docker.io docker.io/library/repo@sha256:FFFFFFFFFFFFFFFFFFFFFFFFFFFFFFFFFFFFFFFFFFFFFFFFFFFFFFFFFFFFFFFF",
-        ),
     ),
     (
         "test.com/repo:tag",
@@ -92,34 +124,10 @@ pub(super) static ROWS: [(&str, Result<&str, ParseError>); 45] = [
             "sub-dom1.foo.com bar/baz/quux some-long-tag - - sub-dom1.foo.com sub-dom1.foo.com/bar/baz/quux:some-long-tag",
         ),
     ),
-    (
-        "test.com:tag",
-        Ok("docker.io library/test.com tag - - index.docker.io docker.io/library/test.com:tag"),
-    ),
-    (
-        "test.com:5000",
-        Ok("docker.io library/test.com 5000 - - index.docker.io docker.io/library/test.com:5000"),
-    ),
-    (
-        "lowercase:Uppercase",
-        Ok(
-            "docker.io library/lowercase Uppercase - - index.docker.io docker.io/library/lowercase:Uppercase",
-        ),
-    ),
-    (
-        "foo_bar.com:8080",
-        Ok(
-            "docker.io library/foo_bar.com 8080 - - index.docker.io docker.io/library/foo_bar.com:8080",
-        ),
-    ),
-    (
-        "foo/foo_bar.com:8080",
-        Ok("docker.io foo/foo_bar.com 8080 - - index.docker.io docker.io/foo/foo_bar.com:8080"),
-    ),
-    (
-        "opensuse/leap:15.3",
-        Ok("docker.io opensuse/leap 15.3 - - index.docker.io docker.io/opensuse/leap:15.3"),
-    ),
+];
+
+/// A text that is no reference, and why.
+pub(super) static REFUSED: [(&str, Result<&str, ParseError>); 20] = [
     ("", Err(ParseError::NameEmpty)),
     ("foo_bar.com:80/x", Err(ParseError::ReferenceInvalidFormat)),
     ("Uppercase:tag", Err(ParseError::ReferenceInvalidFormat)),
