@@ -20,7 +20,8 @@ pub fn all_3<A: Drop, B: Drop, C: Drop>(
     ensures ok { IfOk result (λ x. (first ≡ Ok x.0) × (second ≡ Ok x.1) × (third ≡ Ok x.2)) }
     ensures err { IfErr result (λ e. (first ≡ Err e) ⊎ ((IsOk first × (second ≡ Err e)) ⊎ (IsOk first × IsOk second × (third ≡ Err e)))) }
 {
-    Ok((first?, second?, third?))
+    let ((first, second), third) = all_2(all_2(first, second), third)?;
+    Ok((first, second, third))
 }
 
 /// All four answers, or the first refusal of them.
@@ -33,7 +34,8 @@ pub fn all_4<A: Drop, B: Drop, C: Drop, D: Drop>(
     ensures ok { IfOk result (λ x. (first ≡ Ok x.0) × (second ≡ Ok x.1) × (third ≡ Ok x.2) × (fourth ≡ Ok x.3)) }
     ensures err { IfErr result (λ e. (first ≡ Err e) ⊎ ((IsOk first × (second ≡ Err e)) ⊎ ((IsOk first × IsOk second × (third ≡ Err e)) ⊎ (IsOk first × IsOk second × IsOk third × (fourth ≡ Err e))))) }
 {
-    Ok((first?, second?, third?, fourth?))
+    let ((first, second), (third, fourth)) = all_2(all_2(first, second), all_2(third, fourth))?;
+    Ok((first, second, third, fourth))
 }
 
 /// All five answers, or the first refusal of them.
@@ -47,5 +49,9 @@ pub fn all_5<A: Drop, B: Drop, C: Drop, D: Drop, E: Drop>(
     ensures ok { IfOk result (λ x. (first ≡ Ok x.0) × (second ≡ Ok x.1) × (third ≡ Ok x.2) × (fourth ≡ Ok x.3) × (fifth ≡ Ok x.4)) }
     ensures err { IfErr result (λ e. (first ≡ Err e) ⊎ ((IsOk first × (second ≡ Err e)) ⊎ ((IsOk first × IsOk second × (third ≡ Err e)) ⊎ ((IsOk first × IsOk second × IsOk third × (fourth ≡ Err e)) ⊎ (IsOk first × IsOk second × IsOk third × IsOk fourth × (fifth ≡ Err e)))))) }
 {
-    Ok((first?, second?, third?, fourth?, fifth?))
+    let ((first, second, third), (fourth, fifth)) = all_2(
+        all_3(first, second, third),
+        all_2(fourth, fifth),
+    )?;
+    Ok((first, second, third, fourth, fifth))
 }

@@ -9,7 +9,7 @@ use crate::limits::limit;
 use crate::names::{Named, default_name, repository_text};
 use crate::texts::{copied, lent, mark_if, owned, some_text, tag_or_latest, text_or_empty};
 use oci_json_schema::{
-    OciRecord, fault, optional, optional_owned, required, required_owned, split_5, taken,
+    OciRecord, all_5, fault, optional, optional_owned, required, required_owned, split_5, taken,
     write_optional, write_required,
 };
 use oci_reference_scan::{ParseError, parts};
@@ -347,12 +347,19 @@ impl OciRecord for Reference {
         if !value.is_object() {
             return Err(fault::refused(NAME, ""));
         }
+        let (registry, mirror_registry, repository, tag, digest) = all_5(
+            required(alloc, value, NAME, "registry"),
+            optional(alloc, value, NAME, "mirror_registry"),
+            required(alloc, value, NAME, "repository"),
+            optional(alloc, value, NAME, "tag"),
+            optional(alloc, value, NAME, "digest"),
+        )?;
         Ok(Reference {
-            registry: required(alloc, value, NAME, "registry")?,
-            mirror_registry: optional(alloc, value, NAME, "mirror_registry")?,
-            repository: required(alloc, value, NAME, "repository")?,
-            tag: optional(alloc, value, NAME, "tag")?,
-            digest: optional(alloc, value, NAME, "digest")?,
+            registry,
+            mirror_registry,
+            repository,
+            tag,
+            digest,
         })
     }
 
@@ -367,27 +374,36 @@ impl OciRecord for Reference {
             return Err(fault::refused(NAME, ""));
         };
         let (registry, mirror_registry, repository, tag, digest) = split_5(found);
+        let (registry, mirror_registry, repository, tag, digest) = all_5(
+            required_owned(alloc, registry, NAME, "registry"),
+            optional_owned(alloc, mirror_registry, NAME, "mirror_registry"),
+            required_owned(alloc, repository, NAME, "repository"),
+            optional_owned(alloc, tag, NAME, "tag"),
+            optional_owned(alloc, digest, NAME, "digest"),
+        )?;
         Ok(Reference {
-            registry: required_owned(alloc, registry, NAME, "registry")?,
-            mirror_registry: optional_owned(alloc, mirror_registry, NAME, "mirror_registry")?,
-            repository: required_owned(alloc, repository, NAME, "repository")?,
-            tag: optional_owned(alloc, tag, NAME, "tag")?,
-            digest: optional_owned(alloc, digest, NAME, "digest")?,
+            registry,
+            mirror_registry,
+            repository,
+            tag,
+            digest,
         })
     }
 
     fn to_value(&self, alloc: Global) -> oci_text_base::Result<Value> {
         let mut members = Map::new(alloc);
-        write_required(&mut members, alloc, "registry", &self.registry)?;
-        write_optional(
-            &mut members,
-            alloc,
-            "mirror_registry",
-            &self.mirror_registry,
+        all_5(
+            write_required(&mut members, alloc, "registry", &self.registry),
+            write_optional(
+                &mut members,
+                alloc,
+                "mirror_registry",
+                &self.mirror_registry,
+            ),
+            write_required(&mut members, alloc, "repository", &self.repository),
+            write_optional(&mut members, alloc, "tag", &self.tag),
+            write_optional(&mut members, alloc, "digest", &self.digest),
         )?;
-        write_required(&mut members, alloc, "repository", &self.repository)?;
-        write_optional(&mut members, alloc, "tag", &self.tag)?;
-        write_optional(&mut members, alloc, "digest", &self.digest)?;
         Ok(Value::Object(members))
     }
 
