@@ -9,7 +9,7 @@ pub use builder::ImageConfigurationBuilder;
 use oci_image_config_parts::{Config, History, RootFs};
 use oci_json_schema::{
     OciMember, OciRecord, all_2, all_5, copy_optional, fault, optional, optional_owned, required,
-    required_owned, taken, write_optional, write_required,
+    required_owned, taken_10, write_optional, write_required,
 };
 use oci_text_base::{OciSpecError, Result};
 use oci_text_names::{Arch, Os};
@@ -328,7 +328,7 @@ impl OciRecord for ImageConfiguration {
     #[tactic(auto, using(oci_json_schema::proofs::Readers::refuses_others))]
     fn from_value_owned(alloc: Global, value: Value) -> Result<ImageConfiguration> {
         let Some(
-            [
+            (
                 created,
                 author,
                 architecture,
@@ -339,8 +339,8 @@ impl OciRecord for ImageConfiguration {
                 config,
                 rootfs,
                 history,
-            ],
-        ) = taken::<10>(
+            ),
+        ) = taken_10(
             alloc,
             value,
             &[

@@ -6,7 +6,7 @@ pub mod builder;
 pub use builder::ConfigBuilder;
 use oci_json_kinds::{Keys, copy_optional_as, optional_as, optional_as_owned, write_optional_as};
 use oci_json_schema::{
-    OciRecord, all_2, all_4, all_5, copy_optional, fault, optional, optional_owned, taken,
+    OciRecord, all_2, all_4, all_5, copy_optional, fault, optional, optional_owned, taken_9,
     write_optional,
 };
 use oci_text_base::{OciSpecError, Result};
@@ -277,18 +277,8 @@ impl OciRecord for Config {
     #[tactic(auto, using(oci_json_schema::proofs::Readers::refuses_others))]
     fn from_value_owned(alloc: Global, value: Value) -> Result<Config> {
         let Some(
-            [
-                user,
-                exposed_ports,
-                env,
-                entrypoint,
-                cmd,
-                volumes,
-                working_dir,
-                labels,
-                stop_signal,
-            ],
-        ) = taken::<9>(
+            (user, exposed_ports, env, entrypoint, cmd, volumes, working_dir, labels, stop_signal),
+        ) = taken_9(
             alloc,
             value,
             &[

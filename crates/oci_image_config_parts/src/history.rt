@@ -2,7 +2,7 @@
 ghost use Rattle.std.specs.Prelude.{◌≡◌, IfOk, IfErr};
 
 use oci_json_schema::{
-    OciRecord, all_5, copy_optional, fault, optional, optional_owned, taken, write_optional,
+    OciRecord, all_5, copy_optional, fault, optional, optional_owned, taken_5, write_optional,
 };
 use oci_text_base::{OciSpecError, Result};
 use serde_json::{Map, Value};
@@ -169,7 +169,7 @@ impl OciRecord for History {
 
     #[tactic(auto, using(oci_json_schema::proofs::Readers::refuses_others))]
     fn from_value_owned(alloc: Global, value: Value) -> Result<History> {
-        let Some([created, author, created_by, comment, empty_layer]) = taken::<5>(
+        let Some((created, author, created_by, comment, empty_layer)) = taken_5(
             alloc,
             value,
             &["created", "author", "created_by", "comment", "empty_layer"],

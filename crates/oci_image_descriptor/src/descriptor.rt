@@ -7,7 +7,7 @@ use crate::platform::Platform;
 pub use builder::DescriptorBuilder;
 use oci_json_schema::{
     OciMember, OciRecord, all_2, all_4, copy_optional, fault, optional, optional_owned, required,
-    required_owned, split_8, taken, write_optional, write_required,
+    required_owned, taken_8, write_optional, write_required,
 };
 use oci_text_base::{OciSpecError, Result};
 use oci_text_digest::Digest;
@@ -261,7 +261,9 @@ impl OciRecord for Descriptor {
 
     #[tactic(auto, using(oci_json_schema::proofs::Readers::refuses_others))]
     fn from_value_owned(alloc: Global, value: Value) -> Result<Descriptor> {
-        let Some(found) = taken::<8>(
+        let Some(
+            (media_type, digest, size, urls, annotations, platform, artifact_type, embedded_data),
+        ) = taken_8(
             alloc,
             value,
             &[
@@ -278,8 +280,6 @@ impl OciRecord for Descriptor {
         else {
             return Err(fault::refused(NAME, ""));
         };
-        let (media_type, digest, size, urls, annotations, platform, artifact_type, embedded_data) =
-            split_8(found);
         let (
             (media_type, digest, size, urls),
             (annotations, platform, artifact_type, embedded_data),

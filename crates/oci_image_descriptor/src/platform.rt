@@ -3,7 +3,7 @@ ghost use Rattle.std.specs.Prelude.{◌≡◌, IfOk, IfErr};
 
 use oci_json_schema::{
     OciMember, OciRecord, all_2, all_3, copy_optional, fault, optional, optional_either,
-    optional_either_owned, optional_owned, required, required_owned, taken, write_optional,
+    optional_either_owned, optional_owned, required, required_owned, taken_8, write_optional,
     write_required,
 };
 use oci_text_base::{OciSpecError, Result, UninitializedFieldError};
@@ -200,7 +200,7 @@ impl OciRecord for Platform {
     #[tactic(auto, using(oci_json_schema::proofs::Readers::refuses_others))]
     fn from_value_owned(alloc: Global, value: Value) -> Result<Platform> {
         let Some(
-            [
+            (
                 architecture,
                 os,
                 os_version,
@@ -209,8 +209,8 @@ impl OciRecord for Platform {
                 other_os_features,
                 variant,
                 features,
-            ],
-        ) = taken::<8>(
+            ),
+        ) = taken_8(
             alloc,
             value,
             &[

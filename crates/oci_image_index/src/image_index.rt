@@ -4,7 +4,7 @@ ghost use Rattle.std.specs.Prelude.{◌≡◌, IfOk, IfErr};
 use oci_image_descriptor::Descriptor;
 use oci_json_schema::{
     OciMember, OciRecord, all_2, all_3, copy_optional, fault, optional, optional_owned, required,
-    required_owned, split_6, taken, write_optional, write_required,
+    required_owned, taken_6, write_optional, write_required,
 };
 use oci_text_base::{OciSpecError, Result, UninitializedFieldError};
 use oci_text_names::MediaType;
@@ -292,24 +292,22 @@ impl OciRecord for ImageIndex {
 
     #[tactic(auto, using(oci_json_schema::proofs::Readers::refuses_others))]
     fn from_value_owned(alloc: Global, value: Value) -> Result<ImageIndex> {
-        let Some(found) = taken::<6>(
-            alloc,
-            value,
-            &[
-                "schemaVersion",
-                "mediaType",
-                "artifactType",
-                "manifests",
-                "subject",
-                "annotations",
-            ],
-        )?
+        let Some((schema_version, media_type, artifact_type, manifests, subject, annotations)) =
+            taken_6(
+                alloc,
+                value,
+                &[
+                    "schemaVersion",
+                    "mediaType",
+                    "artifactType",
+                    "manifests",
+                    "subject",
+                    "annotations",
+                ],
+            )?
         else {
             return Err(fault::refused(NAME, ""));
         };
-        let (schema_version, media_type, artifact_type, manifests, subject, annotations) = split_6(
-            found,
-        );
         let ((schema_version, media_type, artifact_type), (manifests, subject, annotations)) =
             all_2(
                 all_3(

@@ -4,7 +4,7 @@ ghost use Rattle.std.specs.Prelude.{◌≡◌, IfOk, IfErr};
 use oci_image_descriptor::Descriptor;
 use oci_json_schema::{
     OciMember, OciRecord, all_5, copy_optional, fault, optional, optional_owned, required,
-    required_owned, split_5, taken, write_optional, write_required,
+    required_owned, taken_5, write_optional, write_required,
 };
 use oci_text_base::{OciSpecError, Result, UninitializedFieldError};
 use oci_text_names::MediaType;
@@ -244,7 +244,7 @@ impl OciRecord for ArtifactManifest {
 
     #[tactic(auto, using(oci_json_schema::proofs::Readers::refuses_others))]
     fn from_value_owned(alloc: Global, value: Value) -> Result<ArtifactManifest> {
-        let Some(found) = taken::<5>(
+        let Some((media_type, artifact_type, blobs, subject, annotations)) = taken_5(
             alloc,
             value,
             &[
@@ -258,7 +258,6 @@ impl OciRecord for ArtifactManifest {
         else {
             return Err(fault::refused(NAME, ""));
         };
-        let (media_type, artifact_type, blobs, subject, annotations) = split_5(found);
         let (media_type, artifact_type, blobs, subject, annotations) = all_5(
             required_owned(alloc, media_type, NAME, "mediaType"),
             required_owned(alloc, artifact_type, NAME, "artifactType"),

@@ -7,7 +7,7 @@ pub use builder::ImageManifestBuilder;
 use oci_image_descriptor::Descriptor;
 use oci_json_schema::{
     OciMember, OciRecord, all_2, all_3, all_4, copy_optional, fault, optional, optional_owned,
-    required, required_owned, split_7, taken, write_optional, write_required,
+    required, required_owned, taken_7, write_optional, write_required,
 };
 use oci_text_base::{OciSpecError, Result};
 use oci_text_names::MediaType;
@@ -317,7 +317,9 @@ impl OciRecord for ImageManifest {
 
     #[tactic(auto, using(oci_json_schema::proofs::Readers::refuses_others))]
     fn from_value_owned(alloc: Global, value: Value) -> Result<ImageManifest> {
-        let Some(found) = taken::<7>(
+        let Some(
+            (schema_version, media_type, artifact_type, config, layers, subject, annotations),
+        ) = taken_7(
             alloc,
             value,
             &[
@@ -333,8 +335,6 @@ impl OciRecord for ImageManifest {
         else {
             return Err(fault::refused(NAME, ""));
         };
-        let (schema_version, media_type, artifact_type, config, layers, subject, annotations) =
-            split_7(found);
         let ((schema_version, media_type, artifact_type, config), (layers, subject, annotations)) =
             all_2(
                 all_4(

@@ -11,7 +11,7 @@ pub use oci_json_kinds::{
 };
 pub use oci_json_laws::laws;
 pub use oci_json_schema::{
-    Found, OciMember, OciRecord, copy_optional, fault, optional, optional_either,
-    optional_either_owned, optional_owned, required, required_owned, taken, write_optional,
-    write_required,
+    Found, OciMember, OciRecord, all_2, all_3, all_4, all_5, copy_optional, fault, optional,
+    optional_either, optional_either_owned, optional_owned, required, required_owned, taken,
+    taken_5, taken_6, taken_7, taken_8, taken_9, taken_10, write_optional, write_required,
 };

@@ -1,17 +1,16 @@
 -- Maps, entry by entry, in the order of the names.
-use Rattle.std.proofs.Common.{◌≡◌, ℕ, List, [], ◌∷◌, ◌++◌, map, Option, Some, None, String, Global, Ordering, Less, Greater, string_bytes, string_cmp, nat_cmp, refl, sym, subst, ap, ◌∙◌, append-nil}
+use Rattle.std.proofs.Common.{◌≡◌, List, [], ◌∷◌, ◌++◌, map, Some, None, String, Global, Less, Greater, string_bytes, string_cmp, nat_cmp, refl, subst, ap, ◌∙◌, append-nil}
 use Rattle.std.proofs.lemmas.Cmp.{nat_list_cmp_total}
 use Rattle.std.specs.Cmp.Lexicographic.{slice_cmp}
 use Rattle.std.specs.List.{AllByRecursion}
 use Rattle.std.specs.List.Sorted.{IsStrictlySortedBy}
 use Rattle.std.specs.Map.{keys_of}
-use Rattle.std.specs.Ordering.{match_ordering, ordering_reverse}
+use Rattle.std.specs.Ordering.{ordering_reverse}
 use Rattle.std.specs.BTreeMap.{insert_entry}
-use Rattle.serde_json.specs.Data.{Data, Members, no_members, member, put}
+use Rattle.serde_json.specs.Data.{Data, member, put}
 use Rattle.serde_json.specs.Find.{as_object}
 use Rattle.serde_json.specs.View.{view, members_view}
 use Rattle.serde_json.specs.declared.value.Value.{Value}
-use Rattle.oci_json_schema.specs.Plain as plain
 use Rattle.oci_json_schema.specs.Plain.{Plain, Entries, no_entries, entry, entries}
 use Rattle.oci_json_schema.specs.Shape as shape
 use Rattle.oci_json_schema.specs.Shape.{Shape}

@@ -1,6 +1,6 @@
 -- A record's reading, from those of its members.
 use Rattle.std.proofs.Common.{◌≡◌, List, ℕ, ℤ, pos, arith, Option, Some, None, is_some, Bool, cond, bytes_eq, refl, ◌∙◌, sym, subst, true, false, true≢false}
-use Rattle.std.specs.Prelude.{⊤, if◌then◌else◌, ◌≤ℤ◌, ◌<ℤ◌, ◌+ℤ◌}
+use Rattle.std.specs.Prelude.{⊤, ◌≤ℤ◌, ◌<ℤ◌, ◌+ℤ◌}
 use Rattle.std.proofs.lemmas.Int.{ints}
 use Rattle.std.proofs.lemmas.Slice.Eq.{bytes_eq-Decides}
 use Rattle.serde_json.specs.Data.{Data, null, boolean, number, string, array, object}

@@ -1,6 +1,6 @@
 -- Members that are taken out of an object.
-use Rattle.std.proofs.Common.{◌≡◌, ℕ, zero, suc, ◌+◌, ◌<◌, List, [], ◌∷◌, ◌++◌, length, get_or, take, map, Bool, true, false, cond, ◌&&◌, ◌||◌, Option, Some, None, option_map, String, Global, Bor, string_bytes, bytes_eq, nat_cmp, is_eq, refl, sym, subst, ap, ◌∙◌, true≢false, arith, Ordering, Less, Equal, Greater}
-use Rattle.std.specs.Prelude.{not, IsTrue}
+use Rattle.std.proofs.Common.{◌≡◌, ℕ, zero, suc, ◌+◌, ◌<◌, List, [], ◌∷◌, ◌++◌, length, get_or, take, map, Bool, true, false, cond, ◌&&◌, ◌||◌, Option, Some, option_map, Bor, string_bytes, bytes_eq, nat_cmp, is_eq, refl, sym, subst, ap, ◌∙◌, true≢false, arith}
+use Rattle.std.specs.Prelude.{not}
 use Rattle.std.specs.Cmp.Lexicographic.{slice_cmp}
 use Rattle.std.specs.Map.{lookup, remove_entry}
 use Rattle.std.specs.BTreeMap.{is_at}

@@ -1,7 +1,7 @@
 -- What a builder answers where a field that has to be set is not.
 use Rattle.std.specs.Prelude.{◌≡◌, ℕ, List, [], ◌∷◌, Bool, Option, Some, None, if◌then◌else◌}
 use Rattle.oci_text_base.specs.declared.error.OciSpecError.{OciSpecError}
-use Rattle.oci_text_base.specs.declared.error.OciSpecError.TheVariants.{Other, Io, SerDe, Builder, Memory}
+use Rattle.oci_text_base.specs.declared.error.OciSpecError.TheVariants.{Builder}
 
 -- the first name whose field is unset
 abbrev pub first_unset : List (List ℕ × Bool) → Option (List ℕ)

@@ -1,6 +1,6 @@
 -- Values are equal exactly if their plain trees are.
-use Rattle.std.proofs.Common.{◌≡◌, ℕ, ℤ, List, [], ◌∷◌, Bool, true, false, Option, Some, None, String, Vec, Global, bytes_eq, string_bytes, refl, sym, ap, ◌∙◌, eqb-true, eq-eqb}
-use Rattle.std.specs.Prelude.{◌↔◌, ◌==◌, ◌&&◌, pos, map, option_map}
+use Rattle.std.proofs.Common.{◌≡◌, ℕ, ℤ, List, [], ◌∷◌, Bool, true, false, Option, Some, None, String, Vec, Global, bytes_eq, string_bytes, refl, ap, eqb-true, eq-eqb}
+use Rattle.std.specs.Prelude.{◌↔◌, ◌==◌, ◌&&◌, map}
 use Rattle.std.specs.Bool.{beq}
 use Rattle.std.specs.Ordering.{int_eq}
 use Rattle.std.specs.BTreeMap.{BTreeMap}

@@ -1,5 +1,5 @@
 -- Which shapes make sense.
-use Rattle.std.specs.Prelude.{◌≡◌, ◌^◌, ◌-◌, ◌&&◌, ℕ, pos, negsuc, ⊤, IsTrue, int_le}
+use Rattle.std.specs.Prelude.{◌≡◌, ◌^◌, ◌-◌, ◌&&◌, pos, negsuc, ⊤, IsTrue, int_le}
 use Rattle.std.specs.List.{list_all}
 use Rattle.oci_text_base.specs.Capabilities.{is_capability_name}
 use Rattle.oci_text_base.specs.Names.{no_text_twice}

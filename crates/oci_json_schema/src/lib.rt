@@ -9,7 +9,7 @@ pub mod member;
 pub mod number;
 pub mod owned;
 pub mod record;
-pub mod split;
+pub mod take;
 pub mod text;
 pub mod truth;
 
@@ -17,6 +17,6 @@ pub use all::{all_2, all_3, all_4, all_5};
 pub use member::{
     copy_optional, optional, optional_either, required, write_optional, write_required,
 };
-pub use owned::{Found, optional_either_owned, optional_owned, required_owned, taken};
+pub use owned::{Found, optional_either_owned, optional_owned, required_owned};
 pub use record::{OciMember, OciRecord};
-pub use split::{split_5, split_6, split_7, split_8};
+pub use take::{taken, taken_5, taken_6, taken_7, taken_8, taken_9, taken_10};

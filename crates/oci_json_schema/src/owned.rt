@@ -1,13 +1,11 @@
 //! Members that are moved out of their object.
-ghost use Rattle.std.specs.Prelude.{◌≡◌, Some, None, IfOk, IfErr, IsTrue, map, option_map, MatchOption, true, false, bytes_eq, string_bytes, length};
+ghost use Rattle.std.specs.Prelude.{◌≡◌, Some, None, IfOk, IfErr, option_map, string_bytes};
 ghost use Rattle.serde_json.specs.View.{view, items_view, members_view};
-ghost use Rattle.serde_json.specs.Find.{get, get_member, as_str, as_array, as_object};
-ghost use Rattle.oci_text_base.specs.Names.{no_text_twice};
+ghost use Rattle.serde_json.specs.Find.{get, as_str, as_array, as_object};
 ghost use Rattle.oci_text_base.specs.Refused.{IsSchema, IsMemoryOrSchema};
 ghost use Rattle.oci_json_schema.specs.Shape as presence;
-ghost use Rattle.oci_json_schema.specs.Means.{is_object, Means, MeansMember, MeansEither};
+ghost use Rattle.oci_json_schema.specs.Means.{Means, MeansMember, MeansEither};
 ghost use Rattle.oci_json_schema.specs.Refused.{IsMemberRefused, RefusesRecords};
-ghost use Rattle.oci_json_schema.specs.Found.{AllFound};
 ghost use Rattle.oci_json_schema.specs.Types.{given, perhaps};
 
 use crate::fault::{placed, refused};
@@ -162,55 +160,5 @@ pub fn into_members(value: Value) -> Option<Map<String, Value>>
     match value {
         Value::Object(members) => Some(members),
         _ => None,
-    }
-}
-
-/// Takes what stands under a name.
-#[tactic(auto, using(crate::proofs::Removed::found, crate::proofs::Removed::others))]
-fn take_member(members: &mut Map<String, Value>, name: &str) -> Option<Value>
-    ensures found { option_map view result ≡ get_member name.now (members_view members.old.entries) }
-    ensures others { (q : _) → bytes_eq q name.now ≡ false → get_member q (members_view members.new.entries) ≡ get_member q (members_view members.old.entries) }
-{
-    members.remove(name)
-}
-
-fn take_members(
-    alloc: Global,
-    mut members: Map<String, Value>,
-    names: &[&'static str],
-) -> Result<Vec<Found>>
-    requires { IsTrue (no_text_twice (map (λ n. n.now) names.now)) }
-    ensures ok { IfOk result (λ v. map (λ f. option_map view f.value) v.items ≡ map (λ n. get_member n.now (members_view members.entries)) names.now) }
-    ensures err { IfErr result (λ e. e ≡ OciSpecError.Memory) }
-{
-    let mut found = Vec::with_capacity(alloc, names.len())?;
-    for name in names {
-        let value = take_member(&mut members, name);
-        found.push(Found { value })?;
-    }
-    Ok(found)
-}
-
-/// What stands under the names in an object, which is taken apart; nothing if it is no object.
-pub fn taken<const N: usize>(
-    alloc: Global,
-    value: Value,
-    names: &[&'static str],
-) -> Result<Option<[Found; N]>>
-    requires distinct { IsTrue (no_text_twice (map (λ n. n.now) names.now)) }
-    requires count { length names.now ≡ N }
-    ensures ok { IfOk result (λ o. MatchOption o (is_object (view value) ≡ false)
-        (λ xs. (is_object (view value) ≡ true) × AllFound (map (λ n. n.now) names.now) 0 xs (view value))) }
-    ensures err { IfErr result (λ e. e ≡ OciSpecError.Memory) }
-{
-    match value {
-        Value::Object(members) => {
-            let found = take_members(alloc, members, names)?;
-            match <[Found; N]>::try_from(found) {
-                Ok(found) => Ok(Some(found)),
-                Err(_) => unreachable!(),
-            }
-        }
-        _ => Ok(None),
     }
 }

@@ -9,7 +9,7 @@ use crate::limits::limit;
 use crate::names::{Named, default_name, repository_text};
 use crate::texts::{copied, lent, mark_if, owned, some_text, tag_or_latest, text_or_empty};
 use oci_json_schema::{
-    OciRecord, all_5, fault, optional, optional_owned, required, required_owned, split_5, taken,
+    OciRecord, all_5, fault, optional, optional_owned, required, required_owned, taken_5,
     write_optional, write_required,
 };
 use oci_reference_scan::{ParseError, parts};
@@ -365,7 +365,7 @@ impl OciRecord for Reference {
 
     #[tactic(auto, using(oci_json_schema::proofs::Readers::refuses_others))]
     fn from_value_owned(alloc: Global, value: Value) -> oci_text_base::Result<Reference> {
-        let Some(found) = taken::<5>(
+        let Some((registry, mirror_registry, repository, tag, digest)) = taken_5(
             alloc,
             value,
             &["registry", "mirror_registry", "repository", "tag", "digest"],
@@ -373,7 +373,6 @@ impl OciRecord for Reference {
         else {
             return Err(fault::refused(NAME, ""));
         };
-        let (registry, mirror_registry, repository, tag, digest) = split_5(found);
         let (registry, mirror_registry, repository, tag, digest) = all_5(
             required_owned(alloc, registry, NAME, "registry"),
             optional_owned(alloc, mirror_registry, NAME, "mirror_registry"),

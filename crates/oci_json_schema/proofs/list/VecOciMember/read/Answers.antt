@@ -1,8 +1,6 @@
-use Rattle.std.proofs.Common.{◌≡◌, ◌+◌, ◌∷◌, [], ◌++◌, take, map, sym, subst, ap, ◌∙◌}
+use Rattle.std.proofs.Common.{◌≡◌, ◌∷◌, [], ◌++◌, take}
 use Rattle.std.proofs.lemmas.List.{take_more}
-use Rattle.serde_json.specs.View.{items_view}
-use Rattle.oci_json_schema.specs.Means.{Means, EachMeans}
-use Rattle.oci_json_schema.specs.Plain.{plains}
+use Rattle.oci_json_schema.specs.Means.{Means}
 use Rattle.oci_json_schema.proofs.Lists.{exits, not_array, each_more, list_refused}
 use Rattle.oci_json_schema.proofs.list.VecOciMember.read.Goals as goal
 

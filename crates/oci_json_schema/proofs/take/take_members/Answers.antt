@@ -1,7 +1,5 @@
-use Rattle.std.proofs.Common.{◌≡◌, ◌∷◌, [], ◌++◌, subst, sym, take, ◌+◌}
-use Rattle.serde_json.specs.View.{members_view}
-use Rattle.oci_json_schema.proofs.Removed.{Taken, taken_more}
-use Rattle.oci_json_schema.proofs.owned.take_members.Goals as goal
+use Rattle.oci_json_schema.proofs.Removed.{taken_more}
+use Rattle.oci_json_schema.proofs.take.take_members.Goals as goal
 
 pub loop-name-preserved : goal.loop-name-preserved
 loop-name-preserved c =

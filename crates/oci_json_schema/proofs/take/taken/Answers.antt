@@ -1,11 +1,11 @@
-use Rattle.std.proofs.Common.{◌≡◌, Bool, true, ◌∙◌, sym, ap, subst, map, option_map}
-use Rattle.serde_json.specs.Data.{Data, object}
+use Rattle.std.proofs.Common.{◌≡◌, ◌∙◌, sym, ap, subst, map, option_map}
+use Rattle.serde_json.specs.Data.{object}
 use Rattle.serde_json.specs.View.{view, members_view}
 use Rattle.serde_json.proofs.Views.{view-Object}
 use Rattle.oci_json_schema.specs.Means.{is_object}
 use Rattle.oci_json_schema.specs.Found.{AllFound}
 use Rattle.oci_json_schema.proofs.FoundAll.{all_found}
-use Rattle.oci_json_schema.proofs.owned.taken.Goals as goal
+use Rattle.oci_json_schema.proofs.take.taken.Goals as goal
 
 pub returns-in-Ok-clause-ok : goal.returns-in-Ok-clause-ok
 returns-in-Ok-clause-ok g c =
