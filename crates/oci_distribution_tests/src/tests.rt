@@ -1,14 +1,17 @@
+use oci_json_engines::to_string;
 use oci_json_schema::OciRecord;
 use oci_text_base::{OciSpecError, Result, SerDeError};
 use serde_json::Value;
 use std::alloc::Global;
 use std::fmt::Debug;
+use std::io::ErrorKind;
 use std::process::Abort;
 
 mod built;
 mod changed;
 mod details;
 mod documents;
+mod engines;
 mod named;
 mod rows;
 
@@ -33,21 +36,26 @@ fn document<T: OciRecord>(rt: &impl Abort, alloc: Global, text: &str, owned: boo
 }
 
 /// The compact text of a document.
-fn written<T: OciRecord>(rt: &impl Abort, alloc: Global, made: Result<T>) -> Result<String> {
-    let value = made?.to_value(alloc)?;
-    Ok(value.to_string(alloc).expect(rt, "memory"))
+fn written<T: OciRecord>(alloc: Global, made: Result<T>) -> Result<String> {
+    to_string(&made?, alloc)
 }
 
-/// Why a call was refused: a record and its member, or the field that a builder lacks.
+/// How a call was refused.
 #[derive(Clone, Copy, Debug, PartialEq, Eq)]
 enum Fault {
+    Io(ErrorKind),
+    Json,
+    /// The record, and its member.
     Schema(&'static str, &'static str),
+    /// The field that a builder lacks.
     Unset(&'static str),
     Other,
 }
 
 fn fault_of(error: &OciSpecError) -> Fault {
     match error {
+        OciSpecError::Io(fault) => Fault::Io(fault.kind()),
+        OciSpecError::SerDe(SerDeError::Json(_)) => Fault::Json,
         OciSpecError::SerDe(SerDeError::Schema(fault)) => Fault::Schema(fault.owner, fault.member),
         OciSpecError::Builder(fault) => Fault::Unset(fault.field_name()),
         _ => Fault::Other,

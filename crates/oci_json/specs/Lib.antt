@@ -1,11 +1,11 @@
+pub mod Defaults
+pub mod Depths
+pub mod Details
+pub mod Examples
+pub mod Readable
 pub use Rattle.oci_json_engines.specs.Engines
 pub use Rattle.oci_json_kinds.specs.DefaultMembers
 pub use Rattle.oci_json_kinds.specs.Keys
-pub use Rattle.oci_json_laws.specs.Defaults
-pub use Rattle.oci_json_laws.specs.Depths
-pub use Rattle.oci_json_laws.specs.Details
-pub use Rattle.oci_json_laws.specs.Examples
-pub use Rattle.oci_json_laws.specs.Readable
 pub use Rattle.oci_json_schema.specs.Built
 pub use Rattle.oci_json_schema.specs.Erased
 pub use Rattle.oci_json_schema.specs.Fits

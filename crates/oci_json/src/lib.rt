@@ -1,6 +1,8 @@
 //! The documents of the specifications as JSON: what a document type can do, its members, reading, writing, and the laws.
 #![tactic(auto)]
 
+pub mod laws;
+
 pub use oci_json_engines::{
     from_file, from_reader, from_slice, normalize, to_file, to_file_pretty, to_string,
     to_string_pretty, to_writer, to_writer_pretty,
@@ -9,7 +11,6 @@ pub use oci_json_kinds::{
     Detail, Keys, OciDefault, OciKind, copy_optional_as, defaulted, nullable, optional_as,
     optional_as_owned, unless_empty, write_nullable, write_optional_as, write_unless_empty,
 };
-pub use oci_json_laws::laws;
 pub use oci_json_schema::{
     Found, OciMember, OciRecord, all_2, all_3, all_4, all_5, copy_optional, fault, optional,
     optional_either, optional_either_owned, optional_owned, required, required_owned, taken,

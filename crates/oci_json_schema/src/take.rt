@@ -39,6 +39,7 @@ fn take_members(
 }
 
 /// What stands under the names in an object, which is taken apart; nothing if it is no object.
+/// `Memory` where an allocation is refused.
 pub fn taken<const N: usize>(
     alloc: Global,
     value: Value,
@@ -63,6 +64,7 @@ pub fn taken<const N: usize>(
 }
 
 /// What stands under five names in an object, which is taken apart; nothing if it is no object.
+/// `Memory` where an allocation is refused.
 #[tactic(auto, using(crate::proofs::FoundAll::stood_at))]
 pub fn taken_5(
     alloc: Global,
@@ -82,6 +84,7 @@ pub fn taken_5(
 }
 
 /// What stands under six names in an object, which is taken apart; nothing if it is no object.
+/// `Memory` where an allocation is refused.
 #[tactic(auto, using(crate::proofs::FoundAll::stood_at))]
 pub fn taken_6(
     alloc: Global,
@@ -101,6 +104,7 @@ pub fn taken_6(
 }
 
 /// What stands under seven names in an object, which is taken apart; nothing if it is no object.
+/// `Memory` where an allocation is refused.
 #[tactic(auto, using(crate::proofs::FoundAll::stood_at))]
 pub fn taken_7(
     alloc: Global,
@@ -120,6 +124,7 @@ pub fn taken_7(
 }
 
 /// What stands under eight names in an object, which is taken apart; nothing if it is no object.
+/// `Memory` where an allocation is refused.
 #[tactic(auto, using(crate::proofs::FoundAll::stood_at))]
 pub fn taken_8(
     alloc: Global,
@@ -139,6 +144,7 @@ pub fn taken_8(
 }
 
 /// What stands under nine names in an object, which is taken apart; nothing if it is no object.
+/// `Memory` where an allocation is refused.
 #[tactic(auto, using(crate::proofs::FoundAll::stood_at))]
 pub fn taken_9(
     alloc: Global,
@@ -172,6 +178,7 @@ pub fn taken_9(
 }
 
 /// What stands under ten names in an object, which is taken apart; nothing if it is no object.
+/// `Memory` where an allocation is refused.
 #[tactic(auto, using(crate::proofs::FoundAll::stood_at))]
 pub fn taken_10(
     alloc: Global,

@@ -9,3 +9,6 @@ pub use oci_text_base::{
 };
 pub use oci_text_digest::{Digest, DigestAlgorithm, Sha256Digest, is_digest};
 pub use oci_text_names::{Arch, ErrorCode, JsonName, MediaType, Os, ToDockerV2S2};
+
+#[cfg(test)]
+mod tests;

@@ -133,7 +133,7 @@ fn described_repositories(
 fn check_repositories(rt: &impl Abort, alloc: Global, names: &[&str], line: &str, compact: &str) {
     let made = described_repositories(rt, alloc, repositories(rt, alloc, names));
     check(rt, made, Ok(line), line);
-    let text = written(rt, alloc, repositories(rt, alloc, names));
+    let text = written(alloc, repositories(rt, alloc, names));
     check(rt, text, Ok(compact), line);
 }
 

@@ -32,7 +32,7 @@ fn with_both(rt: &impl Abort, alloc: Global, name: &str, tags: &[&str]) -> TagLi
 }
 
 fn check_changed<T: OciRecord>(rt: &impl Abort, alloc: Global, changed: T, expected: &str) {
-    check(rt, written(rt, alloc, Ok(changed)), Ok(expected), expected);
+    check(rt, written(alloc, Ok(changed)), Ok(expected), expected);
 }
 
 /// A setter changes its field alone.

@@ -72,7 +72,7 @@ fn check_detail(rt: &impl Abort, alloc: Global, text: &str, expected: &str) {
 fn details(rt: HostRuntime) {
     let alloc = rt.alloc();
     for (detail, compact, again) in &WRITTEN {
-        let made = written(&rt, alloc, info(&rt, alloc, detail));
+        let made = written(alloc, info(&rt, alloc, detail));
         check(&rt, made, Ok(*compact), detail);
         check_detail(&rt, alloc, compact, again);
     }
@@ -99,9 +99,9 @@ fn unreadable_details(rt: HostRuntime) {
     let alloc = rt.alloc();
     let place = Fault::Schema("ErrorInfo", "detail");
     for detail in &UNREADABLE {
-        let alone = written(&rt, alloc, info(&rt, alloc, detail));
+        let alone = written(alloc, info(&rt, alloc, detail));
         check(&rt, alone, Err(place), detail);
-        let within = written(&rt, alloc, reply(&rt, alloc, detail));
+        let within = written(alloc, reply(&rt, alloc, detail));
         check(&rt, within, Err(place), detail);
     }
 }

@@ -18,7 +18,7 @@ fn check_one<T: OciRecord + Debug>(rt: &impl Abort, alloc: Global, text: &str, c
 fn check_compact<T: OciRecord>(rt: &impl Abort, alloc: Global, text: &str, compact: &str) {
     for owned in [false, true] {
         let document = read::<T>(rt, alloc, text, owned);
-        check(rt, written(rt, alloc, document), Ok(compact), text);
+        check(rt, written(alloc, document), Ok(compact), text);
     }
 }
 
@@ -39,7 +39,7 @@ fn check_refused<T: OciRecord>(
         for owned in [false, true] {
             let document = read::<T>(rt, alloc, text, owned);
             let place = Fault::Schema(owner, member);
-            check(rt, written(rt, alloc, document), Err(place), text);
+            check(rt, written(alloc, document), Err(place), text);
         }
     }
 }

@@ -1,5 +1,4 @@
-use super::check_is;
-use super::reading::check_line;
+use super::{check, check_is};
 use oci_image::annotations::{
     ANNOTATION_AUTHORS, ANNOTATION_BASE_IMAGE_DIGEST, ANNOTATION_BASE_IMAGE_NAME,
     ANNOTATION_CREATED, ANNOTATION_DESCRIPTION, ANNOTATION_DOCUMENTATION, ANNOTATION_LICENSES,
@@ -47,5 +46,5 @@ fn versions(rt: HostRuntime) {
     check_is(&rt, &VERSION, &"1.0.1");
     check_is(&rt, &VERSION_DEV, &"");
     check_is(&rt, &SCHEMA_VERSION, &2);
-    check_line(&rt, version(rt.alloc()), "1.0.1");
+    check(&rt, version(rt.alloc()), "1.0.1");
 }

@@ -1,151 +1,191 @@
-use super::reading::{Refusal, check_document, check_read, check_refused, owned};
-use super::samples::{INDEX, INDEX_FILE, INDEX_PRETTY};
-use oci_image::ImageIndex;
-
-/// Texts, and the record and the member that refuse them.
-static REFUSED: [Refusal; 25] = [
-    ("[]", "ImageIndex", ""),
-    ("null", "ImageIndex", ""),
-    ("{}", "ImageIndex", "schemaVersion"),
-    (
-        r#"{"schemaVersion":null,"manifests":[]}"#,
-        "ImageIndex",
-        "schemaVersion",
-    ),
-    (
-        r#"{"schemaVersion":"2","manifests":5}"#,
-        "ImageIndex",
-        "schemaVersion",
-    ),
-    (
-        r#"{"schemaVersion":-1,"manifests":[]}"#,
-        "ImageIndex",
-        "schemaVersion",
-    ),
-    (
-        r#"{"schemaVersion":1.5,"manifests":[]}"#,
-        "ImageIndex",
-        "schemaVersion",
-    ),
-    (
-        r#"{"schemaVersion":4294967296,"manifests":[]}"#,
-        "ImageIndex",
-        "schemaVersion",
-    ),
-    (
-        r#"{"schemaVersion":2,"mediaType":[],"artifactType":5}"#,
-        "ImageIndex",
-        "mediaType",
-    ),
-    (
-        r#"{"schemaVersion":2,"artifactType":5,"manifests":5}"#,
-        "ImageIndex",
-        "artifactType",
-    ),
-    (r#"{"schemaVersion":2}"#, "ImageIndex", "manifests"),
-    (
-        r#"{"schemaVersion":2,"manifests":null,"subject":5}"#,
-        "ImageIndex",
-        "manifests",
-    ),
-    (
-        r#"{"schemaVersion":2,"manifests":"m"}"#,
-        "ImageIndex",
-        "manifests",
-    ),
-    (
-        r#"{"schemaVersion":2,"manifests":[5]}"#,
-        "ImageIndex",
-        "manifests",
-    ),
-    (
-        r#"{"schemaVersion":2,"manifests":[{"mediaType":"m","digest":"foo:bar","size":1},[]],"subject":{}}"#,
-        "ImageIndex",
-        "manifests",
-    ),
-    (
-        r#"{"schemaVersion":2,"manifests":[{}]}"#,
-        "Descriptor",
-        "mediaType",
-    ),
-    (
-        r#"{"schemaVersion":2,"manifests":[{"mediaType":"m","digest":"../blah:this-is-an-attack","size":769}]}"#,
-        "Descriptor",
-        "digest",
-    ),
-    (
-        r#"{"schemaVersion":2,"manifests":[{"mediaType":"m","digest":"foo:bar","size":1},{"mediaType":"m","digest":"foo:bar","size":1,"platform":5}],"annotations":5}"#,
-        "Descriptor",
-        "platform",
-    ),
-    (
-        r#"{"schemaVersion":2,"manifests":[{"mediaType":"m","digest":"foo:bar","size":1,"platform":{"os":"linux"}}]}"#,
-        "Platform",
-        "architecture",
-    ),
-    (
-        r#"{"schemaVersion":2,"manifests":[{"mediaType":"m","digest":"foo:bar","size":1,"platform":{"architecture":"amd64","os":"windows","os.version":"1","os_version":"1"}}]}"#,
-        "Platform",
-        "os.version",
-    ),
-    (
-        r#"{"schemaVersion":2,"manifests":[{"mediaType":"m","digest":"foo:bar","size":1,"platform":{"architecture":"amd64","os":"windows","os_features":{}}}]}"#,
-        "Platform",
-        "os.features",
-    ),
-    (
-        r#"{"schemaVersion":2,"manifests":[],"subject":5,"annotations":5}"#,
-        "ImageIndex",
-        "subject",
-    ),
-    (
-        r#"{"schemaVersion":2,"manifests":[],"subject":{"mediaType":5},"annotations":5}"#,
-        "Descriptor",
-        "mediaType",
-    ),
-    (
-        r#"{"schemaVersion":2,"manifests":[],"annotations":5}"#,
-        "ImageIndex",
-        "annotations",
-    ),
-    (
-        r#"{"schemaVersion":2,"manifests":[],"annotations":{"a":"b","b":{}}}"#,
-        "ImageIndex",
-        "annotations",
-    ),
-];
-
-/// Texts, and what is written of them.
-static READ: [(&str, &str); 7] = [
-    (INDEX_FILE, INDEX),
-    (INDEX_PRETTY, INDEX),
-    (INDEX, INDEX),
-    (WHOLE, WHOLE),
-    (OLD_NAMES, NEW_NAMES),
-    (NEW_NAMES, NEW_NAMES),
-    (
-        r#"{"schemaVersion":4294967295,"manifests":[],"mediaType":null,"artifactType":null,"subject":null,"annotations":null,"layers":5}"#,
-        r#"{"manifests":[],"schemaVersion":4294967295}"#,
-    ),
-];
-
-/// An index with the older names of a platform's members.
-const OLD_NAMES: &str =
-    r#"{"schemaVersion":2,"manifests":[{"mediaType":"m","digest":"foo:bar","size":1,"platform":{"architecture":"amd64","os":"windows","os_version":"10.0","os_features":["win32k"]}}]}"#;
-
-/// The same index with the specification's names.
-const NEW_NAMES: &str =
-    r#"{"manifests":[{"digest":"foo:bar","mediaType":"m","platform":{"architecture":"amd64","os":"windows","os.features":["win32k"],"os.version":"10.0"},"size":1}],"schemaVersion":2}"#;
+use super::made::{content, contents, inner, lines, map, read, shown};
+use super::{check, check_is, check_made, check_unequal, check_unset};
+use oci_image::{Descriptor, ImageIndex, ImageIndexBuilder, MediaType};
+use oci_json_engines::to_string;
+use oci_text_base::Result;
+use std::alloc::Global;
+use std::process::Abort;
 
 /// All members.
 const WHOLE: &str =
-    r#"{"annotations":{"a":"1","b":"2"},"artifactType":"application/vnd.oci.empty.v1+json","manifests":[{"digest":"m:1","mediaType":"application/vnd.oci.descriptor","size":1},{"digest":"m:2","mediaType":"application/vnd.oci.descriptor","size":1}],"mediaType":"application/vnd.oci.image.index.v1+json","schemaVersion":3,"subject":{"digest":"s:1","mediaType":"application/vnd.oci.descriptor","size":1}}"#;
+    r#"{"annotations":{"a":"1"},"artifactType":"t","manifests":[{"digest":"m:1","mediaType":"application/vnd.oci.empty.v1+json","size":1},{"digest":"m:2","mediaType":"application/vnd.oci.empty.v1+json","size":1}],"mediaType":"application/vnd.oci.image.index.v1+json","schemaVersion":2,"subject":{"digest":"s:1","mediaType":"application/vnd.oci.empty.v1+json","size":1}}"#;
 
-/// Each text is read in one way, or refused at one place.
+/// The same with one member changed, in the order of the setters below.
+static CHANGED: [&str; 6] = [
+    r#"{"annotations":{"a":"1"},"artifactType":"t","manifests":[{"digest":"m:1","mediaType":"application/vnd.oci.empty.v1+json","size":1},{"digest":"m:2","mediaType":"application/vnd.oci.empty.v1+json","size":1}],"mediaType":"application/vnd.oci.image.index.v1+json","schemaVersion":4294967295,"subject":{"digest":"s:1","mediaType":"application/vnd.oci.empty.v1+json","size":1}}"#,
+    r#"{"annotations":{"a":"1"},"artifactType":"t","manifests":[{"digest":"m:1","mediaType":"application/vnd.oci.empty.v1+json","size":1},{"digest":"m:2","mediaType":"application/vnd.oci.empty.v1+json","size":1}],"mediaType":"application/vnd.oci.image.manifest.v1+json","schemaVersion":2,"subject":{"digest":"s:1","mediaType":"application/vnd.oci.empty.v1+json","size":1}}"#,
+    r#"{"annotations":{"a":"1"},"manifests":[{"digest":"m:1","mediaType":"application/vnd.oci.empty.v1+json","size":1},{"digest":"m:2","mediaType":"application/vnd.oci.empty.v1+json","size":1}],"mediaType":"application/vnd.oci.image.index.v1+json","schemaVersion":2,"subject":{"digest":"s:1","mediaType":"application/vnd.oci.empty.v1+json","size":1}}"#,
+    r#"{"annotations":{"a":"1"},"artifactType":"t","manifests":[{"digest":"x:1","mediaType":"application/vnd.oci.empty.v1+json","size":1}],"mediaType":"application/vnd.oci.image.index.v1+json","schemaVersion":2,"subject":{"digest":"s:1","mediaType":"application/vnd.oci.empty.v1+json","size":1}}"#,
+    r#"{"annotations":{"a":"1"},"artifactType":"t","manifests":[{"digest":"m:1","mediaType":"application/vnd.oci.empty.v1+json","size":1},{"digest":"m:2","mediaType":"application/vnd.oci.empty.v1+json","size":1}],"mediaType":"application/vnd.oci.image.index.v1+json","schemaVersion":2,"subject":{"digest":"x:1","mediaType":"application/vnd.oci.empty.v1+json","size":1}}"#,
+    r#"{"annotations":{"b":"1"},"artifactType":"t","manifests":[{"digest":"m:1","mediaType":"application/vnd.oci.empty.v1+json","size":1},{"digest":"m:2","mediaType":"application/vnd.oci.empty.v1+json","size":1}],"mediaType":"application/vnd.oci.image.index.v1+json","schemaVersion":2,"subject":{"digest":"s:1","mediaType":"application/vnd.oci.empty.v1+json","size":1}}"#,
+];
+
+/// The document of all members.
+fn whole(rt: &impl Abort, alloc: Global) -> ImageIndex {
+    read(rt, alloc, WHOLE)
+}
+
+fn with_schema_version(rt: &impl Abort, alloc: Global) -> Result<String> {
+    let mut document = whole(rt, alloc);
+    to_string(document.set_schema_version(u32::MAX), alloc)
+}
+
+fn with_media_type(rt: &impl Abort, alloc: Global) -> Result<String> {
+    let mut document = whole(rt, alloc);
+    to_string(
+        document.set_media_type(Some(MediaType::ImageManifest)),
+        alloc,
+    )
+}
+
+fn with_artifact_type(rt: &impl Abort, alloc: Global) -> Result<String> {
+    let mut document = whole(rt, alloc);
+    to_string(document.set_artifact_type(None), alloc)
+}
+
+fn with_manifests(rt: &impl Abort, alloc: Global) -> Result<String> {
+    let manifests = contents(rt, alloc, &["x:1"]);
+    let mut document = whole(rt, alloc);
+    to_string(document.set_manifests(manifests), alloc)
+}
+
+fn with_subject(rt: &impl Abort, alloc: Global) -> Result<String> {
+    let subject = content(rt, alloc, "x:1");
+    let mut document = whole(rt, alloc);
+    to_string(document.set_subject(Some(subject)), alloc)
+}
+
+fn with_annotations(rt: &impl Abort, alloc: Global) -> Result<String> {
+    let annotations = map(rt, alloc, "b", "1");
+    let mut document = whole(rt, alloc);
+    to_string(document.set_annotations(Some(annotations)), alloc)
+}
+
+/// A setter changes its member alone, and answers the document.
 #[test]
-fn texts(rt: HostRuntime) {
-    check_refused::<ImageIndex>(&rt, rt.alloc(), &REFUSED);
-    check_read::<ImageIndex>(&rt, rt.alloc(), &READ);
-    let read = owned::<ImageIndex>(&rt, rt.alloc(), OLD_NAMES);
-    check_document(&rt, rt.alloc(), read, NEW_NAMES);
+fn setters(rt: HostRuntime) {
+    let alloc = rt.alloc();
+    let [
+        schema_version,
+        media_type,
+        artifact_type,
+        manifests,
+        subject,
+        annotations,
+    ] = CHANGED;
+    check(&rt, with_schema_version(&rt, alloc), schema_version);
+    check(&rt, with_media_type(&rt, alloc), media_type);
+    check(&rt, with_artifact_type(&rt, alloc), artifact_type);
+    check(&rt, with_manifests(&rt, alloc), manifests);
+    check(&rt, with_subject(&rt, alloc), subject);
+    check(&rt, with_annotations(&rt, alloc), annotations);
+}
+
+/// Documents that differ in one member are unequal.
+#[test]
+fn equality(rt: HostRuntime) {
+    check_unequal::<ImageIndex>(&rt, rt.alloc(), WHOLE, &CHANGED);
+}
+
+/// The getters lend what was read.
+#[test]
+fn getters(rt: HostRuntime) {
+    let alloc = rt.alloc();
+    let document = whole(&rt, alloc);
+    check_is(&rt, &document.schema_version(), &2);
+    check(&rt, shown(alloc, document.media_type()), "Some(ImageIndex)");
+    check(
+        &rt,
+        shown(alloc, document.artifact_type()),
+        r#"Some(Other("t"))"#,
+    );
+    check(
+        &rt,
+        lines(alloc, document.manifests().as_slice()),
+        MANIFESTS,
+    );
+    check(
+        &rt,
+        inner(alloc, document.subject()),
+        r#"{"digest":"s:1","mediaType":"application/vnd.oci.empty.v1+json","size":1}"#,
+    );
+    check(
+        &rt,
+        shown(alloc, document.annotations()),
+        r#"Some({"a": "1"})"#,
+    );
+}
+
+fn copied(rt: &impl Abort, alloc: Global) -> ImageIndex {
+    whole(rt, alloc).clone(alloc).expect(rt, "memory")
+}
+
+/// A clone is an equal document.
+#[test]
+fn clones(rt: HostRuntime) {
+    let alloc = rt.alloc();
+    check_is(&rt, &copied(&rt, alloc), &whole(&rt, alloc));
+    check_made(&rt, alloc, Ok(copied(&rt, alloc)), WHOLE);
+}
+
+fn manifests(rt: &impl Abort, alloc: Global) -> Vec<Descriptor> {
+    contents(rt, alloc, &["m:1", "m:2"])
+}
+
+/// What a builder makes of all members.
+fn built(rt: &impl Abort, alloc: Global) -> Result<ImageIndex> {
+    let artifact_type = MediaType::from_text(alloc, "t").expect(rt, "memory");
+    let manifests = manifests(rt, alloc);
+    let subject = content(rt, alloc, "s:1");
+    let annotations = map(rt, alloc, "a", "1");
+    ImageIndexBuilder::default()
+        .schema_version(2)
+        .media_type(MediaType::ImageIndex)
+        .artifact_type(artifact_type)
+        .manifests(manifests)
+        .subject(subject)
+        .annotations(annotations)
+        .build(alloc)
+}
+
+/// What is set is in the document.
+#[test]
+fn builders(rt: HostRuntime) {
+    let alloc = rt.alloc();
+    check_made(&rt, alloc, built(&rt, alloc), WHOLE);
+}
+
+/// The manifests, a line each.
+const MANIFESTS: &str = r#"{"digest":"m:1","mediaType":"application/vnd.oci.empty.v1+json","size":1}
+{"digest":"m:2","mediaType":"application/vnd.oci.empty.v1+json","size":1}
+"#;
+
+/// The first member that has to be set and is not is named; the others may be absent.
+#[test]
+fn unset(rt: HostRuntime) {
+    let alloc = rt.alloc();
+    let built = ImageIndexBuilder::default().build(alloc);
+    check_unset(&rt, built, "schema_version");
+    let built = ImageIndexBuilder::default()
+        .manifests(Vec::new(alloc))
+        .build(alloc);
+    check_unset(&rt, built, "schema_version");
+    let built = ImageIndexBuilder::default().schema_version(3).build(alloc);
+    check_unset(&rt, built, "manifests");
+    let built = ImageIndexBuilder::default()
+        .schema_version(3)
+        .manifests(Vec::new(alloc))
+        .build(alloc);
+    check_made(&rt, alloc, built, r#"{"manifests":[],"schemaVersion":3}"#);
+}
+
+/// The default document.
+#[test]
+fn defaults(rt: HostRuntime) {
+    check_made(
+        &rt,
+        rt.alloc(),
+        ImageIndex::try_default(rt.alloc()),
+        r#"{"manifests":[],"schemaVersion":2}"#,
+    );
 }

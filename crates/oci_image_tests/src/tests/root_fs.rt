@@ -1,45 +1,112 @@
-use super::reading::{Refusal, check_read, check_refused};
-use oci_image::RootFs;
+use super::made::{read, string, strings};
+use super::{check_document, check_is, check_made, check_shown, check_unequal};
+use oci_image::{RootFs, RootFsBuilder};
+use oci_text_base::Result;
+use std::alloc::Global;
+use std::process::Abort;
 
-/// Texts, and the record and the member that refuse them.
-static REFUSED: [Refusal; 12] = [
-    ("[]", "RootFs", ""),
-    (r#""layers""#, "RootFs", ""),
-    ("null", "RootFs", ""),
-    ("{}", "RootFs", "type"),
-    (r#"{"diff_ids":[]}"#, "RootFs", "type"),
-    (r#"{"type":null,"diff_ids":5}"#, "RootFs", "type"),
-    (r#"{"type":5}"#, "RootFs", "type"),
-    (r#"{"typ":"layers","diff_ids":[]}"#, "RootFs", "type"),
-    (r#"{"type":"layers"}"#, "RootFs", "diff_ids"),
-    (r#"{"type":"layers","diff_ids":null}"#, "RootFs", "diff_ids"),
-    (r#"{"type":"layers","diff_ids":{}}"#, "RootFs", "diff_ids"),
-    (
-        r#"{"type":"layers","diff_ids":["a",5]}"#,
-        "RootFs",
-        "diff_ids",
-    ),
+/// All members.
+const WHOLE: &str = r#"{"diff_ids":["sha256:abc123"],"type":"others"}"#;
+
+/// The same with one member changed, in the order of the setters below.
+static CHANGED: [&str; 2] = [
+    r#"{"diff_ids":["sha256:abc123"],"type":"layers"}"#,
+    r#"{"diff_ids":["b","a"],"type":"others"}"#,
 ];
 
-/// Texts, and what is written of them.
-static READ: [(&str, &str); 3] = [
-    (
-        r#"{"type":"layers","diff_ids":[]}"#,
-        r#"{"diff_ids":[],"type":"layers"}"#,
-    ),
-    (
-        r#"{"diff_ids":["b","a","b",""],"type":"","x":null}"#,
-        r#"{"diff_ids":["b","a","b",""],"type":""}"#,
-    ),
-    (WHOLE, WHOLE),
-];
+/// The document of all members.
+fn whole(rt: &impl Abort, alloc: Global) -> RootFs {
+    read(rt, alloc, WHOLE)
+}
 
-/// Layers of another kind.
-const WHOLE: &str = r#"{"diff_ids":["sha256:abc123","b"],"type":"others"}"#;
+fn check_typ(rt: &impl Abort, alloc: Global) {
+    let typ = string(rt, alloc, "layers");
+    let mut document = whole(rt, alloc);
+    check_document(rt, alloc, document.set_typ(typ), CHANGED[0]);
+}
 
-/// Each text is read in one way, or refused at one place.
+fn check_diff_ids(rt: &impl Abort, alloc: Global) {
+    let diff_ids = strings(rt, alloc, &["b", "a"]);
+    let mut document = whole(rt, alloc);
+    check_document(rt, alloc, document.set_diff_ids(diff_ids), CHANGED[1]);
+}
+
+/// A setter changes its member alone, and answers the document.
 #[test]
-fn texts(rt: HostRuntime) {
-    check_refused::<RootFs>(&rt, rt.alloc(), &REFUSED);
-    check_read::<RootFs>(&rt, rt.alloc(), &READ);
+fn setters(rt: HostRuntime) {
+    let alloc = rt.alloc();
+    check_typ(&rt, alloc);
+    check_diff_ids(&rt, alloc);
+}
+
+/// Documents that differ in one member are unequal.
+#[test]
+fn equality(rt: HostRuntime) {
+    check_unequal::<RootFs>(&rt, rt.alloc(), WHOLE, &CHANGED);
+}
+
+/// The getters lend what was read.
+#[test]
+fn getters(rt: HostRuntime) {
+    let alloc = rt.alloc();
+    let document = whole(&rt, alloc);
+    check_is(&rt, &document.typ().as_str(), &"others");
+    check_shown(&rt, alloc, document.diff_ids(), r#"["sha256:abc123"]"#);
+}
+
+fn copied(rt: &impl Abort, alloc: Global) -> RootFs {
+    whole(rt, alloc).clone(alloc).expect(rt, "memory")
+}
+
+/// A clone is an equal document.
+#[test]
+fn clones(rt: HostRuntime) {
+    let alloc = rt.alloc();
+    check_is(&rt, &copied(&rt, alloc), &whole(&rt, alloc));
+    check_made(&rt, alloc, Ok(copied(&rt, alloc)), WHOLE);
+}
+
+/// What a builder makes of all members.
+fn built(rt: &impl Abort, alloc: Global) -> Result<RootFs> {
+    let typ = string(rt, alloc, "others");
+    let diff_ids = strings(rt, alloc, &["sha256:abc123"]);
+    RootFsBuilder::default()
+        .typ(typ)
+        .diff_ids(diff_ids)
+        .build(alloc)
+}
+
+/// What is set is in the document.
+#[test]
+fn builders(rt: HostRuntime) {
+    let alloc = rt.alloc();
+    check_made(&rt, alloc, built(&rt, alloc), WHOLE);
+}
+
+fn check_more_layers(rt: &impl Abort, alloc: Global) {
+    let layer = string(rt, alloc, "a");
+    let mut document = whole(rt, alloc);
+    document.diff_ids_mut().push(layer).expect(rt, "memory");
+    check_document(
+        rt,
+        alloc,
+        &document,
+        r#"{"diff_ids":["sha256:abc123","a"],"type":"others"}"#,
+    );
+}
+
+/// What is changed through a borrow is changed in the document, and nothing else.
+#[test]
+fn mutable_getters(rt: HostRuntime) {
+    let alloc = rt.alloc();
+    check_more_layers(&rt, alloc);
+}
+
+/// A default document, and one of a builder that sets nothing.
+#[test]
+fn defaults(rt: HostRuntime) {
+    let alloc = rt.alloc();
+    let text = r#"{"diff_ids":[],"type":"layers"}"#;
+    check_made(&rt, alloc, RootFs::try_default(alloc), text);
+    check_made(&rt, alloc, RootFsBuilder::default().build(alloc), text);
 }
