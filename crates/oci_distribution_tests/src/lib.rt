@@ -1,4 +1,4 @@
-//! Tests of a registry's lists and error replies, of what stands beside them, and of the engines over them.
+//! Tests of a registry's lists and error replies, of references, of what stands beside them, and of the engines over them.
 #![tactic(auto)]
 
 #[cfg(test)]

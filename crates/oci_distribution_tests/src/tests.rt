@@ -13,6 +13,7 @@ mod details;
 mod documents;
 mod engines;
 mod named;
+mod references;
 mod rows;
 
 /// A value is what was expected.

@@ -1,17 +1,14 @@
+//! References, and the scanner of their parts.
+
+use super::{check_is, string};
 use oci_reference::*;
 use std::alloc::Global;
 use std::collections::HashSet;
-use std::fmt::Debug;
 use std::process::Abort;
 
 mod record;
 mod rows;
 mod scanner;
-
-/// A value is what was expected.
-fn check_is<T: PartialEq + Debug>(rt: &impl Abort, found: &T, expected: &T) {
-    assert_eq!(rt; found, expected);
-}
 
 /// A text is what was expected.
 fn check_text(rt: &impl Abort, found: &str, expected: &str) {
@@ -53,10 +50,6 @@ fn check_answer(
     }
 }
 
-fn owned(rt: &impl Abort, alloc: Global, text: &str) -> String {
-    String::from_str(alloc, text).expect(rt, "memory")
-}
-
 fn read(rt: &impl Abort, alloc: Global, text: &str) -> Reference {
     Reference::from_str(alloc, text).expect(rt, text)
 }
@@ -65,7 +58,7 @@ fn read(rt: &impl Abort, alloc: Global, text: &str) -> Reference {
 fn check_texts(rt: &impl Abort, alloc: Global, rows: &[(&str, Result<&str, ParseError>)]) {
     for (text, answer) in rows {
         check_answer(rt, alloc, Reference::from_str(alloc, text), *answer);
-        let read = Reference::try_from(owned(rt, alloc, text));
+        let read = Reference::try_from(string(rt, alloc, text));
         check_answer(rt, alloc, read, *answer);
     }
 }
@@ -93,7 +86,7 @@ fn repeated(
     count: u32,
     end: &str,
 ) -> String {
-    let mut text = owned(rt, alloc, front);
+    let mut text = string(rt, alloc, front);
     for _ in 0..count {
         text.push_str(part).expect(rt, "memory");
     }
@@ -182,12 +175,12 @@ fn latest_beside_a_digest(rt: HostRuntime) {
 
 fn mirrored(rt: &impl Abort, alloc: Global, text: &str) -> Reference {
     let mut reference = read(rt, alloc, text);
-    reference.set_mirror_registry(owned(rt, alloc, "docker.mirror.io"));
+    reference.set_mirror_registry(string(rt, alloc, "docker.mirror.io"));
     reference
 }
 
 fn pinned(rt: &impl Abort, alloc: Global, text: &str) -> Reference {
-    let digest = owned(rt, alloc, "foo:bar");
+    let digest = string(rt, alloc, "foo:bar");
     let pinned = mirrored(rt, alloc, text).clone_with_digest(digest);
     pinned.expect(rt, "memory")
 }
@@ -217,24 +210,24 @@ fn mirrors(rt: HostRuntime) {
 }
 
 fn tagged(rt: &impl Abort, alloc: Global, texts: (&str, &str, &str)) -> Reference {
-    let registry = owned(rt, alloc, texts.0);
-    let repository = owned(rt, alloc, texts.1);
-    let tag = owned(rt, alloc, texts.2);
+    let registry = string(rt, alloc, texts.0);
+    let repository = string(rt, alloc, texts.1);
+    let tag = string(rt, alloc, texts.2);
     Reference::with_tag(registry, repository, tag)
 }
 
 fn by_digest(rt: &impl Abort, alloc: Global, texts: (&str, &str, &str)) -> Reference {
-    let registry = owned(rt, alloc, texts.0);
-    let repository = owned(rt, alloc, texts.1);
-    let digest = owned(rt, alloc, texts.2);
+    let registry = string(rt, alloc, texts.0);
+    let repository = string(rt, alloc, texts.1);
+    let digest = string(rt, alloc, texts.2);
     Reference::with_digest(registry, repository, digest)
 }
 
 fn by_both(rt: &impl Abort, alloc: Global, texts: (&str, &str, &str), digest: &str) -> Reference {
-    let registry = owned(rt, alloc, texts.0);
-    let repository = owned(rt, alloc, texts.1);
-    let tag = owned(rt, alloc, texts.2);
-    let digest = owned(rt, alloc, digest);
+    let registry = string(rt, alloc, texts.0);
+    let repository = string(rt, alloc, texts.1);
+    let tag = string(rt, alloc, texts.2);
+    let digest = string(rt, alloc, digest);
     Reference::with_tag_and_digest(registry, repository, tag, digest)
 }
 

@@ -1,6 +1,6 @@
 //! The scanner of references, against a reader that cuts whole texts.
 
-use super::check_is;
+use super::super::check_is;
 use oci_reference_scan::*;
 use std::process::Abort;
 

@@ -1,4 +1,5 @@
-use super::{check_is, check_line, check_text};
+use super::super::check_is;
+use super::{check_line, check_text};
 use oci_json_schema::OciRecord;
 use oci_reference::Reference;
 use oci_text_base::{OciSpecError, SerDeError};
