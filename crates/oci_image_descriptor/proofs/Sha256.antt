@@ -1,5 +1,5 @@
 -- SHA-256 digests, told by the name of their algorithm.
-use Rattle.std.proofs.Common.{◌≡◌, ℕ, List, Bool, true, false, cond, bytes_eq, codes, Option, Some, None, refl, sym, subst, ap, ◌∙◌}
+use Rattle.std.proofs.Common.{◌≡◌, ℕ, List, Bool, true, false, cond, bytes_eq, codes, Some, None, refl, sym, subst, ap, ◌∙◌}
 use Rattle.oci_text_base.specs.Digest.{IsDigest}
 use Rattle.oci_text_base.specs.Names.{Name, variant, other, is_listed, opened, name_text}
 use Rattle.oci_image_descriptor.specs.Descriptor.{sha256_part}

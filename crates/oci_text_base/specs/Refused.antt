@@ -1,7 +1,7 @@
 -- What kind of refusal an error is.
 use Rattle.std.specs.Prelude.{◌≡◌, ◌⊎◌, ℕ, List, string_bytes, Option, Some, None, ⊤}
 use Rattle.oci_text_base.specs.declared.error.OciSpecError.{OciSpecError}
-use Rattle.oci_text_base.specs.declared.error.OciSpecError.TheVariants.{Other, Io, SerDe, Builder, Memory}
+use Rattle.oci_text_base.specs.declared.error.OciSpecError.TheVariants.{Other, Io, SerDe, Memory}
 use Rattle.oci_text_base.specs.declared.error.SerDeError.{SerDeError}
 use Rattle.oci_text_base.specs.declared.error.SerDeError.TheVariants.{Json, Schema}
 
