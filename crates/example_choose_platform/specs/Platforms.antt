@@ -1,11 +1,11 @@
 -- The platform that a descriptor is for (image specification, "Image Index", `platform`).
 use Rattle.std.specs.Prelude.{◌≡◌, Some}
-use Rattle.oci_text_names.specs.Os.{os_name}
-use Rattle.oci_text_names.specs.Arch.{arch_name}
-use Rattle.oci_text_names.specs.declared.os.Os.{Os}
-use Rattle.oci_text_names.specs.declared.arch.Arch.{Arch}
+use Rattle.oci_text.specs.Os.{os_name}
+use Rattle.oci_text.specs.Arch.{arch_name}
+use Rattle.oci_text.specs.declared.os.Os.{Os}
+use Rattle.oci_text.specs.declared.arch.Arch.{Arch}
 use Rattle.oci_image_descriptor.specs.declared.descriptor.Descriptor.{Descriptor}
-use Rattle.oci_image_descriptor.specs.declared.platform.Platform.{Platform}
+use Rattle.oci_image_platform.specs.declared.platform.Platform.{Platform}
 
 -- the descriptor has a platform, of this operating system and architecture
 pub record IsFor (d : Descriptor) (os : Os) (architecture : Arch) : Type 0 where

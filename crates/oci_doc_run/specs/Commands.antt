@@ -1,5 +1,5 @@
 -- The commands that words ask for.
-use Rattle.std.specs.Prelude.{ℕ, List, [], ◌∷◌, ◌++◌, codes, bytes_eq, Option, Some, None, option_map, if◌then◌else◌}
+use Rattle.std.specs.Prelude.{ℕ, List, [], ◌∷◌, ◌++◌, codes, bytes_eq, Bool, true, false, Option, Some, None, option_map, if◌then◌else◌}
 use Rattle.oci_doc_run.specs.declared.kind.Kind.{Kind}
 use Rattle.oci_doc_run.specs.declared.command.Command.{Command}
 use Rattle.oci_doc_run.specs.declared.command.Command.TheVariants.{Normalize, Pretty, Reference, Digest}
@@ -25,6 +25,13 @@ asked_of command word =
 abbrev pub command_of : List (List ℕ) → Option Asked
 command_of (command ∷ word ∷ []) = asked_of command word
 command_of _ = None
+
+-- whether the command is asked of the input
+abbrev pub asks_input : Asked → Bool
+asks_input (norm kind) = true
+asks_input (pretty kind) = true
+asks_input (reference text) = false
+asks_input (digest text) = false
 
 -- a command as the code holds it
 abbrev pub asked : Command → Asked

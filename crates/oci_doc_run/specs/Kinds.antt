@@ -2,14 +2,14 @@
 use Rattle.std.specs.Prelude.{ℕ, List, codes, bytes_eq, Option, Some, None, if◌then◌else◌}
 use Rattle.oci_json_schema.specs.Shape.{Shape}
 use Rattle.oci_image_manifest.specs.ImageManifest.{image_manifest}
-use Rattle.oci_image_index.specs.ImageIndex.{image_index}
+use Rattle.oci_image_manifest.specs.ImageIndex.{image_index}
 use Rattle.oci_image_config.specs.ImageConfiguration.{image_configuration}
 use Rattle.oci_image_manifest.specs.ArtifactManifest.{artifact_manifest}
-use Rattle.oci_image_index.specs.OciLayout.{oci_layout}
+use Rattle.oci_image_manifest.specs.OciLayout.{oci_layout}
 use Rattle.oci_image_descriptor.specs.Descriptor.{descriptor}
-use Rattle.oci_distribution_records.specs.ErrorResponse.{error_response}
-use Rattle.oci_distribution_records.specs.RepositoryList.{repository_list}
-use Rattle.oci_distribution_records.specs.TagList.{tag_list}
+use Rattle.oci_distribution.specs.ErrorResponse.{error_response}
+use Rattle.oci_distribution.specs.RepositoryList.{repository_list}
+use Rattle.oci_distribution.specs.TagList.{tag_list}
 use Rattle.oci_reference.specs.Record.{reference}
 use Rattle.oci_doc_run.specs.declared.kind.Kind.{Kind}
 use Rattle.oci_doc_run.specs.declared.kind.Kind.TheVariants.{Manifest, Index, Config, Artifact, Layout, Descriptor, Error, Repositories, Tags, Reference}

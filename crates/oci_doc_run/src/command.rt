@@ -1,7 +1,7 @@
 //! What the words ask for.
-ghost use Rattle.std.specs.Prelude.{◌≡◌, map, option_map, string_bytes, OnOk, IfErr};
-ghost use Rattle.std.specs.Io.KnownBytes.{Appends};
-ghost use Rattle.oci_doc_run.specs.Commands.{asked, asked_of, command_of};
+ghost use Rattle.std.specs.Prelude.{◌≡◌, false, map, option_map, string_bytes, OnOk, IfErr};
+ghost use Rattle.std.specs.Io.KnownBytes.{Appends, Keeps};
+ghost use Rattle.oci_doc_run.specs.Commands.{asked, asked_of, asks_input, command_of};
 ghost use Rattle.oci_doc_run.specs.Outputs.{Writes};
 ghost use Rattle.oci_doc_run.specs.Refusals.{Tells};
 
@@ -63,6 +63,7 @@ impl<'a> Command<'a> {
     ) -> Result<(), Refusal>
         ensures ok { OnOk result (Writes (asked self.entry) (R.remaining reader.old) (Appends (W.contents writer.old) (W.contents writer.new))) }
         ensures err { IfErr result (λ r. Tells (asked self.entry) (R.remaining reader.old) (W.contents writer.old) (W.contents writer.new) r) }
+        ensures unasked { asks_input (asked self.entry) ≡ false → Keeps (R.remaining reader.old) (R.remaining reader.new) }
     {
         match self {
             Command::Normalize(kind) => normal_of_kind(kind, alloc, reader, writer),

@@ -8,11 +8,10 @@ ghost use Rattle.oci_doc_run.specs.Refusals.{TellsOfNormal, TellsOfPretty};
 
 use crate::kind::Kind;
 use crate::refusal::Refusal;
-use oci_distribution_records::{ErrorResponse, RepositoryList, TagList};
+use oci_distribution::{ErrorResponse, RepositoryList, TagList};
 use oci_image_config::ImageConfiguration;
 use oci_image_descriptor::Descriptor;
-use oci_image_index::{ImageIndex, OciLayout};
-use oci_image_manifest::{ArtifactManifest, ImageManifest};
+use oci_image_manifest::{ArtifactManifest, ImageIndex, ImageManifest, OciLayout};
 use oci_json_engines::{from_reader, normalize, to_writer_pretty};
 use oci_json_schema::OciRecord;
 use oci_reference::Reference;

@@ -1,9 +1,9 @@
 //! The program's whole work.
-ghost use Rattle.std.specs.Prelude.{◌≡◌, ◌<◌, ◌↔◌, map, string_bytes, None, IfSome};
+ghost use Rattle.std.specs.Prelude.{◌≡◌, ◌<◌, ◌↔◌, false, map, string_bytes, None, IfSome};
 ghost use Rattle.std.specs.Io.KnownBytes.{Appends, Keeps};
 ghost use Rattle.oci_json_engines.specs.Engines.{AppendsSome};
 ghost use Rattle.oci_doc_run.specs.declared.refusal.Refusal.{Refusal};
-ghost use Rattle.oci_doc_run.specs.Commands.{command_of, usage};
+ghost use Rattle.oci_doc_run.specs.Commands.{asks_input, command_of, usage};
 ghost use Rattle.oci_doc_run.specs.Outputs.{Writes};
 ghost use Rattle.oci_doc_run.specs.Refusals.{line_of, Tells};
 
@@ -27,6 +27,7 @@ pub fn run<R: Read, W: Write, E: Write>(
     ensures status { result < 3 }
     ensures known { (result ≡ 2) ↔ (command_of (map string_bytes words.now) ≡ None) }
     ensures unread { result ≡ 2 → Keeps (R.remaining reader.old) (R.remaining reader.new) }
+    ensures unasked { IfSome (command_of (map string_bytes words.now)) (λ c. asks_input c ≡ false → Keeps (R.remaining reader.old) (R.remaining reader.new)) }
     ensures unwritten { result ≡ 2 → Keeps (W.contents writer.old) (W.contents writer.new) }
     ensures unknown { result ≡ 2 → AppendsSome (E.contents errors.old) (E.contents errors.new) usage }
     ensures done { result ≡ 0 → IfSome (command_of (map string_bytes words.now))

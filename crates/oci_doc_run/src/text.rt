@@ -8,8 +8,8 @@ ghost use Rattle.oci_doc_run.specs.Refusals.{TellsOfReference, TellsOfDigest};
 use crate::refusal::Refusal;
 use oci_json_engines::write_text;
 use oci_reference::Reference;
+use oci_text::Digest;
 use oci_text_base::OciSpecError;
-use oci_text_digest::Digest;
 use std::alloc::{AllocError, Global};
 use std::io::Write;
 

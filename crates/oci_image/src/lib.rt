@@ -3,17 +3,17 @@
 
 pub mod versions;
 
-pub use oci_image_config::{ImageConfiguration, ImageConfigurationBuilder, annotations};
-pub use oci_image_config_parts::{
-    Config, ConfigBuilder, History, HistoryBuilder, RootFs, RootFsBuilder,
+pub use oci_image_config::{
+    Config, ConfigBuilder, History, HistoryBuilder, ImageConfiguration, ImageConfigurationBuilder,
+    RootFs, RootFsBuilder, annotations,
 };
-pub use oci_image_descriptor::{Descriptor, DescriptorBuilder, Platform, PlatformBuilder};
-pub use oci_image_index::{ImageIndex, ImageIndexBuilder, OciLayout, OciLayoutBuilder};
+pub use oci_image_descriptor::{Descriptor, DescriptorBuilder};
 pub use oci_image_manifest::{
-    ArtifactManifest, ArtifactManifestBuilder, ImageManifest, ImageManifestBuilder,
+    ArtifactManifest, ArtifactManifestBuilder, ImageIndex, ImageIndexBuilder, ImageManifest,
+    ImageManifestBuilder, OciLayout, OciLayoutBuilder,
 };
-pub use oci_text_digest::{Digest, DigestAlgorithm, Sha256Digest};
-pub use oci_text_names::{Arch, MediaType, Os, ToDockerV2S2};
+pub use oci_image_platform::{Platform, PlatformBuilder};
+pub use oci_text::{Arch, Digest, DigestAlgorithm, MediaType, Os, Sha256Digest, ToDockerV2S2};
 pub use versions::{
     SCHEMA_VERSION, VERSION, VERSION_DEV, VERSION_MAJOR, VERSION_MINOR, VERSION_PATCH, version,
 };

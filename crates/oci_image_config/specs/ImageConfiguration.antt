@@ -4,20 +4,20 @@ use Rattle.std.specs.Option.{option_or}
 use Rattle.std.specs.BTreeMap.{BTreeMap, get_by_text}
 use Rattle.std.specs.Borrow.{Lends, MutBor, Fml}
 use Rattle.std.specs.declared.alloc.Global.{Global}
-use Rattle.oci_text_names.specs.Arch.{arches, arch_name}
-use Rattle.oci_text_names.specs.Os.{oses, os_name}
+use Rattle.oci_text.specs.Arch.{arches, arch_name}
+use Rattle.oci_text.specs.Os.{oses, os_name}
 use Rattle.oci_json_schema.specs.Plain as plain
 use Rattle.oci_json_schema.specs.Plain.{Plain, document, slots, empty, filled}
 use Rattle.oci_json_schema.specs.Shape.{Shape, rows, no_rows, listed, required, optional, text, open_name, list}
 use Rattle.oci_json_schema.specs.Types.{given, perhaps, text_plain, name_plain, list_plain}
 use Rattle.oci_json_schema.specs.Lent.{option_row, list_row}
-use Rattle.oci_image_config_parts.specs.Config.{config, config_plain}
-use Rattle.oci_image_config_parts.specs.RootFs.{root_fs, root_fs_plain, default_root_fs}
-use Rattle.oci_image_config_parts.specs.declared.root_fs.RootFs.{RootFs}
-use Rattle.oci_image_config_parts.specs.contracts.root_fs.RootFs as root_fs
-use Rattle.oci_image_config_parts.specs.History.{history, history_plain}
-use Rattle.oci_image_config_parts.specs.declared.history.History.{History}
-use Rattle.oci_image_config_parts.specs.contracts.history.History as history
+use Rattle.oci_image_config.specs.Config.{config, config_plain}
+use Rattle.oci_image_config.specs.RootFs.{root_fs, root_fs_plain, default_root_fs}
+use Rattle.oci_image_config.specs.declared.root_fs.RootFs.{RootFs}
+use Rattle.oci_image_config.specs.contracts.root_fs.RootFs as root_fs
+use Rattle.oci_image_config.specs.History.{history, history_plain}
+use Rattle.oci_image_config.specs.declared.history.History.{History}
+use Rattle.oci_image_config.specs.contracts.history.History as history
 use Rattle.oci_image_config.specs.declared.image_configuration.ImageConfiguration.{ImageConfiguration}
 use Rattle.oci_image_config.specs.contracts.image_configuration.ImageConfiguration.{the_row}
 

@@ -1,1 +1,4 @@
+pub mod Config
+pub mod History
 pub mod ImageConfiguration
+pub mod RootFs

@@ -5,14 +5,16 @@ pub mod builder;
 mod calls;
 mod labels;
 
+use crate::config::Config;
+use crate::history::History;
+use crate::root_fs::RootFs;
 pub use builder::ImageConfigurationBuilder;
-use oci_image_config_parts::{Config, History, RootFs};
 use oci_json_schema::{
     OciMember, OciRecord, all_2, all_5, copy_optional, fault, optional, optional_owned, required,
     required_owned, taken_10, write_optional, write_required,
 };
+use oci_text::{Arch, Os};
 use oci_text_base::{OciSpecError, Result};
-use oci_text_names::{Arch, Os};
 use serde_json::{Map, Value};
 use std::alloc::Global;
 use std::fmt;
@@ -275,13 +277,13 @@ impl fmt::Display for ImageConfiguration {
 }
 
 impl OciRecord for ImageConfiguration {
-    ghost use Rattle.oci_text_names.specs.Arch.{arch_name};
-    ghost use Rattle.oci_text_names.specs.Os.{os_name};
+    ghost use Rattle.oci_text.specs.Arch.{arch_name};
+    ghost use Rattle.oci_text.specs.Os.{os_name};
     ghost use Rattle.oci_json_schema.specs.Same.{same_document, same_more, same_last, same_given, same_perhaps, same_texts, same_lists, same_named};
     ghost use Rattle.oci_image_config.specs.ImageConfiguration.{image_configuration, image_configuration_plain};
-    ghost use Rattle.oci_image_config_parts.specs.contracts.config.ConfigOciRecord.TheImpl.Laws.{same-law as config_same};
-    ghost use Rattle.oci_image_config_parts.specs.contracts.root_fs.RootFsOciRecord.TheImpl.Laws.{same-law as root_fs_same};
-    ghost use Rattle.oci_image_config_parts.specs.contracts.history.HistoryOciRecord.TheImpl.Laws.{same-law as history_same};
+    ghost use Rattle.oci_image_config.specs.contracts.config.ConfigOciRecord.TheImpl.Laws.{same-law as config_same};
+    ghost use Rattle.oci_image_config.specs.contracts.root_fs.RootFsOciRecord.TheImpl.Laws.{same-law as root_fs_same};
+    ghost use Rattle.oci_image_config.specs.contracts.history.HistoryOciRecord.TheImpl.Laws.{same-law as history_same};
 
     ghost shape = { image_configuration };
 

@@ -1,4 +1,2 @@
 pub mod Descriptor
 pub mod DescriptorBuilder
-pub mod Platform
-pub mod PlatformBuilder

@@ -3,15 +3,14 @@ ghost use Rattle.std.specs.Prelude.{◌≡◌, IfOk, IfErr};
 
 pub mod builder;
 
-use crate::platform::Platform;
 pub use builder::DescriptorBuilder;
+use oci_image_platform::Platform;
 use oci_json_schema::{
-    OciMember, OciRecord, all_2, all_4, copy_optional, fault, optional, optional_owned, required,
-    required_owned, taken_8, write_optional, write_required,
+    OciMember, OciRecord, all_2, all_3, all_4, copy_optional, fault, optional, optional_owned,
+    required, required_owned, taken_8, write_optional, write_required,
 };
+use oci_text::{Digest, MediaType};
 use oci_text_base::{OciSpecError, Result};
-use oci_text_digest::Digest;
-use oci_text_names::MediaType;
 use serde_json::{Map, Value};
 use std::alloc::Global;
 use std::collections::BTreeMap;
@@ -47,7 +46,7 @@ impl Drop for Descriptor {
 }
 
 impl Descriptor {
-    ghost use Rattle.std.specs.Prelude.{ℕ, List, option_map};
+    ghost use Rattle.std.specs.Prelude.{ℕ, List, codes, option_map, IfSome};
     ghost use Rattle.oci_text_base.specs.Digest.{IsDigest};
     ghost use Rattle.oci_image_descriptor.specs.Descriptor.{descriptor_plain, described, sha256_part};
 
@@ -69,7 +68,8 @@ impl Descriptor {
 
     /// The encoded part of the digest where its algorithm is `sha256`, else none.
     pub fn as_digest_sha256(&self) -> Option<&str>
-        ensures { (a e : List ℕ) → IsDigest self.now.digest a e → option_map (λ t. t.now) result ≡ sha256_part a e }
+        ensures value { (a e : List ℕ) → IsDigest self.now.digest a e → option_map (λ t. t.now) result ≡ sha256_part a e }
+        ensures sha256 { IfSome result (λ t. IsDigest self.now.digest (codes "sha256") t.now) }
     {
         if self.digest.algorithm().as_ref() == "sha256" {
             Some(self.digest.digest())
@@ -216,10 +216,10 @@ impl Descriptor {
 }
 
 impl OciRecord for Descriptor {
-    ghost use Rattle.oci_text_names.specs.MediaType.{media_type_name};
+    ghost use Rattle.oci_text.specs.MediaType.{media_type_name};
     ghost use Rattle.oci_json_schema.specs.Same.{same_document, same_more, same_last, same_given, same_perhaps, same_texts, same_lists, same_maps, same_named, same_bytes, same_numbers};
     ghost use Rattle.oci_image_descriptor.specs.Descriptor.{descriptor, descriptor_plain};
-    ghost use Rattle.oci_image_descriptor.specs.contracts.platform.PlatformOciRecord.TheImpl.Laws.{same-law as platform_same};
+    ghost use Rattle.oci_image_platform.specs.contracts.platform.PlatformOciRecord.TheImpl.Laws.{same-law as platform_same};
 
     ghost shape = { descriptor };
 
@@ -329,27 +329,24 @@ impl OciRecord for Descriptor {
     }
 
     fn duplicate(&self, alloc: Global) -> Result<Descriptor> {
-        let (
-            (media_type, digest, size, urls),
-            (annotations, platform, artifact_type, embedded_data),
-        ) = all_2(
-            all_4(
-                self.media_type.copy(alloc),
-                self.digest.copy(alloc),
-                self.size.copy(alloc),
-                copy_optional(&self.urls, alloc),
-            ),
-            all_4(
-                copy_optional(&self.annotations, alloc),
-                copy_optional(&self.platform, alloc),
-                copy_optional(&self.artifact_type, alloc),
-                copy_optional(&self.embedded_data, alloc),
-            ),
-        )?;
+        let ((media_type, digest, urls, annotations), (platform, artifact_type, embedded_data)) =
+            all_2(
+                all_4(
+                    self.media_type.copy(alloc),
+                    self.digest.copy(alloc),
+                    copy_optional(&self.urls, alloc),
+                    copy_optional(&self.annotations, alloc),
+                ),
+                all_3(
+                    copy_optional(&self.platform, alloc),
+                    copy_optional(&self.artifact_type, alloc),
+                    copy_optional(&self.embedded_data, alloc),
+                ),
+            )?;
         Ok(Descriptor {
             media_type,
             digest,
-            size,
+            size: self.size,
             urls,
             annotations,
             platform,

@@ -1,8 +1,6 @@
-//! Content descriptors and the platforms that they name.
+//! Content descriptors.
 #![tactic(auto)]
 
 pub mod descriptor;
-pub mod platform;
 
 pub use descriptor::{Descriptor, DescriptorBuilder};
-pub use platform::{Platform, PlatformBuilder};

@@ -3,7 +3,7 @@ use Rattle.std.specs.Prelude.{[], ◌∷◌, codes, Option, String, Vec}
 use Rattle.std.specs.Borrow.{Lends, MutBor, Fml}
 use Rattle.std.specs.declared.alloc.Global.{Global}
 use Rattle.std.specs.BTreeMap.{BTreeMap}
-use Rattle.oci_text_names.specs.MediaType.{media_types, media_type_name}
+use Rattle.oci_text.specs.MediaType.{media_types, media_type_name}
 use Rattle.oci_json_schema.specs.Plain.{Plain, document, slots}
 use Rattle.oci_json_schema.specs.Shape.{Shape, rows, no_rows, listed, required, optional, text, open_name, list, map}
 use Rattle.oci_json_schema.specs.Types.{given, perhaps, text_plain, name_plain, list_plain, map_plain}

@@ -6,8 +6,8 @@ use oci_json_schema::{
     OciMember, OciRecord, all_5, copy_optional, fault, optional, optional_owned, required,
     required_owned, taken_5, write_optional, write_required,
 };
+use oci_text::MediaType;
 use oci_text_base::{OciSpecError, Result, UninitializedFieldError};
-use oci_text_names::MediaType;
 use serde_json::{Map, Value};
 use std::alloc::Global;
 use std::collections::BTreeMap;
@@ -40,12 +40,10 @@ impl Drop for ArtifactManifest {
 
 impl ArtifactManifest {
     ghost use Rattle.std.specs.Borrow.{sem};
-    ghost use Rattle.std.specs.Prelude.{IfSome, OnOk, ℕ, List, string_bytes};
-    ghost use Rattle.std.specs.Io.KnownBytes.{Appends, Keeps};
-    ghost use Rattle.serde_json.specs.Written.{compact_text};
-    ghost use Rattle.oci_text_base.specs.Refused.{IsSchema, IsJson, IsIo, IsMemoryOrSchema, IsMemorySerDeOrIo, IsMemorySchemaOrIo};
+    ghost use Rattle.std.specs.Prelude.{IfSome, OnOk};
+    ghost use Rattle.oci_text_base.specs.Refused.{IsMemory, IsSchema, IsJson, IsMemoryOrIo, IsMemorySerDeOrIo};
     ghost use Rattle.oci_json_schema.specs.Value.{value as json_of};
-    ghost use Rattle.oci_json_engines.specs.Engines.{MeansBytes, IsNoJson, IsNoDocument, IsPretty, AppendsSome};
+    ghost use Rattle.oci_json_engines.specs.Engines.{MeansBytes, IsNoJson, IsNoDocument, AppendsCompact, AppendsPretty, BeginsCompact, BeginsPretty, KeepsUnlessIo, IsCompactText, IsPrettyText, ReadsBack};
     ghost use Rattle.oci_image_manifest.specs.ArtifactManifest.{artifact_manifest_plain, artifact_manifest, lends_blobs, lends_annotations};
 
     /// An equal document.
@@ -162,57 +160,59 @@ impl ArtifactManifest {
 
     /// Writes the compact text to a file, which is created or emptied once the text is made.
     pub fn to_file<R: Files>(&self, rt: &R, alloc: Global, path: &str) -> Result<()>
-        ensures kind { IfErr result IsMemorySchemaOrIo }
+        ensures kind { IfErr result IsMemoryOrIo }
     {
         oci_json_engines::to_file(rt, self, alloc, path)
     }
 
     /// Writes the pretty text to a file, which is created or emptied once the text is made.
     pub fn to_file_pretty<R: Files>(&self, rt: &R, alloc: Global, path: &str) -> Result<()>
-        ensures kind { IfErr result IsMemorySchemaOrIo }
+        ensures kind { IfErr result IsMemoryOrIo }
     {
         oci_json_engines::to_file_pretty(rt, self, alloc, path)
     }
 
     /// Writes the compact text. After `Io` a beginning of it was written, after `Memory` nothing.
     pub fn to_writer<W: Write>(&self, alloc: Global, writer: &mut W) -> Result<()>
-        ensures ok { OnOk result (Appends (W.contents writer.old) (W.contents writer.new) (compact_text (json_of artifact_manifest (artifact_manifest_plain self.now)))) }
-        ensures begun { IfErr result (λ e. IsIo e → AppendsSome (W.contents writer.old) (W.contents writer.new) (compact_text (json_of artifact_manifest (artifact_manifest_plain self.now)))) }
-        ensures unwritten { IfErr result (λ e. ¬ IsIo e → Keeps (W.contents writer.old) (W.contents writer.new)) }
-        ensures kind { IfErr result IsMemorySchemaOrIo }
+        ensures ok { OnOk result (AppendsCompact (W.contents writer.old) (W.contents writer.new) (json_of artifact_manifest (artifact_manifest_plain self.now))) }
+        ensures reads_back { OnOk result (ReadsBack (json_of artifact_manifest (artifact_manifest_plain self.now))) }
+        ensures begun { IfErr result (BeginsCompact (W.contents writer.old) (W.contents writer.new) (json_of artifact_manifest (artifact_manifest_plain self.now))) }
+        ensures unwritten { IfErr result (KeepsUnlessIo (W.contents writer.old) (W.contents writer.new)) }
+        ensures kind { IfErr result IsMemoryOrIo }
     {
         oci_json_engines::to_writer(self, alloc, writer)
     }
 
     /// Writes the pretty text. After `Io` a beginning of it was written, after `Memory` nothing.
     pub fn to_writer_pretty<W: Write>(&self, alloc: Global, writer: &mut W) -> Result<()>
-        ensures ok { OnOk result ((text : List ℕ) × IsPretty (json_of artifact_manifest (artifact_manifest_plain self.now)) text × Appends (W.contents writer.old) (W.contents writer.new) text) }
-        ensures begun { IfErr result (λ e. IsIo e → (text : List ℕ) × IsPretty (json_of artifact_manifest (artifact_manifest_plain self.now)) text × AppendsSome (W.contents writer.old) (W.contents writer.new) text) }
-        ensures unwritten { IfErr result (λ e. ¬ IsIo e → Keeps (W.contents writer.old) (W.contents writer.new)) }
-        ensures kind { IfErr result IsMemorySchemaOrIo }
+        ensures ok { OnOk result (AppendsPretty (W.contents writer.old) (W.contents writer.new) (json_of artifact_manifest (artifact_manifest_plain self.now))) }
+        ensures begun { IfErr result (BeginsPretty (W.contents writer.old) (W.contents writer.new) (json_of artifact_manifest (artifact_manifest_plain self.now))) }
+        ensures unwritten { IfErr result (KeepsUnlessIo (W.contents writer.old) (W.contents writer.new)) }
+        ensures kind { IfErr result IsMemoryOrIo }
     {
         oci_json_engines::to_writer_pretty(self, alloc, writer)
     }
 
     /// The compact text.
     pub fn to_string(&self, alloc: Global) -> Result<String>
-        ensures ok { IfOk result (λ s. string_bytes s ≡ compact_text (json_of artifact_manifest (artifact_manifest_plain self.now))) }
-        ensures kind { IfErr result IsMemoryOrSchema }
+        ensures ok { IfOk result (IsCompactText (json_of artifact_manifest (artifact_manifest_plain self.now))) }
+        ensures reads_back { OnOk result (ReadsBack (json_of artifact_manifest (artifact_manifest_plain self.now))) }
+        ensures kind { IfErr result IsMemory }
     {
         oci_json_engines::to_string(self, alloc)
     }
 
     /// The pretty text: a line a member or item, two spaces a level, no line feed at the end.
     pub fn to_string_pretty(&self, alloc: Global) -> Result<String>
-        ensures ok { IfOk result (λ s. IsPretty (json_of artifact_manifest (artifact_manifest_plain self.now)) (string_bytes s)) }
-        ensures kind { IfErr result IsMemoryOrSchema }
+        ensures ok { IfOk result (IsPrettyText (json_of artifact_manifest (artifact_manifest_plain self.now))) }
+        ensures kind { IfErr result IsMemory }
     {
         oci_json_engines::to_string_pretty(self, alloc)
     }
 }
 
 impl OciRecord for ArtifactManifest {
-    ghost use Rattle.oci_text_names.specs.MediaType.{media_type_name};
+    ghost use Rattle.oci_text.specs.MediaType.{media_type_name};
     ghost use Rattle.oci_json_schema.specs.Same.{same_document, same_more, same_last, same_given, same_perhaps, same_texts, same_lists, same_maps, same_named};
     ghost use Rattle.oci_image_manifest.specs.ArtifactManifest.{artifact_manifest, artifact_manifest_plain};
     ghost use Rattle.oci_image_descriptor.specs.contracts.descriptor.DescriptorOciRecord.TheImpl.Laws.{same-law as descriptor_same};
@@ -314,7 +314,7 @@ impl OciRecord for ArtifactManifest {
 }
 
 /// Puts an `ArtifactManifest` together.
-#[derive(Debug, Default, Drop)]
+#[derive(Default, Drop)]
 pub struct ArtifactManifestBuilder {
     artifact_type: Option<MediaType>,
     blobs: Option<Vec<Descriptor>>,
@@ -326,7 +326,7 @@ impl ArtifactManifestBuilder {
     ghost use Rattle.std.specs.Prelude.{Some, unwrap_or, option_map, codes};
     ghost use Rattle.oci_json_schema.specs.Built.{IsUnset};
     ghost use Rattle.oci_image_manifest.specs.ArtifactManifestBuilder.{artifact_manifest_unset};
-    ghost use Rattle.oci_text_names.specs.MediaType.{media_type_name};
+    ghost use Rattle.oci_text.specs.MediaType.{media_type_name};
     ghost use Rattle.oci_json_schema.specs.Plain as plain;
     ghost use Rattle.oci_json_schema.specs.Types.{name_plain, list_plain};
     ghost use Rattle.oci_image_descriptor.specs.Descriptor.{descriptor_plain};

@@ -9,8 +9,8 @@ use oci_json_schema::{
     OciMember, OciRecord, all_2, all_3, all_4, copy_optional, fault, optional, optional_owned,
     required, required_owned, taken_7, write_optional, write_required,
 };
+use oci_text::MediaType;
 use oci_text_base::{OciSpecError, Result};
-use oci_text_names::MediaType;
 use serde_json::{Map, Value};
 use std::alloc::Global;
 use std::collections::BTreeMap;
@@ -48,12 +48,10 @@ impl Drop for ImageManifest {
 
 impl ImageManifest {
     ghost use Rattle.std.specs.Borrow.{sem};
-    ghost use Rattle.std.specs.Prelude.{IfSome, OnOk, ℕ, List, string_bytes};
-    ghost use Rattle.std.specs.Io.KnownBytes.{Appends, Keeps};
-    ghost use Rattle.serde_json.specs.Written.{compact_text};
-    ghost use Rattle.oci_text_base.specs.Refused.{IsSchema, IsJson, IsIo, IsMemoryOrSchema, IsMemorySerDeOrIo, IsMemorySchemaOrIo};
+    ghost use Rattle.std.specs.Prelude.{IfSome, OnOk};
+    ghost use Rattle.oci_text_base.specs.Refused.{IsMemory, IsSchema, IsJson, IsMemoryOrIo, IsMemorySerDeOrIo};
     ghost use Rattle.oci_json_schema.specs.Value.{value as json_of};
-    ghost use Rattle.oci_json_engines.specs.Engines.{MeansBytes, IsNoJson, IsNoDocument, IsPretty, AppendsSome};
+    ghost use Rattle.oci_json_engines.specs.Engines.{MeansBytes, IsNoJson, IsNoDocument, AppendsCompact, AppendsPretty, BeginsCompact, BeginsPretty, KeepsUnlessIo, IsCompactText, IsPrettyText, ReadsBack};
     ghost use Rattle.oci_image_manifest.specs.ImageManifest.{image_manifest_plain, image_manifest, lends_layers, lends_annotations};
 
     /// An equal document.
@@ -211,50 +209,52 @@ impl ImageManifest {
 
     /// Writes the compact text to a file, which is created or emptied once the text is made.
     pub fn to_file<R: Files>(&self, rt: &R, alloc: Global, path: &str) -> Result<()>
-        ensures kind { IfErr result IsMemorySchemaOrIo }
+        ensures kind { IfErr result IsMemoryOrIo }
     {
         oci_json_engines::to_file(rt, self, alloc, path)
     }
 
     /// Writes the pretty text to a file, which is created or emptied once the text is made.
     pub fn to_file_pretty<R: Files>(&self, rt: &R, alloc: Global, path: &str) -> Result<()>
-        ensures kind { IfErr result IsMemorySchemaOrIo }
+        ensures kind { IfErr result IsMemoryOrIo }
     {
         oci_json_engines::to_file_pretty(rt, self, alloc, path)
     }
 
     /// Writes the compact text. After `Io` a beginning of it was written, after `Memory` nothing.
     pub fn to_writer<W: Write>(&self, alloc: Global, writer: &mut W) -> Result<()>
-        ensures ok { OnOk result (Appends (W.contents writer.old) (W.contents writer.new) (compact_text (json_of image_manifest (image_manifest_plain self.now)))) }
-        ensures begun { IfErr result (λ e. IsIo e → AppendsSome (W.contents writer.old) (W.contents writer.new) (compact_text (json_of image_manifest (image_manifest_plain self.now)))) }
-        ensures unwritten { IfErr result (λ e. ¬ IsIo e → Keeps (W.contents writer.old) (W.contents writer.new)) }
-        ensures kind { IfErr result IsMemorySchemaOrIo }
+        ensures ok { OnOk result (AppendsCompact (W.contents writer.old) (W.contents writer.new) (json_of image_manifest (image_manifest_plain self.now))) }
+        ensures reads_back { OnOk result (ReadsBack (json_of image_manifest (image_manifest_plain self.now))) }
+        ensures begun { IfErr result (BeginsCompact (W.contents writer.old) (W.contents writer.new) (json_of image_manifest (image_manifest_plain self.now))) }
+        ensures unwritten { IfErr result (KeepsUnlessIo (W.contents writer.old) (W.contents writer.new)) }
+        ensures kind { IfErr result IsMemoryOrIo }
     {
         oci_json_engines::to_writer(self, alloc, writer)
     }
 
     /// Writes the pretty text. After `Io` a beginning of it was written, after `Memory` nothing.
     pub fn to_writer_pretty<W: Write>(&self, alloc: Global, writer: &mut W) -> Result<()>
-        ensures ok { OnOk result ((text : List ℕ) × IsPretty (json_of image_manifest (image_manifest_plain self.now)) text × Appends (W.contents writer.old) (W.contents writer.new) text) }
-        ensures begun { IfErr result (λ e. IsIo e → (text : List ℕ) × IsPretty (json_of image_manifest (image_manifest_plain self.now)) text × AppendsSome (W.contents writer.old) (W.contents writer.new) text) }
-        ensures unwritten { IfErr result (λ e. ¬ IsIo e → Keeps (W.contents writer.old) (W.contents writer.new)) }
-        ensures kind { IfErr result IsMemorySchemaOrIo }
+        ensures ok { OnOk result (AppendsPretty (W.contents writer.old) (W.contents writer.new) (json_of image_manifest (image_manifest_plain self.now))) }
+        ensures begun { IfErr result (BeginsPretty (W.contents writer.old) (W.contents writer.new) (json_of image_manifest (image_manifest_plain self.now))) }
+        ensures unwritten { IfErr result (KeepsUnlessIo (W.contents writer.old) (W.contents writer.new)) }
+        ensures kind { IfErr result IsMemoryOrIo }
     {
         oci_json_engines::to_writer_pretty(self, alloc, writer)
     }
 
     /// The compact text.
     pub fn to_string(&self, alloc: Global) -> Result<String>
-        ensures ok { IfOk result (λ s. string_bytes s ≡ compact_text (json_of image_manifest (image_manifest_plain self.now))) }
-        ensures kind { IfErr result IsMemoryOrSchema }
+        ensures ok { IfOk result (IsCompactText (json_of image_manifest (image_manifest_plain self.now))) }
+        ensures reads_back { OnOk result (ReadsBack (json_of image_manifest (image_manifest_plain self.now))) }
+        ensures kind { IfErr result IsMemory }
     {
         oci_json_engines::to_string(self, alloc)
     }
 
     /// The pretty text: a line a member or item, two spaces a level, no line feed at the end.
     pub fn to_string_pretty(&self, alloc: Global) -> Result<String>
-        ensures ok { IfOk result (λ s. IsPretty (json_of image_manifest (image_manifest_plain self.now)) (string_bytes s)) }
-        ensures kind { IfErr result IsMemoryOrSchema }
+        ensures ok { IfOk result (IsPrettyText (json_of image_manifest (image_manifest_plain self.now))) }
+        ensures kind { IfErr result IsMemory }
     {
         oci_json_engines::to_string_pretty(self, alloc)
     }
@@ -276,7 +276,7 @@ impl fmt::Display for ImageManifest {
 }
 
 impl OciRecord for ImageManifest {
-    ghost use Rattle.oci_text_names.specs.MediaType.{media_type_name};
+    ghost use Rattle.oci_text.specs.MediaType.{media_type_name};
     ghost use Rattle.oci_json_schema.specs.Same.{same_document, same_more, same_last, same_given, same_perhaps, same_texts, same_lists, same_maps, same_named, same_numbers};
     ghost use Rattle.oci_image_manifest.specs.ImageManifest.{image_manifest, image_manifest_plain};
     ghost use Rattle.oci_image_descriptor.specs.contracts.descriptor.DescriptorOciRecord.TheImpl.Laws.{same-law as descriptor_same};
@@ -379,22 +379,20 @@ impl OciRecord for ImageManifest {
     }
 
     fn duplicate(&self, alloc: Global) -> Result<ImageManifest> {
-        let ((schema_version, media_type, artifact_type, config), (layers, subject, annotations)) =
-            all_2(
-                all_4(
-                    self.schema_version.copy(alloc),
-                    copy_optional(&self.media_type, alloc),
-                    copy_optional(&self.artifact_type, alloc),
-                    self.config.copy(alloc),
-                ),
-                all_3(
-                    self.layers.copy(alloc),
-                    copy_optional(&self.subject, alloc),
-                    copy_optional(&self.annotations, alloc),
-                ),
-            )?;
+        let ((media_type, artifact_type, config), (layers, subject, annotations)) = all_2(
+            all_3(
+                copy_optional(&self.media_type, alloc),
+                copy_optional(&self.artifact_type, alloc),
+                self.config.copy(alloc),
+            ),
+            all_3(
+                self.layers.copy(alloc),
+                copy_optional(&self.subject, alloc),
+                copy_optional(&self.annotations, alloc),
+            ),
+        )?;
         Ok(ImageManifest {
-            schema_version,
+            schema_version: self.schema_version,
             media_type,
             artifact_type,
             config,

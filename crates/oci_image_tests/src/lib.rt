@@ -1,4 +1,5 @@
-//! Tests of the image documents: what is read and what is refused, and what each call answers.
+//! Tests of the image documents: each call that may be refused memory, once with enough of it. What texts are read as stands in the
+//! rows of `oci_rows`.
 #![tactic(auto)]
 
 #[cfg(test)]

@@ -9,6 +9,7 @@ use Rattle.oci_json_schema.specs.Plain.{Plain, Plains, no_plains, Entries, no_en
 use Rattle.oci_json_schema.specs.Shape.{Presence, required, defaulted, optional, nullable, unless_empty, Shape, text, truth, whole, named, open_name, digest_text, cpu_text, cap_set, list, map, key_set, detail, free_map, rows, Rows, no_rows, row}
 use Rattle.oci_json_schema.specs.Fits.{Each, EachEntry, IfFilled}
 use Rattle.oci_json_schema.specs.Value.{value, capability_texts, sorted, empty_objects, each_value, each_entry_value, is_empty_array, member_value, with_member, with_rows}
+use Rattle.oci_json_schema.proofs.AlwaysWritable.{each_holds, each_entry_holds, slot_holds}
 use Rattle.oci_json.specs.Depths.{nesting, rows_nesting, is_closed, are_closed}
 use Rattle.oci_json.proofs.Meanings.{OfSome}
 
@@ -74,22 +75,6 @@ each_entry_depth v n no_entries h = omega arith
 each_entry_depth v n (entry k p es) h = let first = h.0 in let rest = each_entry_depth v n es h.1 in omega arith
 
 -- ---- of a closed shape
-
-module _ (P : Plain → Type 0) (f : (p : Plain) → P p) where
-  -- what holds of all holds of each
-  each_holds : (ps : Plains) → Each P ps
-  each_holds no_plains = tt
-  each_holds (plain.plain p ps) = (f p, each_holds ps)
-
-  -- of each in a map
-  each_entry_holds : (es : Entries) → EachEntry P es
-  each_entry_holds no_entries = tt
-  each_entry_holds (entry k p es) = (f p, each_entry_holds es)
-
-  -- of what is there
-  slot_holds : (x : Slot) → IfFilled P x
-  slot_holds empty = tt
-  slot_holds (filled p) = f p
 
 -- shape by shape
 mutual

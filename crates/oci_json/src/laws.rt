@@ -11,7 +11,7 @@ ghost use Rattle.oci_json_schema.specs.Fits.{Fits};
 ghost use Rattle.oci_json_schema.specs.Means.{Means};
 ghost use Rattle.oci_json_schema.specs.Value.{value};
 ghost use Rattle.oci_json_schema.specs.Norm.{norm};
-ghost use Rattle.oci_json_schema.specs.Writable.{Writable};
+ghost use Rattle.oci_json_schema.specs.Writable.{Writable, is_always_writable};
 ghost use Rattle.oci_json.specs.Defaults.{HasReadableDefaults};
 ghost use Rattle.oci_json.specs.Depths.{nesting, is_closed};
 ghost use Rattle.oci_json.specs.Details.{HasNoNullDetail};
@@ -65,6 +65,12 @@ pub fn reads_again()
 pub fn read_is_writable()
     ensures { (s : Shape) (t : List ℕ) (v : Data) (p : Plain) → WellFormed s → read t ≡ Some v → Means s v p
         → Writable s p }
+{}
+
+/// Each plain tree is writable by a shape without `detail`, free maps and CPU lists.
+#[tactic(auto, using(oci_json_schema::proofs::AlwaysWritable::always_writable))]
+pub fn always_writable()
+    ensures { (s : Shape) (p : Plain) → is_always_writable s ≡ true → Writable s p }
 {}
 
 /// A member that is not listed does not change what an object means.

@@ -1,7 +1,7 @@
 //! Documents in files, which the runtime opens.
-ghost use Rattle.std.specs.Prelude.{IfErr, OnOk};
-ghost use Rattle.oci_text_base.specs.Refused.{IsSchema, IsMemorySerDeOrIo, IsMemorySchemaOrIo};
-ghost use Rattle.oci_json_schema.specs.Writable.{Writable};
+ghost use Rattle.std.specs.Prelude.{IfErr, OnOk, IsTrue};
+ghost use Rattle.oci_text_base.specs.Refused.{IsSchema, IsMemoryOrIo, IsMemorySerDeOrIo, IsMemorySchemaOrIo};
+ghost use Rattle.oci_json_schema.specs.Writable.{Writable, is_always_writable};
 
 use crate::reading::from_reader;
 use crate::writing::{to_string, to_string_pretty, write_text};
@@ -25,6 +25,7 @@ pub fn to_file<T: OciRecord, R: Files>(rt: &R, x: &T, alloc: Global, path: &str)
     ensures writable { OnOk result (Writable T.shape (T.plain x.now)) }
     ensures err { IfErr result (λ e. IsSchema e → ¬ Writable T.shape (T.plain x.now)) }
     ensures kind { IfErr result IsMemorySchemaOrIo }
+    ensures always { IsTrue (is_always_writable T.shape) → IfErr result IsMemoryOrIo }
 {
     let text = to_string(x, alloc)?;
     let mut file = fs::create(rt, path)?;
@@ -42,6 +43,7 @@ pub fn to_file_pretty<T: OciRecord, R: Files>(
     ensures writable { OnOk result (Writable T.shape (T.plain x.now)) }
     ensures err { IfErr result (λ e. IsSchema e → ¬ Writable T.shape (T.plain x.now)) }
     ensures kind { IfErr result IsMemorySchemaOrIo }
+    ensures always { IsTrue (is_always_writable T.shape) → IfErr result IsMemoryOrIo }
 {
     let text = to_string_pretty(x, alloc)?;
     let mut file = fs::create(rt, path)?;

@@ -1,11 +1,10 @@
 //! From bytes to bytes.
-ghost use Rattle.std.specs.Prelude.{◌≡◌, ◌⊎◌, IfOk, IfErr, IfSome, OnOk, string_bytes};
+ghost use Rattle.std.specs.Prelude.{◌⊎◌, IfOk, IfErr, IfSome, OnOk};
 ghost use Rattle.std.specs.Io.KnownBytes.{Appends, Keeps};
-ghost use Rattle.serde_json.specs.Written.{compact_text};
 ghost use Rattle.oci_text_base.specs.Refused.{IsSchema, IsJson, IsMemoryOrSchema, IsMemorySerDeOrIo, IsIo};
 ghost use Rattle.oci_json_schema.specs.Value.{value as json_of};
 ghost use Rattle.oci_json_schema.specs.Writable.{Writable};
-ghost use Rattle.oci_json_engines.specs.Engines.{AppendsSome, WritesDocument, ReadsBack, ReadsBackDocument, IsNotNormalized, IsNoJson};
+ghost use Rattle.oci_json_engines.specs.Engines.{AppendsSome, KeepsUnlessIo, IsCompactText, WritesDocument, ReadsBack, ReadsBackDocument, IsNotNormalized, IsNoJson};
 
 use crate::reading::from_reader;
 use crate::writing::write_text;
@@ -28,7 +27,7 @@ pub fn normalize<T: OciRecord, R: Read + Drop, W: Write>(
     ensures schema { IfErr result (λ e. IsSchema e → IfSome (R.remaining reader) (IsNotNormalized T.shape)) }
     ensures begun { IfErr result (λ e. IsIo e → Keeps (W.contents writer.old) (W.contents writer.new)
         ⊎ WritesDocument T.shape (R.remaining reader) (λ text. AppendsSome (W.contents writer.old) (W.contents writer.new) text)) }
-    ensures unwritten { IfErr result (λ e. ¬ IsIo e → Keeps (W.contents writer.old) (W.contents writer.new)) }
+    ensures unwritten { IfErr result (KeepsUnlessIo (W.contents writer.old) (W.contents writer.new)) }
     ensures kind { IfErr result IsMemorySerDeOrIo }
 {
     let document: T = from_reader(alloc, reader)?;
@@ -40,7 +39,7 @@ pub fn normalize<T: OciRecord, R: Read + Drop, W: Write>(
 /// The compact text of a document, which is let go of before the text is made; refused as by `to_string`.
 #[tactic(auto, using(crate::proofs::Texts::none_in, crate::proofs::Texts::read_back))]
 fn text_of<T: OciRecord>(document: T, alloc: Global) -> Result<String>
-    ensures ok { IfOk result (λ s. string_bytes s ≡ compact_text (json_of T.shape (T.plain document))) }
+    ensures ok { IfOk result (IsCompactText (json_of T.shape (T.plain document))) }
     ensures reads_back { OnOk result (ReadsBack (json_of T.shape (T.plain document))) }
     ensures writable { OnOk result (Writable T.shape (T.plain document)) }
     ensures err { IfErr result (λ e. IsSchema e → ¬ Writable T.shape (T.plain document)) }

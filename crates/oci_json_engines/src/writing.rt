@@ -1,11 +1,10 @@
 //! From documents to texts.
-ghost use Rattle.std.specs.Prelude.{◌≡◌, IfOk, IfErr, OnOk, OnErr, ℕ, List, string_bytes};
-ghost use Rattle.std.specs.Io.KnownBytes.{Appends, Keeps};
-ghost use Rattle.serde_json.specs.Written.{compact_text};
-ghost use Rattle.oci_text_base.specs.Refused.{IsSchema, IsMemoryOrSchema, IsMemorySchemaOrIo, IsIo};
+ghost use Rattle.std.specs.Prelude.{IfOk, IfErr, OnOk, OnErr, IsTrue};
+ghost use Rattle.std.specs.Io.KnownBytes.{Appends};
+ghost use Rattle.oci_text_base.specs.Refused.{IsMemory, IsSchema, IsMemoryOrIo, IsMemoryOrSchema, IsMemorySchemaOrIo};
 ghost use Rattle.oci_json_schema.specs.Value.{value as json_of};
-ghost use Rattle.oci_json_schema.specs.Writable.{Writable};
-ghost use Rattle.oci_json_engines.specs.Engines.{AppendsSome, IsPretty, ReadsBack};
+ghost use Rattle.oci_json_schema.specs.Writable.{Writable, is_always_writable};
+ghost use Rattle.oci_json_engines.specs.Engines.{AppendsSome, AppendsCompact, AppendsPretty, BeginsCompact, BeginsPretty, KeepsUnlessIo, IsCompactText, IsPrettyText, ReadsBack};
 
 use oci_json_schema::OciRecord;
 use oci_text_base::Result;
@@ -14,13 +13,14 @@ use std::io;
 use std::io::{ErrorKind, Write};
 
 /// The compact text of a document, members in byte order of their names; `SerDe(Schema)` where the document is not writable.
-#[tactic(auto, using(crate::proofs::Texts::none_in, crate::proofs::Texts::read_back))]
+#[tactic(auto, using(crate::proofs::Texts::none_in, crate::proofs::Texts::read_back, crate::proofs::Texts::memory_alone))]
 pub fn to_string<T: OciRecord>(x: &T, alloc: Global) -> Result<String>
-    ensures ok { IfOk result (λ s. string_bytes s ≡ compact_text (json_of T.shape (T.plain x.now))) }
+    ensures ok { IfOk result (IsCompactText (json_of T.shape (T.plain x.now))) }
     ensures reads_back { OnOk result (ReadsBack (json_of T.shape (T.plain x.now))) }
     ensures writable { OnOk result (Writable T.shape (T.plain x.now)) }
     ensures err { IfErr result (λ e. IsSchema e → ¬ Writable T.shape (T.plain x.now)) }
     ensures kind { IfErr result IsMemoryOrSchema }
+    ensures always { IsTrue (is_always_writable T.shape) → IfErr result IsMemory }
 {
     let value = x.to_value(alloc)?;
     Ok(value.to_string(alloc)?)
@@ -28,12 +28,13 @@ pub fn to_string<T: OciRecord>(x: &T, alloc: Global) -> Result<String>
 
 /// The pretty text of a document: a line a member or item, two spaces a level, no line feed at the end;
 /// `SerDe(Schema)` where the document is not writable.
-#[tactic(auto, using(crate::proofs::Texts::is_pretty))]
+#[tactic(auto, using(crate::proofs::Texts::is_pretty, crate::proofs::Texts::memory_alone))]
 pub fn to_string_pretty<T: OciRecord>(x: &T, alloc: Global) -> Result<String>
-    ensures ok { IfOk result (λ s. IsPretty (json_of T.shape (T.plain x.now)) (string_bytes s)) }
+    ensures ok { IfOk result (IsPrettyText (json_of T.shape (T.plain x.now))) }
     ensures writable { OnOk result (Writable T.shape (T.plain x.now)) }
     ensures err { IfErr result (λ e. IsSchema e → ¬ Writable T.shape (T.plain x.now)) }
     ensures kind { IfErr result IsMemoryOrSchema }
+    ensures always { IsTrue (is_always_writable T.shape) → IfErr result IsMemory }
 {
     let value = x.to_value(alloc)?;
     Ok(value.to_string_pretty(alloc)?)
@@ -58,13 +59,14 @@ pub fn write_text<W: Write>(bytes: &[u8], writer: &mut W) -> io::Result<()>
 
 /// Writes the compact text of a document, and flushes. After `Io` a beginning of it was written, after any other refusal nothing.
 pub fn to_writer<T: OciRecord, W: Write>(x: &T, alloc: Global, writer: &mut W) -> Result<()>
-    ensures ok { OnOk result (Appends (W.contents writer.old) (W.contents writer.new) (compact_text (json_of T.shape (T.plain x.now)))) }
+    ensures ok { OnOk result (AppendsCompact (W.contents writer.old) (W.contents writer.new) (json_of T.shape (T.plain x.now))) }
     ensures reads_back { OnOk result (ReadsBack (json_of T.shape (T.plain x.now))) }
     ensures writable { OnOk result (Writable T.shape (T.plain x.now)) }
     ensures err { IfErr result (λ e. IsSchema e → ¬ Writable T.shape (T.plain x.now)) }
-    ensures begun { IfErr result (λ e. IsIo e → AppendsSome (W.contents writer.old) (W.contents writer.new) (compact_text (json_of T.shape (T.plain x.now)))) }
-    ensures unwritten { IfErr result (λ e. ¬ IsIo e → Keeps (W.contents writer.old) (W.contents writer.new)) }
+    ensures begun { IfErr result (BeginsCompact (W.contents writer.old) (W.contents writer.new) (json_of T.shape (T.plain x.now))) }
+    ensures unwritten { IfErr result (KeepsUnlessIo (W.contents writer.old) (W.contents writer.new)) }
     ensures kind { IfErr result IsMemorySchemaOrIo }
+    ensures always { IsTrue (is_always_writable T.shape) → IfErr result IsMemoryOrIo }
 {
     let text = to_string(x, alloc)?;
     write_text(text.as_bytes(), writer)?;
@@ -73,12 +75,13 @@ pub fn to_writer<T: OciRecord, W: Write>(x: &T, alloc: Global, writer: &mut W) -
 
 /// Writes the pretty text of a document, and flushes. After `Io` a beginning of it was written, after any other refusal nothing.
 pub fn to_writer_pretty<T: OciRecord, W: Write>(x: &T, alloc: Global, writer: &mut W) -> Result<()>
-    ensures ok { OnOk result ((text : List ℕ) × IsPretty (json_of T.shape (T.plain x.now)) text × Appends (W.contents writer.old) (W.contents writer.new) text) }
+    ensures ok { OnOk result (AppendsPretty (W.contents writer.old) (W.contents writer.new) (json_of T.shape (T.plain x.now))) }
     ensures writable { OnOk result (Writable T.shape (T.plain x.now)) }
     ensures err { IfErr result (λ e. IsSchema e → ¬ Writable T.shape (T.plain x.now)) }
-    ensures begun { IfErr result (λ e. IsIo e → (text : List ℕ) × IsPretty (json_of T.shape (T.plain x.now)) text × AppendsSome (W.contents writer.old) (W.contents writer.new) text) }
-    ensures unwritten { IfErr result (λ e. ¬ IsIo e → Keeps (W.contents writer.old) (W.contents writer.new)) }
+    ensures begun { IfErr result (BeginsPretty (W.contents writer.old) (W.contents writer.new) (json_of T.shape (T.plain x.now))) }
+    ensures unwritten { IfErr result (KeepsUnlessIo (W.contents writer.old) (W.contents writer.new)) }
     ensures kind { IfErr result IsMemorySchemaOrIo }
+    ensures always { IsTrue (is_always_writable T.shape) → IfErr result IsMemoryOrIo }
 {
     let text = to_string_pretty(x, alloc)?;
     write_text(text.as_bytes(), writer)?;

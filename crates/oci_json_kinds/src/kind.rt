@@ -1,5 +1,6 @@
 //! Kinds of members, and the readers and writers of optional members of a kind.
-ghost use Rattle.std.specs.Prelude.{◌≡◌, None, option_map, IfOk, IfErr, OnOk};
+ghost use Rattle.std.specs.Prelude.{◌≡◌, None, option_map, IfOk, IfErr, OnOk, OnErr};
+ghost use Rattle.std.specs.BTreeMap.{IsUnchanged};
 ghost use Rattle.serde_json.specs.View.{view, members_view};
 ghost use Rattle.serde_json.specs.Find.{get};
 ghost use Rattle.oci_text_base.specs.Refused.{IsSchema, IsMemoryOrSchema};
@@ -158,6 +159,7 @@ pub fn write_optional_as<K: OciKind<T>, T>(
     ensures fits { OnOk result (FitsMember presence.optional (Fits K.shape) (perhaps K.plain x.now)) }
     ensures writable { OnOk result (IfFilled (Writable K.shape) (perhaps K.plain x.now)) }
     ensures err { IfErr result (λ e. IsSchema e → ¬ IfFilled (Writable K.shape) (perhaps K.plain x.now)) }
+    ensures unchanged { OnErr result (IsUnchanged members.old members.new) }
     ensures kind { IfErr result IsMemoryOrSchema }
 {
     match x {

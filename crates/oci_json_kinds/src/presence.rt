@@ -1,5 +1,6 @@
 //! Members with a default, members that are written as null where they are none, and lists that are omitted where they are empty.
-ghost use Rattle.std.specs.Prelude.{◌≡◌, None, [], false, pos, IfOk, IfErr, OnOk};
+ghost use Rattle.std.specs.Prelude.{◌≡◌, None, [], false, pos, IfOk, IfErr, OnOk, OnErr};
+ghost use Rattle.std.specs.BTreeMap.{IsUnchanged};
 ghost use Rattle.serde_json.specs.View.{view, members_view};
 ghost use Rattle.serde_json.specs.Find.{get};
 ghost use Rattle.oci_text_base.specs.Refused.{IsSchema, IsMemoryOrSchema};
@@ -153,6 +154,7 @@ pub fn write_nullable<T: OciMember>(
     ensures fits { OnOk result (FitsMember presence.nullable (Fits T.shape) (perhaps T.plain x.now)) }
     ensures writable { OnOk result (IfFilled (Writable T.shape) (perhaps T.plain x.now)) }
     ensures err { IfErr result (λ e. IsSchema e → ¬ IfFilled (Writable T.shape) (perhaps T.plain x.now)) }
+    ensures unchanged { OnErr result (IsUnchanged members.old members.new) }
     ensures kind { IfErr result IsMemoryOrSchema }
 {
     match x {
@@ -176,6 +178,7 @@ pub fn write_unless_empty<T: OciMember>(
     ensures fits { OnOk result (FitsMember presence.unless_empty (Fits (presence.list T.shape)) (perhaps (list_plain T.plain) x.now)) }
     ensures writable { OnOk result (IfFilled (Writable (presence.list T.shape)) (perhaps (list_plain T.plain) x.now)) }
     ensures err { IfErr result (λ e. IsSchema e → ¬ IfFilled (Writable (presence.list T.shape)) (perhaps (list_plain T.plain) x.now)) }
+    ensures unchanged { OnErr result (IsUnchanged members.old members.new) }
     ensures kind { IfErr result IsMemoryOrSchema }
 {
     match x {

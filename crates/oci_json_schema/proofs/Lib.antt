@@ -1,3 +1,4 @@
+pub mod AlwaysWritable
 pub mod FoundAll
 pub mod Lists
 pub mod Maps

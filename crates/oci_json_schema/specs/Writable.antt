@@ -1,5 +1,5 @@
 -- Which plain trees have a JSON value.
-use Rattle.std.specs.Prelude.{◌≡◌, false, Some, ⊤}
+use Rattle.std.specs.Prelude.{◌≡◌, ◌&&◌, Bool, true, false, Some, ⊤}
 use Rattle.serde_json.specs.Data.{Data}
 use Rattle.serde_json.specs.Read.{read}
 use Rattle.serde_json.specs.Written.{has_float, members_have_float}
@@ -30,3 +30,20 @@ abbrev mutual
   AreWritable no_rows xs = ⊤
   AreWritable (row name second presence s rs) no_slots = ⊤
   AreWritable (row name second presence s rs) (slot x xs) = IfFilled (Writable s) x × AreWritable rs xs
+
+-- ---- shapes of which each plain tree has one
+
+-- it has no CPU list, no `detail` and no free map
+abbrev mutual
+  pub is_always_writable : Shape → Bool
+  is_always_writable cpu_text = false
+  is_always_writable (list s) = is_always_writable s
+  is_always_writable (map s) = is_always_writable s
+  is_always_writable detail = false
+  is_always_writable free_map = false
+  is_always_writable (rows rs) = are_always_writable rs
+  is_always_writable _ = true
+
+  pub are_always_writable : Rows → Bool
+  are_always_writable no_rows = true
+  are_always_writable (row name second presence s rs) = is_always_writable s && are_always_writable rs

@@ -1,5 +1,6 @@
 //! Readers and writers of a record's members.
-ghost use Rattle.std.specs.Prelude.{◌≡◌, Some, None, option_map, IfOk, IfErr, OnOk};
+ghost use Rattle.std.specs.Prelude.{◌≡◌, Some, None, option_map, IfOk, IfErr, OnOk, OnErr};
+ghost use Rattle.std.specs.BTreeMap.{IsUnchanged};
 ghost use Rattle.serde_json.specs.View.{view, members_view};
 ghost use Rattle.serde_json.specs.Find.{get};
 ghost use Rattle.oci_text_base.specs.Refused.{IsSchema, IsMemoryOrSchema};
@@ -122,6 +123,7 @@ pub fn write_required<T: OciMember>(
     ensures fits { OnOk result (FitsMember presence.required (Fits T.shape) (given T.plain x.now)) }
     ensures writable { OnOk result (IfFilled (Writable T.shape) (given T.plain x.now)) }
     ensures err { IfErr result (λ e. IsSchema e → ¬ IfFilled (Writable T.shape) (given T.plain x.now)) }
+    ensures unchanged { OnErr result (IsUnchanged members.old members.new) }
     ensures kind { IfErr result IsMemoryOrSchema }
 {
     let written = x.write(alloc)?;
@@ -141,6 +143,7 @@ pub fn write_optional<T: OciMember>(
     ensures fits { OnOk result (FitsMember presence.optional (Fits T.shape) (perhaps T.plain x.now)) }
     ensures writable { OnOk result (IfFilled (Writable T.shape) (perhaps T.plain x.now)) }
     ensures err { IfErr result (λ e. IsSchema e → ¬ IfFilled (Writable T.shape) (perhaps T.plain x.now)) }
+    ensures unchanged { OnErr result (IsUnchanged members.old members.new) }
     ensures kind { IfErr result IsMemoryOrSchema }
 {
     match x {

@@ -2,13 +2,24 @@
 //! architectures and error codes; and the errors of all calls.
 #![tactic(auto)]
 
+pub mod arch;
+pub mod digest;
+pub mod digest_algorithm;
+pub mod error_code;
+mod fault;
 pub mod laws;
+pub mod media_type;
+pub mod os;
+pub mod sha256_digest;
 
+pub use arch::Arch;
+pub use digest::{Digest, is_digest};
+pub use digest_algorithm::DigestAlgorithm;
+pub use error_code::ErrorCode;
+pub use media_type::{MediaType, ToDockerV2S2};
 pub use oci_text_base::{
     OciSpecError, Result, SchemaFault, SerDeError, UninitializedFieldError, UnknownName,
 };
-pub use oci_text_digest::{Digest, DigestAlgorithm, Sha256Digest, is_digest};
-pub use oci_text_names::{Arch, ErrorCode, JsonName, MediaType, Os, ToDockerV2S2};
-
-#[cfg(test)]
-mod tests;
+pub use oci_text_closed::{JsonName, closed, json_name};
+pub use os::Os;
+pub use sha256_digest::Sha256Digest;

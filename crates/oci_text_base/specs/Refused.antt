@@ -28,6 +28,11 @@ abbrev pub IsIo : OciSpecError → Type 0
 IsIo (Io e) = ⊤
 IsIo _ = ⊥
 
+-- memory was wanted
+abbrev pub IsMemory : OciSpecError → Type 0
+IsMemory Memory = ⊤
+IsMemory _ = ⊥
+
 -- the text of a grammar was refused
 abbrev pub IsOther : OciSpecError → Type 0
 IsOther (Other t) = ⊤

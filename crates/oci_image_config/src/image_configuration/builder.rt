@@ -1,14 +1,16 @@
 //! The builder of `ImageConfiguration`.
 ghost use Rattle.std.specs.Prelude.{◌≡◌, IfOk, IfErr};
 
+use crate::config::Config;
+use crate::history::History;
 use crate::image_configuration::ImageConfiguration;
-use oci_image_config_parts::{Config, History, RootFs};
+use crate::root_fs::RootFs;
+use oci_text::{Arch, Os};
 use oci_text_base::{OciSpecError, Result};
-use oci_text_names::{Arch, Os};
 use std::alloc::Global;
 
 /// Puts an `ImageConfiguration` together.
-#[derive(Debug, Default, Drop)]
+#[derive(Default, Drop)]
 pub struct ImageConfigurationBuilder {
     created: Option<String>,
     author: Option<String>,
@@ -24,11 +26,11 @@ pub struct ImageConfigurationBuilder {
 
 impl ImageConfigurationBuilder {
     ghost use Rattle.std.specs.Prelude.{Some, unwrap_or, option_map, codes};
-    ghost use Rattle.oci_text_names.specs.Arch.{arch_name};
-    ghost use Rattle.oci_text_names.specs.Os.{os_name};
+    ghost use Rattle.oci_text.specs.Arch.{arch_name};
+    ghost use Rattle.oci_text.specs.Os.{os_name};
     ghost use Rattle.oci_json_schema.specs.Plain as plain;
     ghost use Rattle.oci_json_schema.specs.Types.{name_plain};
-    ghost use Rattle.oci_image_config_parts.specs.RootFs.{root_fs_plain, default_root_fs};
+    ghost use Rattle.oci_image_config.specs.RootFs.{root_fs_plain, default_root_fs};
 
     /// When the image was made, as an RFC 3339 date and time.
     pub fn created(self, created: String) -> Self

@@ -1,5 +1,5 @@
 //! The reading and writing calls of `ImageConfiguration`.
-ghost use Rattle.std.specs.Prelude.{◌≡◌, IfOk, IfErr};
+ghost use Rattle.std.specs.Prelude.{IfOk, IfErr};
 
 use super::ImageConfiguration;
 use oci_text_base::Result;
@@ -8,12 +8,10 @@ use std::io::{Read, Write};
 use std::rt::Files;
 
 impl ImageConfiguration {
-    ghost use Rattle.std.specs.Prelude.{IfSome, OnOk, ℕ, List, string_bytes};
-    ghost use Rattle.std.specs.Io.KnownBytes.{Appends, Keeps};
-    ghost use Rattle.serde_json.specs.Written.{compact_text};
-    ghost use Rattle.oci_text_base.specs.Refused.{IsSchema, IsJson, IsIo, IsMemoryOrSchema, IsMemorySerDeOrIo, IsMemorySchemaOrIo};
+    ghost use Rattle.std.specs.Prelude.{IfSome, OnOk};
+    ghost use Rattle.oci_text_base.specs.Refused.{IsMemory, IsSchema, IsJson, IsMemoryOrIo, IsMemorySerDeOrIo};
     ghost use Rattle.oci_json_schema.specs.Value.{value as json_of};
-    ghost use Rattle.oci_json_engines.specs.Engines.{MeansBytes, IsNoJson, IsNoDocument, IsPretty, AppendsSome};
+    ghost use Rattle.oci_json_engines.specs.Engines.{MeansBytes, IsNoJson, IsNoDocument, AppendsCompact, AppendsPretty, BeginsCompact, BeginsPretty, KeepsUnlessIo, IsCompactText, IsPrettyText, ReadsBack};
     ghost use Rattle.oci_image_config.specs.ImageConfiguration.{image_configuration, image_configuration_plain};
 
     /// Reads a document of a file, which the runtime opens.
@@ -35,50 +33,52 @@ impl ImageConfiguration {
 
     /// Writes the compact text to a file, which is created or emptied once the text is made.
     pub fn to_file<R: Files>(&self, rt: &R, alloc: Global, path: &str) -> Result<()>
-        ensures kind { IfErr result IsMemorySchemaOrIo }
+        ensures kind { IfErr result IsMemoryOrIo }
     {
         oci_json_engines::to_file(rt, self, alloc, path)
     }
 
     /// Writes the pretty text to a file, which is created or emptied once the text is made.
     pub fn to_file_pretty<R: Files>(&self, rt: &R, alloc: Global, path: &str) -> Result<()>
-        ensures kind { IfErr result IsMemorySchemaOrIo }
+        ensures kind { IfErr result IsMemoryOrIo }
     {
         oci_json_engines::to_file_pretty(rt, self, alloc, path)
     }
 
     /// Writes the compact text. After `Io` a beginning of it was written, after `Memory` nothing.
     pub fn to_writer<W: Write>(&self, alloc: Global, writer: &mut W) -> Result<()>
-        ensures ok { OnOk result (Appends (W.contents writer.old) (W.contents writer.new) (compact_text (json_of image_configuration (image_configuration_plain self.now)))) }
-        ensures begun { IfErr result (λ e. IsIo e → AppendsSome (W.contents writer.old) (W.contents writer.new) (compact_text (json_of image_configuration (image_configuration_plain self.now)))) }
-        ensures unwritten { IfErr result (λ e. ¬ IsIo e → Keeps (W.contents writer.old) (W.contents writer.new)) }
-        ensures kind { IfErr result IsMemorySchemaOrIo }
+        ensures ok { OnOk result (AppendsCompact (W.contents writer.old) (W.contents writer.new) (json_of image_configuration (image_configuration_plain self.now))) }
+        ensures reads_back { OnOk result (ReadsBack (json_of image_configuration (image_configuration_plain self.now))) }
+        ensures begun { IfErr result (BeginsCompact (W.contents writer.old) (W.contents writer.new) (json_of image_configuration (image_configuration_plain self.now))) }
+        ensures unwritten { IfErr result (KeepsUnlessIo (W.contents writer.old) (W.contents writer.new)) }
+        ensures kind { IfErr result IsMemoryOrIo }
     {
         oci_json_engines::to_writer(self, alloc, writer)
     }
 
     /// Writes the pretty text. After `Io` a beginning of it was written, after `Memory` nothing.
     pub fn to_writer_pretty<W: Write>(&self, alloc: Global, writer: &mut W) -> Result<()>
-        ensures ok { OnOk result ((text : List ℕ) × IsPretty (json_of image_configuration (image_configuration_plain self.now)) text × Appends (W.contents writer.old) (W.contents writer.new) text) }
-        ensures begun { IfErr result (λ e. IsIo e → (text : List ℕ) × IsPretty (json_of image_configuration (image_configuration_plain self.now)) text × AppendsSome (W.contents writer.old) (W.contents writer.new) text) }
-        ensures unwritten { IfErr result (λ e. ¬ IsIo e → Keeps (W.contents writer.old) (W.contents writer.new)) }
-        ensures kind { IfErr result IsMemorySchemaOrIo }
+        ensures ok { OnOk result (AppendsPretty (W.contents writer.old) (W.contents writer.new) (json_of image_configuration (image_configuration_plain self.now))) }
+        ensures begun { IfErr result (BeginsPretty (W.contents writer.old) (W.contents writer.new) (json_of image_configuration (image_configuration_plain self.now))) }
+        ensures unwritten { IfErr result (KeepsUnlessIo (W.contents writer.old) (W.contents writer.new)) }
+        ensures kind { IfErr result IsMemoryOrIo }
     {
         oci_json_engines::to_writer_pretty(self, alloc, writer)
     }
 
     /// The compact text.
     pub fn to_string(&self, alloc: Global) -> Result<String>
-        ensures ok { IfOk result (λ s. string_bytes s ≡ compact_text (json_of image_configuration (image_configuration_plain self.now))) }
-        ensures kind { IfErr result IsMemoryOrSchema }
+        ensures ok { IfOk result (IsCompactText (json_of image_configuration (image_configuration_plain self.now))) }
+        ensures reads_back { OnOk result (ReadsBack (json_of image_configuration (image_configuration_plain self.now))) }
+        ensures kind { IfErr result IsMemory }
     {
         oci_json_engines::to_string(self, alloc)
     }
 
     /// The pretty text: a line a member or item, two spaces a level, no line feed at the end.
     pub fn to_string_pretty(&self, alloc: Global) -> Result<String>
-        ensures ok { IfOk result (λ s. IsPretty (json_of image_configuration (image_configuration_plain self.now)) (string_bytes s)) }
-        ensures kind { IfErr result IsMemoryOrSchema }
+        ensures ok { IfOk result (IsPrettyText (json_of image_configuration (image_configuration_plain self.now))) }
+        ensures kind { IfErr result IsMemory }
     {
         oci_json_engines::to_string_pretty(self, alloc)
     }

@@ -2,15 +2,14 @@
 ghost use Rattle.std.specs.Prelude.{◌≡◌, IfOk, IfErr};
 
 use crate::descriptor::Descriptor;
-use crate::platform::Platform;
+use oci_image_platform::Platform;
+use oci_text::{Digest, MediaType};
 use oci_text_base::{Result, UninitializedFieldError};
-use oci_text_digest::Digest;
-use oci_text_names::MediaType;
 use std::alloc::Global;
 use std::collections::BTreeMap;
 
 /// Puts a `Descriptor` together.
-#[derive(Debug, Default, Drop)]
+#[derive(Default, Drop)]
 pub struct DescriptorBuilder {
     media_type: Option<MediaType>,
     digest: Option<Digest>,

@@ -3,13 +3,13 @@ ghost use Rattle.std.specs.Prelude.{◌≡◌, IfOk, IfErr};
 
 use crate::image_manifest::ImageManifest;
 use oci_image_descriptor::Descriptor;
+use oci_text::MediaType;
 use oci_text_base::{Result, UninitializedFieldError};
-use oci_text_names::MediaType;
 use std::alloc::Global;
 use std::collections::BTreeMap;
 
 /// Puts an `ImageManifest` together.
-#[derive(Debug, Default, Drop)]
+#[derive(Default, Drop)]
 pub struct ImageManifestBuilder {
     schema_version: Option<u32>,
     media_type: Option<MediaType>,

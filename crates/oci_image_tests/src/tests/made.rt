@@ -1,61 +1,19 @@
-//! Documents made of texts, and texts made of documents.
+//! Documents that builders make, of the members that have to be set and one or two more.
 
-use oci_image::{Descriptor, DescriptorBuilder, Digest, MediaType, Sha256Digest};
-use oci_json_engines::{from_slice, to_string};
-use oci_json_schema::OciRecord;
-use oci_text_base::Result;
+use oci_image::{
+    Arch, ArtifactManifest, ArtifactManifestBuilder, Config, ConfigBuilder, Descriptor,
+    DescriptorBuilder, Digest, History, HistoryBuilder, ImageConfiguration,
+    ImageConfigurationBuilder, ImageIndex, ImageIndexBuilder, ImageManifest, ImageManifestBuilder,
+    MediaType, OciLayout, OciLayoutBuilder, Os, Platform, PlatformBuilder, RootFs, RootFsBuilder,
+};
 use std::alloc::Global;
-use std::collections::BTreeMap;
-use std::fmt::{Debug, Display};
 use std::process::Abort;
 
-/// The document of a JSON text.
-pub fn read<T: OciRecord>(rt: &impl Abort, alloc: Global, text: &str) -> T {
-    from_slice(alloc, text.as_bytes()).expect(rt, text)
-}
-
-/// The compact text of a document that was made.
-pub fn written<T: OciRecord>(alloc: Global, made: Result<T>) -> Result<String> {
-    let document = made?;
-    to_string(&document, alloc)
-}
-
-/// A member that is no document, as `{:?}` prints it.
-pub fn shown<T: Debug>(alloc: Global, member: &T) -> Result<String> {
-    Ok(format!(in alloc; "{member:?}")?)
-}
-
-/// What `{}` prints.
-pub fn displayed<T: Display>(alloc: Global, document: &T) -> Result<String> {
-    Ok(format!(in alloc; "{document}")?)
-}
-
-/// The compact text of a member that is a document, and `-` for none.
-pub fn inner<T: OciRecord>(alloc: Global, member: &Option<T>) -> Result<String> {
-    match member {
-        Some(document) => to_string(document, alloc),
-        None => Ok(String::from_str(alloc, "-")?),
-    }
-}
-
-/// The compact texts of documents, a line each.
-pub fn lines<T: OciRecord>(alloc: Global, documents: &[T]) -> Result<String> {
-    let mut lines = String::new(alloc);
-    for document in documents {
-        let line = to_string(document, alloc)?;
-        lines.push_str(line.as_str())?;
-        lines.push_str("\n")?;
-    }
-    Ok(lines)
-}
-
-/// An own text.
-pub fn string(rt: &impl Abort, alloc: Global, text: &str) -> String {
+fn string(rt: &impl Abort, alloc: Global, text: &str) -> String {
     String::from_str(alloc, text).expect(rt, text)
 }
 
-/// Own texts.
-pub fn strings(rt: &impl Abort, alloc: Global, texts: &[&str]) -> Vec<String> {
+fn strings(rt: &impl Abort, alloc: Global, texts: &[&str]) -> Vec<String> {
     let mut list = Vec::new(alloc);
     for text in texts {
         list.push(string(rt, alloc, text)).expect(rt, text);
@@ -63,52 +21,109 @@ pub fn strings(rt: &impl Abort, alloc: Global, texts: &[&str]) -> Vec<String> {
     list
 }
 
-/// A map of one key.
-pub fn map(rt: &impl Abort, alloc: Global, key: &str, value: &str) -> BTreeMap<String, String> {
-    let mut map = BTreeMap::new(alloc);
-    let replaced: std::result::Result<_, _> = map.insert(
-        string(rt, alloc, key),
-        string(rt, alloc, value),
-    );
-    replaced.expect(rt, key);
-    map
-}
-
 /// A list of one item.
-pub fn single<T: Drop>(rt: &impl Abort, alloc: Global, item: T) -> Vec<T> {
+fn single<T: Drop>(rt: &impl Abort, alloc: Global, item: T) -> Vec<T> {
     let mut list = Vec::new(alloc);
     list.push(item).expect(rt, "memory");
     list
 }
 
-/// A descriptor of no interest, but for its digest.
-pub fn content(rt: &impl Abort, alloc: Global, digest: &str) -> Descriptor {
-    let digest = Digest::from_str(alloc, digest).expect(rt, digest);
-    Descriptor::new(MediaType::EmptyJSON, 1, digest)
-}
-
-/// A list of such descriptors.
-pub fn contents(rt: &impl Abort, alloc: Global, digests: &[&str]) -> Vec<Descriptor> {
-    let mut list = Vec::new(alloc);
-    for digest in digests {
-        list.push(content(rt, alloc, digest)).expect(rt, digest);
-    }
-    list
-}
-
-/// A descriptor of a SHA-256 digest, of which these are the digits.
-pub fn sha256(
-    rt: &impl Abort,
-    alloc: Global,
-    media_type: MediaType,
-    size: u64,
-    digits: &str,
-) -> Descriptor {
-    let digest = Sha256Digest::from_str(alloc, digits).expect(rt, digits);
-    let built = DescriptorBuilder::default()
-        .media_type(media_type)
-        .size(size)
-        .digest(digest.into_digest().expect(rt, digits))
+pub fn platform(rt: &impl Abort, alloc: Global) -> Platform {
+    let variant = string(rt, alloc, "v7");
+    let built = PlatformBuilder::default()
+        .architecture(Arch::ARM)
+        .os(Os::Windows)
+        .variant(variant)
         .build(alloc);
-    built.expect(rt, digits)
+    built.expect(rt, "a platform")
+}
+
+pub fn descriptor(rt: &impl Abort, alloc: Global) -> Descriptor {
+    let digest = Digest::from_str(alloc, "foo:bar").expect(rt, "a digest");
+    let data = string(rt, alloc, "e30=");
+    let built = DescriptorBuilder::default()
+        .media_type(MediaType::EmptyJSON)
+        .digest(digest)
+        .size(2)
+        .data(data)
+        .build(alloc);
+    built.expect(rt, "a descriptor")
+}
+
+pub fn image_manifest(rt: &impl Abort, alloc: Global) -> ImageManifest {
+    let config = descriptor(rt, alloc);
+    let layers = single(rt, alloc, descriptor(rt, alloc));
+    let built = ImageManifestBuilder::default()
+        .schema_version(2)
+        .media_type(MediaType::ImageManifest)
+        .config(config)
+        .layers(layers)
+        .build(alloc);
+    built.expect(rt, "a manifest")
+}
+
+pub fn image_index(rt: &impl Abort, alloc: Global) -> ImageIndex {
+    let manifests = single(rt, alloc, descriptor(rt, alloc));
+    let built = ImageIndexBuilder::default()
+        .schema_version(2)
+        .artifact_type(MediaType::EmptyJSON)
+        .manifests(manifests)
+        .build(alloc);
+    built.expect(rt, "an index")
+}
+
+pub fn artifact_manifest(rt: &impl Abort, alloc: Global) -> ArtifactManifest {
+    let subject = descriptor(rt, alloc);
+    let built = ArtifactManifestBuilder::default()
+        .artifact_type(MediaType::EmptyJSON)
+        .subject(subject)
+        .build(alloc);
+    built.expect(rt, "a manifest")
+}
+
+pub fn oci_layout(rt: &impl Abort, alloc: Global) -> OciLayout {
+    let version = string(rt, alloc, "1.0.0");
+    let built = OciLayoutBuilder::default()
+        .image_layout_version(version)
+        .build(alloc);
+    built.expect(rt, "a layout")
+}
+
+/// Its ports are given twice, and not in order.
+pub fn config(rt: &impl Abort, alloc: Global) -> Config {
+    let user = string(rt, alloc, "alice");
+    let ports = strings(rt, alloc, &["8080/tcp", "443/tcp", "8080/tcp"]);
+    let built = ConfigBuilder::default()
+        .user(user)
+        .exposed_ports(ports)
+        .build(alloc);
+    built.expect(rt, "a configuration")
+}
+
+pub fn root_fs(rt: &impl Abort, alloc: Global) -> RootFs {
+    let layers = strings(rt, alloc, &["sha256:abc123"]);
+    let built = RootFsBuilder::default().diff_ids(layers).build(alloc);
+    built.expect(rt, "layers")
+}
+
+pub fn history(rt: &impl Abort, alloc: Global) -> History {
+    let comment = string(rt, alloc, "first");
+    let built = HistoryBuilder::default()
+        .comment(comment)
+        .empty_layer(true)
+        .build(alloc);
+    built.expect(rt, "an entry")
+}
+
+pub fn image_configuration(rt: &impl Abort, alloc: Global) -> ImageConfiguration {
+    let config = config(rt, alloc);
+    let root_fs = root_fs(rt, alloc);
+    let history = single(rt, alloc, history(rt, alloc));
+    let built = ImageConfigurationBuilder::default()
+        .architecture(Arch::ARM)
+        .config(config)
+        .rootfs(root_fs)
+        .history(history)
+        .build(alloc);
+    built.expect(rt, "a configuration")
 }

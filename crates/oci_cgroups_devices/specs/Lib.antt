@@ -1,0 +1,4 @@
+pub mod LinuxBlockIo
+pub mod LinuxDeviceCgroup
+pub mod LinuxThrottleDevice
+pub mod LinuxWeightDevice

@@ -1,0 +1,3 @@
+pub mod LinuxInterfacePriority
+pub mod LinuxNetwork
+pub mod LinuxRdma

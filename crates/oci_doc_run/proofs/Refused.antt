@@ -1,0 +1,28 @@
+-- What the refusal for a document that was not written says.
+use Rattle.std.proofs.Common.{List, ℕ, Option, Some, None, inr}
+use Rattle.std.specs.Prelude.{IfSome}
+use Rattle.oci_text_base.specs.Refused.{IsSchema, IsMemorySchemaOrIo}
+use Rattle.oci_text_base.specs.declared.error.OciSpecError.{OciSpecError}
+use Rattle.oci_text_base.specs.declared.error.OciSpecError.TheVariants.{Other, Io, SerDe, Builder, Memory}
+use Rattle.oci_text_base.specs.declared.error.SerDeError.TheVariants.{Json, Schema}
+use Rattle.oci_json_schema.specs.Plain.{Plain}
+use Rattle.oci_json_schema.specs.Shape.{Shape}
+use Rattle.oci_json_schema.specs.Value.{value}
+use Rattle.oci_json_schema.specs.Writable.{Writable}
+use Rattle.oci_json_engines.specs.Engines.{MeansBytes, BeginsPretty, KeepsUnlessIo, IsNotNormalized}
+use Rattle.oci_doc_run.specs.Refusals.{refusal_of, TellsOfPretty}
+
+-- a document that is read is not normalized where it is not writable
+not_normalized : (s : Shape) (input : Option (List ℕ)) (p : Plain) → IfSome input (λ bytes. MeansBytes s bytes p) → ¬ Writable s p → IfSome input (IsNotNormalized s)
+not_normalized s None p means not_writable = tt
+not_normalized s (Some bytes) p means not_writable = inr (p, means, not_writable)
+
+-- the refusal for the error that stood in the way of writing it
+pub pretty_refused : (s : Shape) (input old new : Option (List ℕ)) (p : Plain) (e : OciSpecError) → IfSome input (λ bytes. MeansBytes s bytes p)
+    → (IsSchema e → ¬ Writable s p) → BeginsPretty old new (value s p) e → KeepsUnlessIo old new e → IsMemorySchemaOrIo e → TellsOfPretty s input old new (refusal_of e)
+pretty_refused s input old new p (Other t) means err begun kept kind = absurd kind
+pretty_refused s input old new p (Io f) means err begun kept kind = (tt, inr (p, means, begun tt))
+pretty_refused s input old new p (SerDe (Json f)) means err begun kept kind = absurd kind
+pretty_refused s input old new p (SerDe (Schema f)) means err begun kept kind = (not_normalized s input p means (err tt), kept (λ h. h))
+pretty_refused s input old new p (Builder f) means err begun kept kind = absurd kind
+pretty_refused s input old new p Memory means err begun kept kind = (tt, kept (λ h. h))

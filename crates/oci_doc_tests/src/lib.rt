@@ -1,5 +1,0 @@
-//! Tests of the commands of `ocidoc`.
-#![tactic(auto)]
-
-#[cfg(test)]
-mod tests;

@@ -1,3 +1,0 @@
-pub mod Config
-pub mod History
-pub mod RootFs

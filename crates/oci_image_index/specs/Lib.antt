@@ -1,4 +1,0 @@
-pub mod ImageIndex
-pub mod ImageIndexBuilder
-pub mod OciLayout
-pub mod OciLayoutBuilder

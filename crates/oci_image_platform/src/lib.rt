@@ -1,0 +1,6 @@
+//! The machines that images are for.
+#![tactic(auto)]
+
+pub mod platform;
+
+pub use platform::{Platform, PlatformBuilder};

@@ -1,0 +1,3 @@
+pub use Rattle.oci_text_base.specs.Names
+pub mod LinuxDeviceType
+pub mod SArch

@@ -1,0 +1,60 @@
+//! What is found of a text, in the form of a row's last line.
+
+use anyhow::Result;
+use oci_json_engines::{from_slice, to_string};
+use oci_json_schema::OciRecord;
+use oci_text_base::{OciSpecError, SerDeError};
+use serde_json::Value;
+use std::alloc::Global;
+
+/// A way from a text to its document.
+#[derive(Clone, Copy, Debug)]
+pub enum Reading {
+    /// Of a value that is lent.
+    Lent,
+    /// Of a value that is taken apart.
+    Owned,
+    /// Of the bytes.
+    Bytes,
+}
+
+impl Reading {
+    /// All ways.
+    pub const ALL: [Reading; 3] = [Reading::Lent, Reading::Owned, Reading::Bytes];
+
+    fn read<T: OciRecord>(self, alloc: Global, text: &str) -> oci_text_base::Result<T> {
+        match self {
+            Reading::Lent => T::from_value(alloc, &Value::from_str(alloc, text)?),
+            Reading::Owned => T::from_value_owned(alloc, Value::from_str(alloc, text)?),
+            Reading::Bytes => from_slice(alloc, text.as_bytes()),
+        }
+    }
+
+    /// The compact text of the document, or the place that refuses the text.
+    pub fn found<T: OciRecord>(self, alloc: Global, text: &str) -> Result<String> {
+        match self.read::<T>(alloc, text) {
+            Ok(document) => written(alloc, &document, text),
+            Err(OciSpecError::SerDe(SerDeError::Schema(fault))) => {
+                Ok(format!(in alloc; "! {}.{}", fault.owner, fault.member)?)
+            }
+            Err(fault) => Ok(format!(in alloc; "{fault}")?),
+        }
+    }
+}
+
+/// The compact text of the document of a text.
+fn written<T: OciRecord>(alloc: Global, document: &T, text: &str) -> Result<String> {
+    let compact = to_string(document, alloc)?;
+    let copied = *document == document.duplicate(alloc)?;
+    if copied && is_of(alloc, document, text)? && is_of(alloc, document, compact.as_str())? {
+        Ok(format!(in alloc; "= {compact}")?)
+    } else {
+        Ok(format!(in alloc; "another document is {compact}")?)
+    }
+}
+
+/// Whether the bytes of a text are read as this document.
+fn is_of<T: OciRecord>(alloc: Global, document: &T, text: &str) -> Result<bool> {
+    let read: T = from_slice(alloc, text.as_bytes())?;
+    Ok(*document == read)
+}

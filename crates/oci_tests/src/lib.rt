@@ -1,0 +1,5 @@
+//! Tests of texts, references, distribution documents, the engines and the program: of what no contract says.
+#![tactic(auto)]
+
+#[cfg(test)]
+mod tests;

@@ -1,0 +1,25 @@
+-- A digest is one that is cut at its first colon, and has no other reading.
+use Rattle.std.proofs.Common.{◌≡◌, ℕ, List, ◌∷◌, ◌+◌, drop, length, sym, ap, ◌∙◌, subst}
+use Rattle.std.proofs.Math.Seq.{drop-append-add}
+use Rattle.oci_text_base.specs.Classes.{until, after, colon}
+use Rattle.oci_text_base.specs.Digest.{IsDigest, IsDigestText}
+use Rattle.oci_text_base.specs.Names.{Name, opened}
+use Rattle.oci_text.specs.CutDigests.{IsCutDigest}
+use Rattle.oci_text.proofs.Refusals.{digest_cut, digest_refused, digest_text}
+
+pub is_some_digest : (t : List ℕ) → IsCutDigest t → IsDigestText t
+is_some_digest t h = (until colon t, after colon t, h)
+
+-- a copy of a digest's text
+pub is_cut : (t copy : List ℕ) → copy ≡ t → IsDigestText t → IsCutDigest copy
+is_cut t copy same h = subst IsCutDigest (sym same) (digest_text t ((digest_refused t).1 h))
+
+-- what is said of the part before the first colon is said of each reading's algorithm
+pub of_algorithm : (table : List (List ℕ)) (n : Name) (t : List ℕ) → n ≡ opened table (until colon t) → (a e : List ℕ) → IsDigest t a e → n ≡ opened table a
+of_algorithm table n t named a e d = named ∙ ap (opened table) (digest_cut t a e d).0
+
+-- and what stands behind the first colon is its encoded part
+pub of_encoded : (t rest : List ℕ) (split : ℕ) → split ≡ length (until colon t) → rest ≡ drop (split + 1) t → (a e : List ℕ) → IsDigest t a e → rest ≡ e
+of_encoded t rest split at is a e d =
+    let same : split ≡ length a = at ∙ ap length (digest_cut t a e d).0 in
+    is ∙ ap (λ i. drop (i + 1) t) same ∙ ap (drop (length a + 1)) d.spelled ∙ drop-append-add a (colon ∷ e) 1

@@ -1,0 +1,12 @@
+pub mod Algorithm
+pub mod Components
+pub mod CpuLists
+pub mod CutDigests
+pub mod ErrorTexts
+pub mod NamedArchitectures
+pub mod NamedMediaTypes
+pub mod NamedSystems
+pub mod OpenMembers
+pub mod Opened
+pub mod Refusals
+pub mod ShaDigests

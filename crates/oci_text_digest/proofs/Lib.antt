@@ -1,5 +1,0 @@
-pub mod Algorithm
-pub mod Components
-pub mod CutDigests
-pub mod Refusals
-pub mod ShaDigests

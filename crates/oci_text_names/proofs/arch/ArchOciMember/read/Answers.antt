@@ -1,8 +1,0 @@
--- The text means the name that it opens.
-use Rattle.serde_json.specs.View.{view}
-use Rattle.oci_text_names.specs.Arch.{arch_name, arches}
-use Rattle.oci_text_names.proofs.OpenMembers.{answer_means}
-use Rattle.oci_text_names.proofs.arch.ArchOciMember.read.Goals as goal
-
-pub returns-in-Some-clause-ok : goal.returns-in-Some-clause-ok
-returns-in-Some-clause-ok c = answer_means arches arch_name c.in-Some.text.now (view c.args.value.now) c.from_text.result c.in-Some.ensures c.from_text.ensures.ok

@@ -1,9 +1,0 @@
--- The text means the name that it opens.
-use Rattle.std.proofs.Common.{string_bytes}
-use Rattle.serde_json.specs.View.{view}
-use Rattle.oci_text_names.specs.Arch.{arch_name, arches}
-use Rattle.oci_text_names.proofs.OpenMembers.{name_means}
-use Rattle.oci_text_names.proofs.arch.ArchOciMember.read_owned.Goals as goal
-
-pub returns-in-Some-clause-ok : goal.returns-in-Some-clause-ok
-returns-in-Some-clause-ok c = name_means arches (string_bytes c.in-Some.text) (view c.args.value) (arch_name c.from_string.result) c.in-Some.ensures c.from_string.ensures
