@@ -25,12 +25,12 @@ text_call_of word =
     else (if bytes_eq word (codes "scanner") then Some text.Scanner
     else None))
 
--- the first two words name what the task times: the kind, or texts, and the file
-abbrev pub Names : Task → List ℕ → List ℕ → Type 0
-Names (Documents kind path run) first second = (kind_of first ≡ Some kind) × (path.now ≡ second)
-Names (Texts path run) first second = (first ≡ codes "texts") × (path.now ≡ second)
+-- the words name what is done: the kind, or texts, then the file and the call
+abbrev pub Names : Task → List ℕ → List ℕ → List ℕ → Type 0
+Names (Documents kind path run) first second call = (kind_of first ≡ Some kind) × (path.now ≡ second) × (document_call_of call ≡ Some run.call)
+Names (Texts path run) first second call = (first ≡ codes "texts") × (path.now ≡ second) × (text_call_of call ≡ Some run.call)
 
--- so of the first two of all words
+-- so of four words, of which the third says how often
 abbrev pub NamesWords : Task → List (List ℕ) → Type 0
-NamesWords task (first ∷ second ∷ others) = Names task first second
+NamesWords task (first ∷ second ∷ third ∷ call ∷ []) = Names task first second call
 NamesWords task _ = ⊥

@@ -1,4 +1,4 @@
-//! What is read before anything is timed.
+//! What is read before any call is made.
 use anyhow::{Context, Result};
 use std::fs;
 use std::rt::Files;

@@ -1,36 +1,34 @@
-//! The program `oci_bench`: times the library's calls beside those of the JSON reader and writer that it stands on.
+//! The program `oci_bench`: makes one of the library's calls, or the JSON reader's and writer's own, so often as is asked, for tools that
+//! count instructions, time or memory.
 #![tactic(auto)]
 
 mod arguments;
 mod documents;
 mod inputs;
 mod references;
-mod report;
-mod timing;
 
 use anyhow::Result;
 use arguments::Task;
 use std::env;
 use std::process::ExitCode;
-use std::rt::{Clock, Files};
+use std::rt::Files;
 
-const USAGE: &str = "usage: oci_bench KIND FILE COUNT [floor | from_slice | to_value | normalize]
-       oci_bench texts FILE COUNT [from_str | parts | scanner]
+const USAGE: &str = "usage: oci_bench KIND FILE COUNT floor | from_slice | to_value | normalize
+       oci_bench texts FILE COUNT from_str | parts | scanner
 KIND: manifest | index | config | artifact | layout | descriptor | error | repositories | tags | reference
 FILE: a document of that kind, or for texts one reference a line
-COUNT: calls in each round; what is printed is the least of all rounds
-With a measure named, its call is made COUNT times and nothing is timed.";
+COUNT: how often the call is made";
 
 /// Does the task that the words ask for.
-fn perform<R: Files + Print + Clock + AllocGlobal>(rt: &R, task: Task<'_>) -> Result<()> {
+fn perform<R: Files + AllocGlobal>(rt: &R, task: Task<'_>) -> Result<()> {
     match task {
         Task::Documents(kind, path, run) => {
             let bytes = inputs::bytes(rt, path)?;
-            documents::measure(rt, kind, bytes.as_slice(), run)
+            documents::perform(rt.alloc(), kind, bytes.as_slice(), run)
         }
         Task::Texts(path, run) => {
             let bytes = inputs::bytes(rt, path)?;
-            references::measure(rt, bytes.as_slice(), run)
+            references::perform(rt.alloc(), bytes.as_slice(), run)
         }
     }
 }

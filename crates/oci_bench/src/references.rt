@@ -1,15 +1,11 @@
-//! The calls that are timed on the text of a reference.
+//! The calls that are made on the text of a reference.
 ghost use Rattle.std.specs.Prelude.{◌≡◌};
 ghost use Rattle.oci_bench.specs.Words.{text_call_of};
 
 use crate::arguments::Run;
-use crate::report::line;
-use crate::timing::{Call, least, repeat};
 use anyhow::Result;
 use oci_reference::{Reference, Scanner, parts};
 use std::alloc::Global;
-use std::num::NonZeroU32;
-use std::time::Clock;
 
 /// A call on the text of a reference.
 #[derive(Clone, Copy)]
@@ -23,9 +19,6 @@ pub enum TextCall {
 }
 
 impl TextCall {
-    /// All calls.
-    const ALL: [TextCall; 3] = [TextCall::Read, TextCall::Parts, TextCall::Scanner];
-
     /// The call that a word names, if there is one.
     pub fn from_word(word: &str) -> Option<TextCall>
         ensures { result ≡ text_call_of word.now }
@@ -39,22 +32,20 @@ impl TextCall {
     }
 }
 
-impl<'a> Call<&'a str> for TextCall {
-    fn name(self) -> &'static str {
-        match self {
-            TextCall::Read => "from_str",
-            TextCall::Parts => "parts",
-            TextCall::Scanner => "scanner",
+/// Makes the call once.
+fn make(alloc: Global, call: TextCall, text: &str) -> Result<()> {
+    match call {
+        TextCall::Read => {
+            let _reference = Reference::from_str(alloc, text)?;
+        }
+        TextCall::Parts => {
+            let _pieces = parts(text)?;
+        }
+        TextCall::Scanner => {
+            let _places = pushed(text)?;
         }
     }
-
-    fn make(self, alloc: Global, text: &&'a str) -> Result<usize> {
-        match self {
-            TextCall::Read => Ok(Reference::from_str(alloc, text)?.registry().len()),
-            TextCall::Parts => Ok(parts(text)?.name.len()),
-            TextCall::Scanner => pushed(text),
-        }
-    }
+    Ok(())
 }
 
 /// Where the name ends, as a scanner tells that is shown the bytes one by one.
@@ -68,31 +59,11 @@ fn pushed(text: &str) -> Result<usize> {
     Ok(scanner.finish()?.name)
 }
 
-/// Times all calls on a text, and prints their lines.
-fn all<R: Clock + Print + AllocGlobal>(rt: &R, text: &str, count: NonZeroU32) -> Result<()> {
-    let calls = TextCall::ALL;
-    let found = least(rt, rt.alloc(), &calls, &text, count)?;
-    let first = found.first().copied().unwrap_or(0);
-    println!(rt; "{} bytes", text.len())?;
-    for (call, nanoseconds) in calls.iter().zip(found.iter()) {
-        let name = Call::<&str>::name(*call);
-        line(rt, name, text.len(), *nanoseconds, first)?;
-    }
-    Ok(())
-}
-
-/// Times the calls on each line of the bytes, and prints their lines; or makes one call alone.
-pub fn measure<R: Clock + Print + AllocGlobal>(
-    rt: &R,
-    bytes: &[u8],
-    run: Run<TextCall>,
-) -> Result<()> {
+/// Makes a call on each line of the bytes.
+pub fn perform(alloc: Global, bytes: &[u8], run: Run<TextCall>) -> Result<()> {
     for text in str::from_utf8(bytes)?.lines() {
-        match run.only {
-            Some(call) => {
-                repeat(rt.alloc(), call, &text, run.count)?;
-            }
-            None => all(rt, text, run.count)?,
+        for _ in 0..run.count {
+            make(alloc, run.call, text)?;
         }
     }
     Ok(())

@@ -1,3 +1,4 @@
+pub mod Display
 pub mod LinuxBlockIo
 pub mod LinuxDeviceCgroup
 pub mod LinuxThrottleDevice

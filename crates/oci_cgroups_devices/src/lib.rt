@@ -1,6 +1,7 @@
 //! What a container may do with devices: which it may use, and how much it may read from them and write to them.
 #![tactic(auto)]
 
+mod display;
 pub mod linux_block_io;
 pub mod linux_device_cgroup;
 pub mod linux_throttle_device;

@@ -1,3 +1,4 @@
+pub mod Display
 pub mod LinuxInterfacePriority
 pub mod LinuxNetwork
 pub mod LinuxRdma

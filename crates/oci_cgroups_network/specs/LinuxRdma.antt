@@ -1,7 +1,6 @@
 -- What a container may use of one device for remote direct memory access (runtime specification, "Linux Container Configuration", "RDMA").
 use Rattle.std.specs.Prelude.{[], ◌∷◌, codes, Option, ℕ}
 use Rattle.std.specs.Borrow.{Lends, MutBor, Fml}
-use Rattle.std.specs.declared.alloc.Global.{Global}
 use Rattle.oci_json_schema.specs.Plain.{Plain, document, slots, empty}
 use Rattle.oci_json_schema.specs.Shape.{Shape, rows, no_rows, listed, optional}
 use Rattle.oci_json_schema.specs.Types.{perhaps, number_plain, u32}

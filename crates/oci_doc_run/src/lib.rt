@@ -6,9 +6,11 @@ pub mod document;
 pub mod kind;
 pub mod program;
 pub mod refusal;
+pub mod streams;
 pub mod text;
 
 pub use command::Command;
 pub use kind::Kind;
 pub use program::run;
 pub use refusal::Refusal;
+pub use streams::run_on_streams;

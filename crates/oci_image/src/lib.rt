@@ -3,9 +3,15 @@
 
 pub mod versions;
 
+pub use oci_image_config::annotations::{
+    ANNOTATION_AUTHORS, ANNOTATION_BASE_IMAGE_DIGEST, ANNOTATION_BASE_IMAGE_NAME,
+    ANNOTATION_CREATED, ANNOTATION_DESCRIPTION, ANNOTATION_DOCUMENTATION, ANNOTATION_LICENSES,
+    ANNOTATION_REF_NAME, ANNOTATION_REVISION, ANNOTATION_SOURCE, ANNOTATION_TITLE, ANNOTATION_URL,
+    ANNOTATION_VENDOR, ANNOTATION_VERSION,
+};
 pub use oci_image_config::{
     Config, ConfigBuilder, History, HistoryBuilder, ImageConfiguration, ImageConfigurationBuilder,
-    RootFs, RootFsBuilder, annotations,
+    LABEL_VERSION, RootFs, RootFsBuilder, annotations,
 };
 pub use oci_image_descriptor::{Descriptor, DescriptorBuilder};
 pub use oci_image_manifest::{

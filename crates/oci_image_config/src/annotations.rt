@@ -41,6 +41,3 @@ pub const ANNOTATION_BASE_IMAGE_DIGEST: &str = "org.opencontainers.image.base.di
 
 /// The reference of the image that this one was built on.
 pub const ANNOTATION_BASE_IMAGE_NAME: &str = "org.opencontainers.image.base.name";
-
-/// An older key for the version of the packaged software.
-pub const LABEL_VERSION: &str = "version";

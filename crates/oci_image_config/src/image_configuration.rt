@@ -9,6 +9,7 @@ use crate::config::Config;
 use crate::history::History;
 use crate::root_fs::RootFs;
 pub use builder::ImageConfigurationBuilder;
+pub use labels::LABEL_VERSION;
 use oci_json_schema::{
     OciMember, OciRecord, all_2, all_5, copy_optional, fault, optional, optional_owned, required,
     required_owned, taken_10, write_optional, write_required,

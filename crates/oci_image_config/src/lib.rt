@@ -9,5 +9,5 @@ pub mod root_fs;
 
 pub use config::{Config, ConfigBuilder};
 pub use history::{History, HistoryBuilder};
-pub use image_configuration::{ImageConfiguration, ImageConfigurationBuilder};
+pub use image_configuration::{ImageConfiguration, ImageConfigurationBuilder, LABEL_VERSION};
 pub use root_fs::{RootFs, RootFsBuilder};

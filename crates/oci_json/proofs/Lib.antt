@@ -1,7 +1,6 @@
 pub mod Canonical
 pub mod Capabilities
 pub mod Depths
-pub mod Erasing
 pub mod MeaningDepth
 pub mod MeaningFits
 pub mod MeaningReadable

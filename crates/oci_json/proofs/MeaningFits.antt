@@ -10,7 +10,7 @@ use Rattle.oci_json_schema.specs.Shape.{Presence, required, defaulted, optional,
 use Rattle.oci_json_schema.specs.Fits.{FitsOpen, Fits, FitsRows}
 use Rattle.oci_json_schema.specs.Means.{opened, IsSetOf, member_names, free_values, get_second, Means, MeansRows}
 use Rattle.oci_json_schema.specs.WellFormed.{WellFormed, AreWellFormed, MemberIsWellFormed}
-use Rattle.oci_json.proofs.Erasing.{erased_free_values}
+use Rattle.oci_json_free.proofs.Erasing.{erased_free_values}
 use Rattle.oci_json.proofs.Meanings.{MayBe, may_be, allowed, of_member, any_items, any_members, IsAny, IfDefault, each_meant, each_entry_meant, either_meant, got_of, second_of}
 
 -- by whether the text is listed

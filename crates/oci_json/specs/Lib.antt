@@ -4,6 +4,8 @@ pub mod Details
 pub mod Examples
 pub mod Readable
 pub use Rattle.oci_json_engines.specs.Engines
+pub use Rattle.oci_json_free.specs.Alike
+pub use Rattle.oci_json_free.specs.FreeValues
 pub use Rattle.oci_json_kinds.specs.DefaultMembers
 pub use Rattle.oci_json_kinds.specs.Keys
 pub use Rattle.oci_json_schema.specs.Built

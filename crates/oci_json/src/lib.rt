@@ -7,6 +7,7 @@ pub use oci_json_engines::{
     from_file, from_reader, from_slice, normalize, to_file, to_file_pretty, to_string,
     to_string_pretty, to_writer, to_writer_pretty,
 };
+pub use oci_json_free::{FreeValues, equal_optional_values, equal_trees, equal_values};
 pub use oci_json_kinds::{
     Detail, Keys, OciDefault, OciKind, copy_optional_as, defaulted, nullable, optional_as,
     optional_as_owned, unless_empty, write_nullable, write_optional_as, write_unless_empty,

@@ -1,3 +1,11 @@
 pub use Rattle.oci_text_base.specs.Names
 pub mod LinuxDeviceType
+pub mod LinuxNamespaceType
+pub mod LinuxPersonalityDomain
+pub mod LinuxSeccompAction
+pub mod LinuxSeccompFilterFlag
+pub mod LinuxSeccompOperator
+pub mod MemoryPolicyFlagType
+pub mod MemoryPolicyModeType
 pub mod SArch
+pub mod SeccompNumbers

@@ -21,6 +21,10 @@ all_linux_device_type = A ∷ B ∷ C ∷ U ∷ P ∷ []
 abbrev pub linux_device_type_table : List (List ℕ)
 linux_device_type_table = map linux_device_type_name all_linux_device_type
 
+-- the default
+abbrev pub linux_device_type_default : LinuxDeviceType
+linux_device_type_default = A
+
 -- a text leads back to its variant
 pub linux_device_type_back : (x : LinuxDeviceType) → variant_of linux_device_type_name all_linux_device_type (linux_device_type_name x) ≡ Some x
 linux_device_type_back A = refl

@@ -6,3 +6,7 @@ pub mod Parts
 pub mod Record
 pub mod Whole
 pub mod Written
+pub use Rattle.oci_reference_scan.specs.Pieces
+pub use Rattle.oci_reference_scan.specs.Reference
+pub use Rattle.oci_reference_scan.specs.Scanner
+pub use Rattle.oci_text_base.specs.Classes

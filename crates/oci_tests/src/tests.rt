@@ -3,10 +3,10 @@ use std::alloc::Global;
 use std::fmt::Debug;
 use std::process::Abort;
 
-mod control_groups;
 mod distribution;
 mod engines;
 mod errors;
+mod image;
 mod program;
 mod references;
 mod streams;

@@ -8,5 +8,6 @@ pub mod NamedMediaTypes
 pub mod NamedSystems
 pub mod OpenMembers
 pub mod Opened
+pub mod Places
 pub mod Refusals
 pub mod ShaDigests

@@ -1,8 +1,10 @@
 //! The architectures of a platform (image specification, "Image Index", `architecture`: the values of `GOARCH`).
-ghost use Rattle.std.specs.Prelude.{◌≡◌, IfOk, IfErr, IfSome, IfNone, string_bytes};
+ghost use Rattle.std.specs.Prelude.{◌≡◌, IfOk, IfErr, IfSome, IfNone, string_bytes, Some, None, false};
+ghost use Rattle.std.specs.List.{slice_get};
 ghost use Rattle.oci_text_base.specs.Names.{other, opened, is_other, name_text};
 ghost use Rattle.oci_text.specs.Arch.{arch_name, arches};
 
+use crate::place::place;
 use oci_json_schema::OciMember;
 use oci_json_schema::fault::refused;
 use oci_json_schema::owned::into_text;
@@ -14,12 +16,11 @@ use std::fmt;
 /// An architecture (image specification, "Image Index", `platform.architecture`): one of the values that Go lists for
 /// `GOARCH`, or any other text. A variant for which no text is named here has its own name in lowercase.
 /// The default is `Amd64`, on any machine.
-#[derive(Debug, Default, Drop)]
+#[derive(Debug, Drop)]
 pub enum Arch {
     /// 32-bit x86: `386`.
     i386,
     /// 64-bit x86.
-    #[default]
     Amd64,
     /// 64-bit x86 with 32-bit pointers.
     Amd64p32,
@@ -67,6 +68,45 @@ pub enum Arch {
     Wasm,
     /// Any other text.
     Other(String),
+}
+
+/// The texts of the variants, in their order.
+static TEXTS: [&str; 24] = [
+    "386",
+    "amd64",
+    "amd64p32",
+    "arm",
+    "armbe",
+    "arm64",
+    "arm64be",
+    "loong64",
+    "mips",
+    "mipsle",
+    "mips64",
+    "mips64le",
+    "mips64p32",
+    "mips64p32le",
+    "ppc",
+    "ppc64",
+    "ppc64le",
+    "riscv",
+    "riscv64",
+    "s390",
+    "s390x",
+    "sparc",
+    "sparc64",
+    "wasm",
+];
+
+impl Default for Arch {
+    ghost use Rattle.std.specs.Prelude.{codes};
+    ghost use Rattle.oci_text_base.specs.Names.{variant};
+
+    ghost is_default = { λ m. arch_name m ≡ variant (codes "amd64") };
+
+    fn default() -> Arch {
+        Arch::Amd64
+    }
 }
 
 impl PartialEq for Arch {
@@ -126,35 +166,48 @@ impl Arch {
     }
 
     // the variant of a listed text
+    #[tactic(auto, using(crate::proofs::Opened::named_at, crate::proofs::Opened::none_at))]
     fn known(text: &str) -> Option<Arch>
         ensures some { IfSome result (λ m. arch_name m ≡ opened arches text.now) }
         ensures none { IfNone result (other text.now ≡ opened arches text.now) }
     {
-        match text {
-            "386" => Some(Arch::i386),
-            "amd64" => Some(Arch::Amd64),
-            "amd64p32" => Some(Arch::Amd64p32),
-            "arm" => Some(Arch::ARM),
-            "armbe" => Some(Arch::ARMbe),
-            "arm64" => Some(Arch::ARM64),
-            "arm64be" => Some(Arch::ARM64be),
-            "loong64" => Some(Arch::LoongArch64),
-            "mips" => Some(Arch::Mips),
-            "mipsle" => Some(Arch::Mipsle),
-            "mips64" => Some(Arch::Mips64),
-            "mips64le" => Some(Arch::Mips64le),
-            "mips64p32" => Some(Arch::Mips64p32),
-            "mips64p32le" => Some(Arch::Mips64p32le),
-            "ppc" => Some(Arch::PowerPC),
-            "ppc64" => Some(Arch::PowerPC64),
-            "ppc64le" => Some(Arch::PowerPC64le),
-            "riscv" => Some(Arch::RISCV),
-            "riscv64" => Some(Arch::RISCV64),
-            "s390" => Some(Arch::s390),
-            "s390x" => Some(Arch::s390x),
-            "sparc" => Some(Arch::SPARC),
-            "sparc64" => Some(Arch::SPARC64),
-            "wasm" => Some(Arch::Wasm),
+        match place(text, &TEXTS) {
+            Some(place) => Arch::at(place),
+            None => None,
+        }
+    }
+
+    // the variant whose text stands at this place of the table
+    fn at(place: usize) -> Option<Arch>
+        ensures some { IfSome result (λ m. slice_get arches place ≡ Some (name_text (arch_name m))) }
+        ensures named { IfSome result (λ m. is_other (arch_name m) ≡ false) }
+        ensures none { IfNone result (slice_get arches place ≡ None) }
+    {
+        match place {
+            0 => Some(Arch::i386),
+            1 => Some(Arch::Amd64),
+            2 => Some(Arch::Amd64p32),
+            3 => Some(Arch::ARM),
+            4 => Some(Arch::ARMbe),
+            5 => Some(Arch::ARM64),
+            6 => Some(Arch::ARM64be),
+            7 => Some(Arch::LoongArch64),
+            8 => Some(Arch::Mips),
+            9 => Some(Arch::Mipsle),
+            10 => Some(Arch::Mips64),
+            11 => Some(Arch::Mips64le),
+            12 => Some(Arch::Mips64p32),
+            13 => Some(Arch::Mips64p32le),
+            14 => Some(Arch::PowerPC),
+            15 => Some(Arch::PowerPC64),
+            16 => Some(Arch::PowerPC64le),
+            17 => Some(Arch::RISCV),
+            18 => Some(Arch::RISCV64),
+            19 => Some(Arch::s390),
+            20 => Some(Arch::s390x),
+            21 => Some(Arch::SPARC),
+            22 => Some(Arch::SPARC64),
+            23 => Some(Arch::Wasm),
             _ => None,
         }
     }

@@ -5,14 +5,14 @@ ghost use Rattle.oci_text.specs.declared.error_code.ErrorCode.{ErrorCode};
 
 use oci_json_schema::OciMember;
 use oci_text_base::{Result, UnknownName};
-use oci_text_closed::{JsonName, read_name, write_name};
+use oci_text_closed::{ClosedName, JsonName, read_name, write_name};
 use serde_json::Value;
 use std::alloc::Global;
 use std::fmt;
 
 /// The code of a registry's error (distribution specification, "Error Codes"). In JSON the last one is `TOOMANYREQUESTS`;
 /// `Display` and `from_str` have `TOO_MANY_REQUESTS`.
-#[derive(Clone, Debug, PartialEq, Eq, Drop)]
+#[derive(Clone, Copy, Debug, PartialEq, Eq)]
 pub enum ErrorCode {
     /// The blob is not known to the registry.
     BlobUnknown,
@@ -43,6 +43,40 @@ pub enum ErrorCode {
     /// Too many requests were made.
     TooManyRequests,
 }
+
+static ALL: [ErrorCode; 14] = [
+    ErrorCode::BlobUnknown,
+    ErrorCode::BlobUploadInvalid,
+    ErrorCode::BlobUploadUnknown,
+    ErrorCode::DigestInvalid,
+    ErrorCode::ManifestBlobUnknown,
+    ErrorCode::ManifestInvalid,
+    ErrorCode::ManifestUnknown,
+    ErrorCode::NameInvalid,
+    ErrorCode::NameUnknown,
+    ErrorCode::SizeInvalid,
+    ErrorCode::Unauthorized,
+    ErrorCode::Denied,
+    ErrorCode::Unsupported,
+    ErrorCode::TooManyRequests,
+];
+
+static NAMES: [&str; 14] = [
+    "BLOB_UNKNOWN",
+    "BLOB_UPLOAD_INVALID",
+    "BLOB_UPLOAD_UNKNOWN",
+    "DIGEST_INVALID",
+    "MANIFEST_BLOB_UNKNOWN",
+    "MANIFEST_INVALID",
+    "MANIFEST_UNKNOWN",
+    "NAME_INVALID",
+    "NAME_UNKNOWN",
+    "SIZE_INVALID",
+    "UNAUTHORIZED",
+    "DENIED",
+    "UNSUPPORTED",
+    "TOOMANYREQUESTS",
+];
 
 impl fmt::Display for ErrorCode {
     ghost use Rattle.std.specs.Prelude.{Some};
@@ -75,56 +109,24 @@ impl ErrorCode {
     }
 }
 
-impl JsonName for ErrorCode {
-    ghost use Rattle.oci_text.specs.ErrorCode.{all_error_codes, error_code_back, error_code_name, error_codes, error_code_same};
-    ghost use Rattle.oci_text_closed.specs.Variants.{listed};
+impl ClosedName for ErrorCode {
+    ghost use Rattle.oci_text.specs.ErrorCode.{all_error_codes, error_code_back, error_code_name, error_code_same};
 
-    ghost table = { error_codes };
+    ghost values = { all_error_codes };
 
-    ghost name = { error_code_name };
+    ghost text_of = { error_code_name };
 
-    fn from_json_name(text: &str) -> Option<ErrorCode> {
-        match text {
-            "BLOB_UNKNOWN" => Some(ErrorCode::BlobUnknown),
-            "BLOB_UPLOAD_INVALID" => Some(ErrorCode::BlobUploadInvalid),
-            "BLOB_UPLOAD_UNKNOWN" => Some(ErrorCode::BlobUploadUnknown),
-            "DIGEST_INVALID" => Some(ErrorCode::DigestInvalid),
-            "MANIFEST_BLOB_UNKNOWN" => Some(ErrorCode::ManifestBlobUnknown),
-            "MANIFEST_INVALID" => Some(ErrorCode::ManifestInvalid),
-            "MANIFEST_UNKNOWN" => Some(ErrorCode::ManifestUnknown),
-            "NAME_INVALID" => Some(ErrorCode::NameInvalid),
-            "NAME_UNKNOWN" => Some(ErrorCode::NameUnknown),
-            "SIZE_INVALID" => Some(ErrorCode::SizeInvalid),
-            "UNAUTHORIZED" => Some(ErrorCode::Unauthorized),
-            "DENIED" => Some(ErrorCode::Denied),
-            "UNSUPPORTED" => Some(ErrorCode::Unsupported),
-            "TOOMANYREQUESTS" => Some(ErrorCode::TooManyRequests),
-            _ => None,
-        }
+    fn all() -> &'static [ErrorCode] {
+        &ALL
     }
 
-    fn json_name(&self) -> &'static str {
-        match self {
-            ErrorCode::BlobUnknown => "BLOB_UNKNOWN",
-            ErrorCode::BlobUploadInvalid => "BLOB_UPLOAD_INVALID",
-            ErrorCode::BlobUploadUnknown => "BLOB_UPLOAD_UNKNOWN",
-            ErrorCode::DigestInvalid => "DIGEST_INVALID",
-            ErrorCode::ManifestBlobUnknown => "MANIFEST_BLOB_UNKNOWN",
-            ErrorCode::ManifestInvalid => "MANIFEST_INVALID",
-            ErrorCode::ManifestUnknown => "MANIFEST_UNKNOWN",
-            ErrorCode::NameInvalid => "NAME_INVALID",
-            ErrorCode::NameUnknown => "NAME_UNKNOWN",
-            ErrorCode::SizeInvalid => "SIZE_INVALID",
-            ErrorCode::Unauthorized => "UNAUTHORIZED",
-            ErrorCode::Denied => "DENIED",
-            ErrorCode::Unsupported => "UNSUPPORTED",
-            ErrorCode::TooManyRequests => "TOOMANYREQUESTS",
-        }
+    fn text(&self) -> &'static str {
+        NAMES[*self as usize]
     }
 
-    ghost listed = { listed error_code_name all_error_codes error_code_back };
+    ghost back = { error_code_back };
 
-    ghost same = { error_code_same };
+    ghost told = { error_code_same };
 }
 
 impl OciMember for ErrorCode {
@@ -146,7 +148,7 @@ impl OciMember for ErrorCode {
     }
 
     fn copy(&self, _alloc: Global) -> Result<ErrorCode> {
-        Ok(self.clone()?)
+        Ok(*self)
     }
 
     ghost well_formed = { refl };

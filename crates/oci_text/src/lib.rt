@@ -10,6 +10,7 @@ mod fault;
 pub mod laws;
 pub mod media_type;
 pub mod os;
+mod place;
 pub mod sha256_digest;
 
 pub use arch::Arch;

@@ -1,8 +1,10 @@
 //! The media types (image specification, "Media Types").
-ghost use Rattle.std.specs.Prelude.{◌≡◌, ℕ, List, IfOk, IfErr, IfSome, IfNone, Option, Some, None, string_bytes};
+ghost use Rattle.std.specs.Prelude.{◌≡◌, ℕ, List, IfOk, IfErr, IfSome, IfNone, Option, Some, None, string_bytes, false};
+ghost use Rattle.std.specs.List.{slice_get};
 ghost use Rattle.oci_text_base.specs.Names.{other, opened, is_other, name_text};
 ghost use Rattle.oci_text.specs.MediaType.{media_type_name, media_types, docker_name};
 
+use crate::place::place;
 use oci_json_schema::OciMember;
 use oci_json_schema::fault::refused;
 use oci_json_schema::owned::into_text;
@@ -43,6 +45,23 @@ pub enum MediaType {
     /// Any other text.
     Other(String),
 }
+
+/// The texts of the variants, in their order.
+static TEXTS: [&str; 13] = [
+    "application/vnd.oci.descriptor",
+    "application/vnd.oci.layout.header.v1+json",
+    "application/vnd.oci.image.manifest.v1+json",
+    "application/vnd.oci.image.index.v1+json",
+    "application/vnd.oci.image.layer.v1.tar",
+    "application/vnd.oci.image.layer.v1.tar+gzip",
+    "application/vnd.oci.image.layer.v1.tar+zstd",
+    "application/vnd.oci.image.layer.nondistributable.v1.tar",
+    "application/vnd.oci.image.layer.nondistributable.v1.tar+gzip",
+    "application/vnd.oci.image.layer.nondistributable.v1.tar+zstd",
+    "application/vnd.oci.image.config.v1+json",
+    "application/vnd.oci.artifact.manifest.v1+json",
+    "application/vnd.oci.empty.v1+json",
+];
 
 impl PartialEq for MediaType {
     ghost use Rattle.std.specs.Cmp.{on_per, partial_equiv_from_equiv};
@@ -101,30 +120,37 @@ impl MediaType {
     }
 
     // the variant of a listed text
+    #[tactic(auto, using(crate::proofs::Opened::named_at, crate::proofs::Opened::none_at))]
     fn known(text: &str) -> Option<MediaType>
         ensures some { IfSome result (λ m. media_type_name m ≡ opened media_types text.now) }
         ensures none { IfNone result (other text.now ≡ opened media_types text.now) }
     {
-        match text {
-            "application/vnd.oci.descriptor" => Some(MediaType::Descriptor),
-            "application/vnd.oci.layout.header.v1+json" => Some(MediaType::LayoutHeader),
-            "application/vnd.oci.image.manifest.v1+json" => Some(MediaType::ImageManifest),
-            "application/vnd.oci.image.index.v1+json" => Some(MediaType::ImageIndex),
-            "application/vnd.oci.image.layer.v1.tar" => Some(MediaType::ImageLayer),
-            "application/vnd.oci.image.layer.v1.tar+gzip" => Some(MediaType::ImageLayerGzip),
-            "application/vnd.oci.image.layer.v1.tar+zstd" => Some(MediaType::ImageLayerZstd),
-            "application/vnd.oci.image.layer.nondistributable.v1.tar" => {
-                Some(MediaType::ImageLayerNonDistributable)
-            }
-            "application/vnd.oci.image.layer.nondistributable.v1.tar+gzip" => {
-                Some(MediaType::ImageLayerNonDistributableGzip)
-            }
-            "application/vnd.oci.image.layer.nondistributable.v1.tar+zstd" => {
-                Some(MediaType::ImageLayerNonDistributableZstd)
-            }
-            "application/vnd.oci.image.config.v1+json" => Some(MediaType::ImageConfig),
-            "application/vnd.oci.artifact.manifest.v1+json" => Some(MediaType::ArtifactManifest),
-            "application/vnd.oci.empty.v1+json" => Some(MediaType::EmptyJSON),
+        match place(text, &TEXTS) {
+            Some(place) => MediaType::at(place),
+            None => None,
+        }
+    }
+
+    // the variant whose text stands at this place of the table
+    fn at(place: usize) -> Option<MediaType>
+        ensures some { IfSome result (λ m. slice_get media_types place ≡ Some (name_text (media_type_name m))) }
+        ensures named { IfSome result (λ m. is_other (media_type_name m) ≡ false) }
+        ensures none { IfNone result (slice_get media_types place ≡ None) }
+    {
+        match place {
+            0 => Some(MediaType::Descriptor),
+            1 => Some(MediaType::LayoutHeader),
+            2 => Some(MediaType::ImageManifest),
+            3 => Some(MediaType::ImageIndex),
+            4 => Some(MediaType::ImageLayer),
+            5 => Some(MediaType::ImageLayerGzip),
+            6 => Some(MediaType::ImageLayerZstd),
+            7 => Some(MediaType::ImageLayerNonDistributable),
+            8 => Some(MediaType::ImageLayerNonDistributableGzip),
+            9 => Some(MediaType::ImageLayerNonDistributableZstd),
+            10 => Some(MediaType::ImageConfig),
+            11 => Some(MediaType::ArtifactManifest),
+            12 => Some(MediaType::EmptyJSON),
             _ => None,
         }
     }

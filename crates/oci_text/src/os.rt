@@ -1,8 +1,10 @@
 //! The operating systems of a platform (image specification, "Image Index", `os`: the values of `GOOS`).
-ghost use Rattle.std.specs.Prelude.{◌≡◌, IfOk, IfErr, IfSome, IfNone, string_bytes};
+ghost use Rattle.std.specs.Prelude.{◌≡◌, IfOk, IfErr, IfSome, IfNone, string_bytes, Some, None, false};
+ghost use Rattle.std.specs.List.{slice_get};
 ghost use Rattle.oci_text_base.specs.Names.{other, opened, is_other, name_text};
 ghost use Rattle.oci_text.specs.Os.{os_name, oses};
 
+use crate::place::place;
 use oci_json_schema::OciMember;
 use oci_json_schema::fault::refused;
 use oci_json_schema::owned::into_text;
@@ -13,7 +15,7 @@ use std::fmt;
 
 /// An operating system (image specification, "Image Index", `platform.os`): one of the values that Go lists for `GOOS`, in
 /// lowercase, or any other text. The default is `Linux`, on any machine.
-#[derive(Debug, Default, Drop)]
+#[derive(Debug, Drop)]
 pub enum Os {
     AIX,
     Android,
@@ -25,7 +27,6 @@ pub enum Os {
     Illumos,
     iOS,
     Js,
-    #[default]
     Linux,
     Nacl,
     NetBSD,
@@ -36,6 +37,38 @@ pub enum Os {
     zOS,
     /// Any other text.
     Other(String),
+}
+
+/// The texts of the variants, in their order.
+static TEXTS: [&str; 17] = [
+    "aix",
+    "android",
+    "darwin",
+    "dragonfly",
+    "freebsd",
+    "hurd",
+    "illumos",
+    "ios",
+    "js",
+    "linux",
+    "nacl",
+    "netbsd",
+    "openbsd",
+    "plan9",
+    "solaris",
+    "windows",
+    "zos",
+];
+
+impl Default for Os {
+    ghost use Rattle.std.specs.Prelude.{codes};
+    ghost use Rattle.oci_text_base.specs.Names.{variant};
+
+    ghost is_default = { λ m. os_name m ≡ variant (codes "linux") };
+
+    fn default() -> Os {
+        Os::Linux
+    }
 }
 
 impl PartialEq for Os {
@@ -95,28 +128,41 @@ impl Os {
     }
 
     // the variant of a listed text
+    #[tactic(auto, using(crate::proofs::Opened::named_at, crate::proofs::Opened::none_at))]
     fn known(text: &str) -> Option<Os>
         ensures some { IfSome result (λ m. os_name m ≡ opened oses text.now) }
         ensures none { IfNone result (other text.now ≡ opened oses text.now) }
     {
-        match text {
-            "aix" => Some(Os::AIX),
-            "android" => Some(Os::Android),
-            "darwin" => Some(Os::Darwin),
-            "dragonfly" => Some(Os::DragonFlyBSD),
-            "freebsd" => Some(Os::FreeBSD),
-            "hurd" => Some(Os::Hurd),
-            "illumos" => Some(Os::Illumos),
-            "ios" => Some(Os::iOS),
-            "js" => Some(Os::Js),
-            "linux" => Some(Os::Linux),
-            "nacl" => Some(Os::Nacl),
-            "netbsd" => Some(Os::NetBSD),
-            "openbsd" => Some(Os::OpenBSD),
-            "plan9" => Some(Os::Plan9),
-            "solaris" => Some(Os::Solaris),
-            "windows" => Some(Os::Windows),
-            "zos" => Some(Os::zOS),
+        match place(text, &TEXTS) {
+            Some(place) => Os::at(place),
+            None => None,
+        }
+    }
+
+    // the variant whose text stands at this place of the table
+    fn at(place: usize) -> Option<Os>
+        ensures some { IfSome result (λ m. slice_get oses place ≡ Some (name_text (os_name m))) }
+        ensures named { IfSome result (λ m. is_other (os_name m) ≡ false) }
+        ensures none { IfNone result (slice_get oses place ≡ None) }
+    {
+        match place {
+            0 => Some(Os::AIX),
+            1 => Some(Os::Android),
+            2 => Some(Os::Darwin),
+            3 => Some(Os::DragonFlyBSD),
+            4 => Some(Os::FreeBSD),
+            5 => Some(Os::Hurd),
+            6 => Some(Os::Illumos),
+            7 => Some(Os::iOS),
+            8 => Some(Os::Js),
+            9 => Some(Os::Linux),
+            10 => Some(Os::Nacl),
+            11 => Some(Os::NetBSD),
+            12 => Some(Os::OpenBSD),
+            13 => Some(Os::Plan9),
+            14 => Some(Os::Solaris),
+            15 => Some(Os::Windows),
+            16 => Some(Os::zOS),
             _ => None,
         }
     }

@@ -42,7 +42,7 @@ pub enum SerDeError {
 /// Where the schema was broken: the innermost record, by its type's name, and the member that was refused.
 /// The member is empty where the whole document was refused.
 #[derive(Clone, Copy, Debug, PartialEq, Eq, Error)]
-#[error("{owner}: {member} is not allowed")]
+#[error("{owner}{}{member}: not allowed here", if .member.is_empty() {""} else {"."})]
 pub struct SchemaFault {
     pub owner: &'static str,
     pub member: &'static str,

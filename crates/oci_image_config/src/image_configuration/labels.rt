@@ -2,8 +2,11 @@
 ghost use Rattle.std.specs.Prelude.{◌≡◌};
 
 use super::ImageConfiguration;
-use crate::annotations::{ANNOTATION_VERSION, LABEL_VERSION};
+use crate::annotations::ANNOTATION_VERSION;
 use std::collections::BTreeMap;
+
+/// An older key for the version of the packaged software.
+pub const LABEL_VERSION: &str = "version";
 
 impl ImageConfiguration {
     ghost use Rattle.std.specs.Prelude.{option_map};

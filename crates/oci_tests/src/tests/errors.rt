@@ -71,11 +71,16 @@ fn of_calls(rt: HostRuntime) {
 #[test]
 fn of_documents(rt: HostRuntime) {
     let alloc = rt.alloc();
+    let whole = SchemaFault {
+        owner: "Descriptor",
+        member: "",
+    };
+    check_shown(&rt, alloc, &whole, "Descriptor: not allowed here");
     let fault = SchemaFault {
         owner: "Descriptor",
         member: "size",
     };
-    check_shown(&rt, alloc, &fault, "Descriptor: size is not allowed");
+    check_shown(&rt, alloc, &fault, "Descriptor.size: not allowed here");
     let fault = SerDeError::Schema(fault);
     check_error(&rt, alloc, OciSpecError::SerDe(fault), "serde failed");
     let unset = UninitializedFieldError::new("size");

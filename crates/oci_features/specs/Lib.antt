@@ -1,0 +1,11 @@
+pub mod Features
+pub mod LinuxFeature
+pub use Rattle.oci_features_linux.specs.Apparmor
+pub use Rattle.oci_features_linux.specs.Cgroup
+pub use Rattle.oci_features_linux.specs.IDMap
+pub use Rattle.oci_features_linux.specs.IntelRdt
+pub use Rattle.oci_features_linux.specs.MemoryPolicy
+pub use Rattle.oci_features_linux.specs.MountExtensions
+pub use Rattle.oci_features_linux.specs.NetDevices
+pub use Rattle.oci_features_linux.specs.Seccomp
+pub use Rattle.oci_features_linux.specs.Selinux

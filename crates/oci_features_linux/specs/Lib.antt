@@ -1,0 +1,9 @@
+pub mod Apparmor
+pub mod Cgroup
+pub mod IDMap
+pub mod IntelRdt
+pub mod MemoryPolicy
+pub mod MountExtensions
+pub mod NetDevices
+pub mod Seccomp
+pub mod Selinux

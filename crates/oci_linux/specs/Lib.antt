@@ -1,0 +1,17 @@
+pub mod DefaultResources
+pub mod Linux
+pub mod Rootless
+pub use Rattle.oci_linux_namespaces.specs.Defaults
+pub use Rattle.oci_linux_namespaces.specs.DeviceRule
+pub use Rattle.oci_linux_namespaces.specs.LinuxDevice
+pub use Rattle.oci_linux_namespaces.specs.LinuxIdMapping
+pub use Rattle.oci_linux_namespaces.specs.LinuxNamespace
+pub use Rattle.oci_linux_namespaces.specs.LinuxNetDevice
+pub use Rattle.oci_linux_namespaces.specs.LinuxTimeOffset
+pub use Rattle.oci_linux_policies.specs.LinuxIntelRdt
+pub use Rattle.oci_linux_policies.specs.LinuxMemoryPolicy
+pub use Rattle.oci_linux_policies.specs.LinuxMemoryPolicyBuilder
+pub use Rattle.oci_linux_policies.specs.LinuxPersonality
+pub use Rattle.oci_linux_policies.specs.LinuxSeccomp
+pub use Rattle.oci_linux_policies.specs.LinuxSeccompArg
+pub use Rattle.oci_linux_policies.specs.LinuxSyscall

@@ -1,0 +1,7 @@
+pub mod Defaults
+pub mod DeviceRule
+pub mod LinuxDevice
+pub mod LinuxIdMapping
+pub mod LinuxNamespace
+pub mod LinuxNetDevice
+pub mod LinuxTimeOffset

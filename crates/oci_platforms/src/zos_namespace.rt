@@ -1,0 +1,172 @@
+//! A namespace that a z/OS container has of its own or joins (runtime specification, `config-zos.md`, "Namespaces").
+ghost use Rattle.std.specs.Prelude.{◌≡◌, IfOk, IfErr};
+
+use crate::zos_namespace_type::ZOSNamespaceType;
+use oci_json_schema::{
+    OciRecord, all_2, copy_optional, fault, optional, required, write_optional, write_required,
+};
+use oci_text_base::{OciSpecError, Result};
+use serde_json::{Map, Value};
+use std::alloc::Global;
+
+const NAME: &str = "ZOSNamespace";
+
+/// A namespace that a z/OS container has of its own or joins (runtime specification, `config-zos.md`, "Namespaces").
+#[derive(Debug, PartialEq, Eq)]
+pub struct ZOSNamespace {
+    typ: ZOSNamespaceType,
+    path: Option<String>,
+}
+
+impl Drop for ZOSNamespace {
+    fn drop(self) {
+        let ZOSNamespace { typ, path } = self;
+    }
+}
+
+impl ZOSNamespace {
+    ghost use Rattle.oci_platforms.specs.ZOSNamespace.{default_zos_namespace, zos_namespace_plain};
+
+    /// An equal document.
+    pub fn clone(&self, alloc: Global) -> Result<ZOSNamespace>
+        ensures ok { IfOk result (λ x. zos_namespace_plain x ≡ zos_namespace_plain self.now) }
+        ensures err { IfErr result (λ e. e ≡ OciSpecError.Memory) }
+    {
+        self.duplicate(alloc)
+    }
+
+    /// The default document.
+    pub fn try_default(_alloc: Global) -> Result<ZOSNamespace>
+        ensures ok { IfOk result (λ x. zos_namespace_plain x ≡ default_zos_namespace) }
+        ensures err { IfErr result (λ e. e ≡ OciSpecError.Memory) }
+    {
+        Ok(ZOSNamespace {
+            typ: ZOSNamespaceType::default(),
+            path: None,
+        })
+    }
+
+    /// The kind of namespace.
+    pub fn typ(&self) -> ZOSNamespaceType
+        ensures { result ≡ self.now.typ }
+    {
+        self.typ
+    }
+
+    /// Sets `typ` alone.
+    pub fn set_typ(&mut self, typ: ZOSNamespaceType) -> &mut Self
+        ensures set { result.now ≡ record self.old { typ = typ } }
+        ensures same { result.ghost_name ≡ self.entry.ghost_name }
+    {
+        self.typ = typ;
+        self
+    }
+
+    /// The file of the namespace to join, an absolute path; a new namespace is made where none is given.
+    pub fn path(&self) -> &Option<String>
+        ensures { result.now ≡ self.now.path }
+    {
+        &self.path
+    }
+
+    /// Sets `path` alone.
+    pub fn set_path(&mut self, path: Option<String>) -> &mut Self
+        ensures set { result.now ≡ record self.old { path = path } }
+        ensures same { result.ghost_name ≡ self.entry.ghost_name }
+    {
+        self.path = path;
+        self
+    }
+}
+
+impl OciRecord for ZOSNamespace {
+    ghost use Rattle.oci_platforms.specs.ZOSNamespaceType.{zos_namespace_type_same};
+    ghost use Rattle.oci_json_schema.specs.Same.{same_document, same_more, same_last, same_given, same_perhaps, same_texts, same_variants};
+    ghost use Rattle.oci_platforms.specs.ZOSNamespace.{zos_namespace, zos_namespace_plain};
+
+    ghost shape = { zos_namespace };
+
+    ghost plain = { zos_namespace_plain };
+
+    #[tactic(auto, using(oci_json_schema::proofs::Readers::refuses_others))]
+    fn from_value(alloc: Global, value: &Value) -> Result<ZOSNamespace> {
+        if !value.is_object() {
+            return Err(fault::refused(NAME, ""));
+        }
+        let (typ, path) = all_2(
+            required(alloc, value, NAME, "type"),
+            optional(alloc, value, NAME, "path"),
+        )?;
+        Ok(ZOSNamespace { typ, path })
+    }
+
+    fn to_value(&self, alloc: Global) -> Result<Value> {
+        let mut members = Map::new(alloc);
+        all_2(
+            write_required(&mut members, alloc, "type", &self.typ),
+            write_optional(&mut members, alloc, "path", &self.path),
+        )?;
+        Ok(Value::Object(members))
+    }
+
+    fn duplicate(&self, alloc: Global) -> Result<ZOSNamespace> {
+        Ok(ZOSNamespace {
+            typ: self.typ,
+            path: copy_optional(&self.path, alloc)?,
+        })
+    }
+
+    ghost well_formed = { Prim.search };
+
+    ghost same = { λ x y. same_document (
+        same_more (same_given (same_variants zos_namespace_type_same) x.typ y.typ) (
+        same_last (same_perhaps same_texts x.path y.path))) };
+}
+
+/// Puts a `ZOSNamespace` together.
+#[derive(Default, Drop)]
+pub struct ZOSNamespaceBuilder {
+    typ: Option<ZOSNamespaceType>,
+    path: Option<String>,
+}
+
+impl ZOSNamespaceBuilder {
+    ghost use Rattle.std.specs.Prelude.{Some, unwrap_or, option_map};
+    ghost use Rattle.oci_json_schema.specs.Plain as plain;
+    ghost use Rattle.oci_json_schema.specs.Types.{variant_plain};
+    ghost use Rattle.oci_platforms.specs.ZOSNamespaceType.{zos_namespace_type_name, zos_namespace_type_default};
+
+    /// The kind of namespace.
+    pub fn typ(self, typ: ZOSNamespaceType) -> Self
+        ensures { result ≡ record self { typ = Some typ } }
+    {
+        ZOSNamespaceBuilder {
+            typ: Some(typ),
+            ..self
+        }
+    }
+
+    /// The file of the namespace to join, an absolute path; a new namespace is made where none is given.
+    pub fn path(self, path: String) -> Self
+        ensures { result ≡ record self { path = Some path } }
+    {
+        ZOSNamespaceBuilder {
+            path: Some(path),
+            ..self
+        }
+    }
+
+    /// The document of the fields that were set; the others have their defaults.
+    pub fn build(self, _alloc: Global) -> Result<ZOSNamespace>
+        ensures typ { IfOk result (λ x. (variant_plain zos_namespace_type_name) x.typ ≡ unwrap_or (option_map (variant_plain zos_namespace_type_name) self.typ) (plain.variant (zos_namespace_type_name zos_namespace_type_default))) }
+        ensures path { IfOk result (λ x. x.path ≡ self.path) }
+        ensures err { IfErr result (λ e. e ≡ OciSpecError.Memory) }
+    {
+        let ZOSNamespaceBuilder { typ, path } = self;
+        let typ = match typ {
+            Some(typ) => typ,
+            None => ZOSNamespaceType::default(),
+        };
+        Ok(ZOSNamespace { typ, path })
+    }
+}

@@ -1,0 +1,24 @@
+-- Why the answers of many calls put together are refused: because one of them is.
+use Rattle.std.proofs.Common.{◌≡◌, Ok, Err, subst, inl, inr}
+use Rattle.std.specs.Prelude.{◌⊎◌}
+use Rattle.std.specs.Result.{IfErr, IsOk}
+use Rattle.oci_text_base.specs.Refused.{IsSchema}
+use Rattle.oci_text_base.specs.declared.error.OciSpecError.{OciSpecError}
+use Rattle.oci_json_schema.proofs.Together.{Answer}
+
+-- what refuses a part refuses the whole
+pub weaker : {T : Type 0} (r : Answer T) (whole part : Type 0) → IfErr r (λ e. IsSchema e → ¬ part) → (whole → part) → IfErr r (λ e. IsSchema e → ¬ whole)
+weaker (Ok x) whole part told f = tt
+weaker (Err e) whole part told f = λ h w. told h (f w)
+
+this : {T : Type 0} (P : OciSpecError → Type 0) (r : Answer T) (e : OciSpecError) → r ≡ Err e → IfErr r P → P e
+this P r e is told = subst (λ q. IfErr q P) is told
+
+pub each_4 : {A B C D T : Type 0} (P : OciSpecError → Type 0) (a : Answer A) (b : Answer B) (c : Answer C) (d : Answer D) (r : Answer T)
+    → IfErr a P → IfErr b P → IfErr c P → IfErr d P
+    → IfErr r (λ e. (a ≡ Err e) ⊎ ((IsOk a × (b ≡ Err e)) ⊎ ((IsOk a × IsOk b × (c ≡ Err e)) ⊎ (IsOk a × IsOk b × IsOk c × (d ≡ Err e))))) → IfErr r P
+each_4 P a b c d (Ok x) f g h i told = tt
+each_4 P a b c d (Err e) f g h i (inl is) = this P a e is f
+each_4 P a b c d (Err e) f g h i (inr (inl is)) = this P b e is.1 g
+each_4 P a b c d (Err e) f g h i (inr (inr (inl is))) = this P c e is.2 h
+each_4 P a b c d (Err e) f g h i (inr (inr (inr is))) = this P d e is.3 i

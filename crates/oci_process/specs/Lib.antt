@@ -1,0 +1,17 @@
+pub mod Process
+pub mod ProcessDefaults
+pub use Rattle.oci_process_parts.specs.Box
+pub use Rattle.oci_process_parts.specs.ExecCPUAffinity
+pub use Rattle.oci_process_parts.specs.LinuxCapabilities
+pub use Rattle.oci_process_parts.specs.LinuxIOPriority
+pub use Rattle.oci_process_parts.specs.PosixRlimit
+pub use Rattle.oci_process_parts.specs.RefusedAffinities
+pub use Rattle.oci_process_parts.specs.Scheduler
+pub use Rattle.oci_process_parts.specs.User
+pub use Rattle.oci_process_texts.specs.Affinities
+pub use Rattle.oci_process_texts.specs.Capability
+pub use Rattle.oci_process_texts.specs.CapabilitySets
+pub use Rattle.oci_process_texts.specs.IOPriorityClass
+pub use Rattle.oci_process_texts.specs.LinuxSchedulerFlag
+pub use Rattle.oci_process_texts.specs.LinuxSchedulerPolicy
+pub use Rattle.oci_process_texts.specs.PosixRlimitType

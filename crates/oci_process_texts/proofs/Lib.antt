@@ -1,0 +1,5 @@
+pub mod CapSets
+pub mod CapTexts
+pub mod CpuLists
+pub mod CpuMembers
+pub mod ShownLinuxSchedulerFlag

@@ -1,0 +1,12 @@
+pub use Rattle.oci_text_base.specs.Capabilities
+pub use Rattle.oci_text_base.specs.CpuList
+pub use Rattle.oci_text_base.specs.Names
+pub mod Affinities
+pub mod BareTexts
+pub mod Capability
+pub mod CapabilitySets
+pub mod CpuScan
+pub mod IOPriorityClass
+pub mod LinuxSchedulerFlag
+pub mod LinuxSchedulerPolicy
+pub mod PosixRlimitType

@@ -1,0 +1,13 @@
+pub mod Answers
+pub mod Canonical
+pub mod RootlessSpec
+pub mod Spec
+pub use Rattle.oci_runtime_lifecycle.specs.ContainerProcessState
+pub use Rattle.oci_runtime_lifecycle.specs.ContainerState
+pub use Rattle.oci_runtime_lifecycle.specs.Hook
+pub use Rattle.oci_runtime_lifecycle.specs.Hooks
+pub use Rattle.oci_runtime_lifecycle.specs.State
+pub use Rattle.oci_runtime_mounts.specs.DefaultMounts
+pub use Rattle.oci_runtime_mounts.specs.Mount
+pub use Rattle.oci_runtime_mounts.specs.MountBuilder
+pub use Rattle.oci_runtime_mounts.specs.Root

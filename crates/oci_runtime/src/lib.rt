@@ -1,0 +1,20 @@
+//! The configuration of a container, the file `config.json` of its bundle, and the version of the runtime specification
+//! (runtime specification, "Configuration").
+#![tactic(auto)]
+
+pub mod answer;
+mod resolver;
+pub mod spec;
+mod texts;
+pub mod versions;
+
+pub use answer::Answer;
+pub use oci_runtime_lifecycle::{
+    ContainerProcessState, ContainerProcessStateBuilder, ContainerState, Hook, HookBuilder, Hooks,
+    HooksBuilder, SECCOMP_FD_NAME, State, StateBuilder,
+};
+pub use oci_runtime_mounts::{
+    Mount, MountBuilder, Root, RootBuilder, get_default_mounts, get_rootless_mounts,
+};
+pub use spec::{Spec, SpecBuilder};
+pub use versions::{VERSION, VERSION_DEV, VERSION_MAJOR, VERSION_MINOR, VERSION_PATCH, version};

@@ -1,0 +1,51 @@
+//! A specification whose root's path is made canonical.
+ghost use Rattle.std.specs.Prelude.{◌≡◌, ◌⊎◌, Some, IfErr, OnOk, OnErr, IfSome, IsSome, IsNone, string_bytes, codes, unwrap_or, false};
+ghost use Rattle.std.specs.Fn.{FnReturnsAt};
+ghost use Rattle.oci_text_base.specs.Refused.{Refuses};
+ghost use Rattle.oci_runtime.specs.Canonical.{Resolves, Stops};
+
+use super::Spec;
+use crate::answer::Answer;
+use crate::resolver::canonical;
+use oci_text_base::{OciSpecError, Result};
+use std::alloc::Global;
+
+impl Spec {
+    /// Replaces the root's path by what the resolver makes of it (runtime specification, "Configuration", "Root", `path`): it
+    /// is asked for an absolute path alone; else for the bundle, and then for the path behind its answer. A root that says
+    /// nothing of writing becomes writable. `Other` where there is no root, else the resolver's own refusal; after a refusal
+    /// the specification is as before.
+    pub fn canonicalize_rootfs<R: Answer, F: Fn(&str) -> R>(
+        &mut self,
+        alloc: Global,
+        bundle: &str,
+        resolver: &F,
+    ) -> Result<()>
+        requires { F.IsAlwaysCallable resolver.now }
+        ensures rooted { OnOk result (IsSome self.old.root × IsSome self.new.root) }
+        ensures resolved { OnOk result (IfSome self.old.root (λ old. IfSome self.new.root (λ new. Resolves (λ p a. (r : R) × FnReturnsAt F.Fn resolver.now p r × R.gives r a) bundle.now (string_bytes old.path) (string_bytes new.path)))) }
+        ensures readonly { OnOk result (IfSome self.old.root (λ old. IfSome self.new.root (λ new. new.readonly ≡ Some (unwrap_or old.readonly false)))) }
+        ensures others { OnOk result (self.new ≡ record self.old { root = self.new.root }) }
+        ensures unrooted { IsNone self.old.root → IfErr result (Refuses (Some (codes "no root path provided for canonicalization"))) }
+        ensures refused { IfErr result (λ e. IfSome self.old.root (λ old. (e ≡ OciSpecError.Memory) ⊎ Stops (λ p a. (r : R) × FnReturnsAt F.Fn resolver.now p r × R.gives r a) bundle.now (string_bytes old.path) (λ p. (r : R) × FnReturnsAt F.Fn resolver.now p r × R.refuses r e))) }
+        ensures same { OnErr result (self.new ≡ self.old) }
+    {
+        let Some(root) = &mut self.root else {
+            return Err(no_root(alloc));
+        };
+        let path = canonical(root.path().as_str(), bundle, resolver)?;
+        let readonly = root.readonly().unwrap_or(false);
+        root.set_path(path).set_readonly(Some(readonly));
+        Ok(())
+    }
+}
+
+// what is answered where there is no root
+fn no_root(alloc: Global) -> OciSpecError
+    ensures { Refuses (Some (codes "no root path provided for canonicalization")) result }
+{
+    match String::from_str(alloc, "no root path provided for canonicalization") {
+        Ok(text) => OciSpecError::Other(text),
+        Err(_) => OciSpecError::Memory,
+    }
+}

@@ -1,0 +1,28 @@
+//! The version of the runtime specification.
+ghost use Rattle.std.specs.Prelude.{◌≡◌, codes, IfOk, IfErr, string_bytes};
+
+use oci_text_base::{OciSpecError, Result};
+use std::alloc::Global;
+
+/// Changes that break what stands count up this number.
+pub const VERSION_MAJOR: u32 = 1;
+
+/// Changes that keep what stands count up this number.
+pub const VERSION_MINOR: u32 = 1;
+
+/// Mended faults count up this number.
+pub const VERSION_PATCH: u32 = 0;
+
+/// What marks a version in the making: nothing.
+pub const VERSION_DEV: &str = "";
+
+/// The whole version.
+pub const VERSION: &str = "1.1.0";
+
+/// The text of `VERSION`.
+pub fn version(alloc: Global) -> Result<String>
+    ensures ok { IfOk result (λ t. string_bytes t ≡ codes "1.1.0") }
+    ensures err { IfErr result (λ e. e ≡ OciSpecError.Memory) }
+{
+    Ok(String::from_str(alloc, VERSION)?)
+}

@@ -1,0 +1,25 @@
+//! States in files.
+ghost use Rattle.std.specs.Prelude.{IfErr};
+ghost use Rattle.oci_text_base.specs.Refused.{IsMemoryOrIo, IsMemorySerDeOrIo};
+
+use super::State;
+use oci_text_base::Result;
+use std::alloc::Global;
+use std::rt::Files;
+
+impl State {
+    /// Reads the state of a file, which the runtime opens: `Io` where it can't be opened or read, `SerDe` where it holds no
+    /// JSON or no state.
+    pub fn load<R: Files>(rt: &R, alloc: Global, path: &str) -> Result<State>
+        ensures kind { IfErr result IsMemorySerDeOrIo }
+    {
+        oci_json_engines::from_file(rt, alloc, path)
+    }
+
+    /// Writes the compact text to a file, which is created or emptied once the text is made. Each state is writable.
+    pub fn save<R: Files>(&self, rt: &R, alloc: Global, path: &str) -> Result<()>
+        ensures kind { IfErr result IsMemoryOrIo }
+    {
+        oci_json_engines::to_file(rt, self, alloc, path)
+    }
+}

@@ -1,0 +1,4 @@
+pub mod DefaultMounts
+pub mod Mount
+pub mod MountBuilder
+pub mod Root

@@ -1,0 +1,30 @@
+//! Calls of the image documents that may be refused memory, once each with enough of it. What texts are read as stands in the
+//! rows of `oci_rows`.
+
+use super::check_text;
+use oci_image::version;
+use oci_json_engines::to_string;
+use oci_json_schema::OciRecord;
+use oci_text_base::Result;
+use std::alloc::Global;
+use std::process::Abort;
+
+mod calls;
+mod copies;
+mod made;
+
+/// An answer is this text.
+fn check(rt: &impl Abort, found: Result<String>, expected: &str) {
+    check_text(rt, found.expect(rt, expected).as_str(), expected);
+}
+
+/// An answer is a document of this compact text.
+fn check_document<T: OciRecord>(rt: &impl Abort, alloc: Global, made: Result<T>, expected: &str) {
+    check(rt, to_string(&made.expect(rt, expected), alloc), expected);
+}
+
+/// The version of the specification.
+#[test]
+fn versions(rt: HostRuntime) {
+    check(&rt, version(rt.alloc()), "1.0.1");
+}
