@@ -6,12 +6,14 @@ use crate::arguments::Run;
 use anyhow::{Context, Result};
 use oci_distribution::{ErrorResponse, RepositoryList, TagList};
 use oci_doc_run::Kind;
+use oci_features::Features;
 use oci_image_config::ImageConfiguration;
 use oci_image_descriptor::Descriptor;
 use oci_image_manifest::{ArtifactManifest, ImageIndex, ImageManifest, OciLayout};
 use oci_json_engines::{from_slice, normalize, to_string};
 use oci_json_schema::OciRecord;
 use oci_reference::Reference;
+use oci_runtime::{ContainerProcessState, Spec, State};
 use serde_json::Value;
 use std::alloc::Global;
 
@@ -95,5 +97,9 @@ pub fn perform(alloc: Global, kind: Kind, bytes: &[u8], run: Run<DocumentCall>) 
         Kind::Repositories => repeat::<RepositoryList>(alloc, bytes, run),
         Kind::Tags => repeat::<TagList>(alloc, bytes, run),
         Kind::Reference => repeat::<Reference>(alloc, bytes, run),
+        Kind::Spec => repeat::<Spec>(alloc, bytes, run),
+        Kind::State => repeat::<State>(alloc, bytes, run),
+        Kind::ProcessState => repeat::<ContainerProcessState>(alloc, bytes, run),
+        Kind::Features => repeat::<Features>(alloc, bytes, run),
     }
 }

@@ -15,7 +15,7 @@ use std::rt::Files;
 
 const USAGE: &str = "usage: oci_bench KIND FILE COUNT floor | from_slice | to_value | normalize
        oci_bench texts FILE COUNT from_str | parts | scanner
-KIND: manifest | index | config | artifact | layout | descriptor | error | repositories | tags | reference
+KIND: manifest | index | config | artifact | layout | descriptor | error | repositories | tags | reference | spec | state | process-state | features
 FILE: a document of that kind, or for texts one reference a line
 COUNT: how often the call is made";
 

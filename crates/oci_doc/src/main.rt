@@ -1,4 +1,4 @@
-//! The program `ocidoc`: image documents, references and digests in their normal form.
+//! The program `ocidoc`: documents of the three specifications, references and digests in their normal form.
 #![tactic(auto)]
 
 use oci_doc_run::run_on_streams;

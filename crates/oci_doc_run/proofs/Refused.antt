@@ -1,16 +1,18 @@
 -- What the refusal for a document that was not written says.
-use Rattle.std.proofs.Common.{List, ℕ, Option, Some, None, inr}
+use Rattle.std.proofs.Common.{List, ℕ, Option, Some, None, inl, inr, refl}
 use Rattle.std.specs.Prelude.{IfSome}
-use Rattle.oci_text_base.specs.Refused.{IsSchema, IsMemorySchemaOrIo}
+use Rattle.std.specs.Io.KnownBytes.{Keeps}
+use Rattle.oci_text_base.specs.Refused.{IsJson, IsSchema, IsMemorySchemaOrIo, IsMemorySerDeOrIo}
 use Rattle.oci_text_base.specs.declared.error.OciSpecError.{OciSpecError}
 use Rattle.oci_text_base.specs.declared.error.OciSpecError.TheVariants.{Other, Io, SerDe, Builder, Memory}
 use Rattle.oci_text_base.specs.declared.error.SerDeError.TheVariants.{Json, Schema}
+use Rattle.oci_image_descriptor.specs.Descriptor.{descriptor}
 use Rattle.oci_json_schema.specs.Plain.{Plain}
 use Rattle.oci_json_schema.specs.Shape.{Shape}
 use Rattle.oci_json_schema.specs.Value.{value}
 use Rattle.oci_json_schema.specs.Writable.{Writable}
-use Rattle.oci_json_engines.specs.Engines.{MeansBytes, BeginsPretty, KeepsUnlessIo, IsNotNormalized}
-use Rattle.oci_doc_run.specs.Refusals.{refusal_of, TellsOfPretty}
+use Rattle.oci_json_engines.specs.Engines.{MeansBytes, BeginsPretty, KeepsUnlessIo, IsNoJson, IsNoDocument, IsNotNormalized}
+use Rattle.oci_doc_run.specs.Refusals.{refusal_of, TellsOfPretty, TellsOfPin}
 
 -- a document that is read is not normalized where it is not writable
 not_normalized : (s : Shape) (input : Option (List ℕ)) (p : Plain) → IfSome input (λ bytes. MeansBytes s bytes p) → ¬ Writable s p → IfSome input (IsNotNormalized s)
@@ -26,3 +28,18 @@ pretty_refused s input old new p (SerDe (Json f)) means err begun kept kind = ab
 pretty_refused s input old new p (SerDe (Schema f)) means err begun kept kind = (not_normalized s input p means (err tt), kept (λ h. h))
 pretty_refused s input old new p (Builder f) means err begun kept kind = absurd kind
 pretty_refused s input old new p Memory means err begun kept kind = (tt, kept (λ h. h))
+
+-- what nobody wrote to is as it was
+pub keeps_itself : (w : Option (List ℕ)) → Keeps w w
+keeps_itself None = tt
+keeps_itself (Some xs) = refl
+
+-- the refusal for the error that stood in the way of reading a descriptor
+pub pin_refused : (text : List ℕ) (input old new : Option (List ℕ)) (e : OciSpecError) → (IsJson e → IfSome input IsNoJson) → (IsSchema e → IfSome input (IsNoDocument descriptor))
+    → IsMemorySerDeOrIo e → Keeps old new → TellsOfPin text input old new (refusal_of e)
+pin_refused text input old new (Other t) json schema kind kept = absurd kind
+pin_refused text input old new (Io f) json schema kind kept = (tt, inl kept)
+pin_refused text input old new (SerDe (Json f)) json schema kind kept = (json tt, kept)
+pin_refused text input old new (SerDe (Schema f)) json schema kind kept = (schema tt, kept)
+pin_refused text input old new (Builder f) json schema kind kept = absurd kind
+pin_refused text input old new Memory json schema kind kept = (tt, kept)

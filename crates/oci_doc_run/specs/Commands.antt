@@ -1,8 +1,10 @@
 -- The commands that words ask for.
-use Rattle.std.specs.Prelude.{ℕ, List, [], ◌∷◌, ◌++◌, codes, bytes_eq, Bool, true, false, Option, Some, None, option_map, if◌then◌else◌}
+use Rattle.std.specs.Prelude.{ℕ, List, [], ◌∷◌, ◌++◌, codes, bytes_eq, Option, Some, None, option_map, if◌then◌else◌, ⊤}
+use Rattle.oci_reference.specs.Accepted.{Accepted}
+use Rattle.oci_reference.specs.Parts.{Parts}
 use Rattle.oci_doc_run.specs.declared.kind.Kind.{Kind}
 use Rattle.oci_doc_run.specs.declared.command.Command.{Command}
-use Rattle.oci_doc_run.specs.declared.command.Command.TheVariants.{Normalize, Pretty, Reference, Digest}
+use Rattle.oci_doc_run.specs.declared.command.Command.TheVariants.{Normalize, Pretty, Reference, Digest, Pin}
 use Rattle.oci_doc_run.specs.Kinds.{kind_of}
 
 -- a command with its word
@@ -11,6 +13,7 @@ pub data Asked : Type 0 where
   pretty : Kind → Asked
   reference : List ℕ → Asked
   digest : List ℕ → Asked
+  pin : List ℕ → Asked
 
 -- the command of a word and the word behind it
 abbrev pub asked_of : List ℕ → List ℕ → Option Asked
@@ -19,19 +22,21 @@ asked_of command word =
     else (if bytes_eq command (codes "pretty") then option_map pretty (kind_of word)
     else (if bytes_eq command (codes "ref") then Some (reference word)
     else (if bytes_eq command (codes "digest") then Some (digest word)
-    else None)))
+    else (if bytes_eq command (codes "pin") then Some (pin word)
+    else None))))
 
 -- the command of two words; any other number of words asks for none
 abbrev pub command_of : List (List ℕ) → Option Asked
 command_of (command ∷ word ∷ []) = asked_of command word
 command_of _ = None
 
--- whether the command is asked of the input
-abbrev pub asks_input : Asked → Bool
-asks_input (norm kind) = true
-asks_input (pretty kind) = true
-asks_input (reference text) = false
-asks_input (digest text) = false
+-- for the command nothing is read
+abbrev pub LeavesInput : Asked → Type 0
+LeavesInput (norm kind) = ⊥
+LeavesInput (pretty kind) = ⊥
+LeavesInput (reference text) = ⊤
+LeavesInput (digest text) = ⊤
+LeavesInput (pin text) = (parts : Parts) → ¬ Accepted text parts
 
 -- a command as the code holds it
 abbrev pub asked : Command → Asked
@@ -39,7 +44,8 @@ asked (Normalize kind) = norm kind
 asked (Pretty kind) = pretty kind
 asked (Reference text) = reference text.now
 asked (Digest text) = digest text.now
+asked (Pin text) = pin text.now
 
 -- what is told where the words ask for no command
 abbrev pub usage : List ℕ
-usage = codes "usage: ocidoc norm KIND | pretty KIND | ref TEXT | digest TEXT" ++ 10 ∷ []
+usage = codes "usage: ocidoc norm KIND | pretty KIND | ref TEXT | digest TEXT | pin TEXT" ++ 10 ∷ []

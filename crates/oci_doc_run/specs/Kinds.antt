@@ -11,8 +11,12 @@ use Rattle.oci_distribution.specs.ErrorResponse.{error_response}
 use Rattle.oci_distribution.specs.RepositoryList.{repository_list}
 use Rattle.oci_distribution.specs.TagList.{tag_list}
 use Rattle.oci_reference.specs.Record.{reference}
+use Rattle.oci_runtime.specs.Spec.{spec}
+use Rattle.oci_runtime_lifecycle.specs.State.{state}
+use Rattle.oci_runtime_lifecycle.specs.ContainerProcessState.{container_process_state}
+use Rattle.oci_features.specs.Features.{features}
 use Rattle.oci_doc_run.specs.declared.kind.Kind.{Kind}
-use Rattle.oci_doc_run.specs.declared.kind.Kind.TheVariants.{Manifest, Index, Config, Artifact, Layout, Descriptor, Error, Repositories, Tags, Reference}
+use Rattle.oci_doc_run.specs.declared.kind.Kind.TheVariants.{Manifest, Index, Config, Artifact, Layout, Descriptor, Error, Repositories, Tags, Reference, Spec, State, ProcessState, Features}
 
 -- the kind that a word names
 abbrev pub kind_of : List ℕ → Option Kind
@@ -27,7 +31,11 @@ kind_of word =
     else (if bytes_eq word (codes "repositories") then Some Repositories
     else (if bytes_eq word (codes "tags") then Some Tags
     else (if bytes_eq word (codes "reference") then Some Reference
-    else None)))))))))
+    else (if bytes_eq word (codes "spec") then Some Spec
+    else (if bytes_eq word (codes "state") then Some State
+    else (if bytes_eq word (codes "process-state") then Some ProcessState
+    else (if bytes_eq word (codes "features") then Some Features
+    else None)))))))))))))
 
 -- the JSON that is allowed for a kind
 abbrev pub shape_of : Kind → Shape
@@ -41,3 +49,7 @@ shape_of Error = error_response
 shape_of Repositories = repository_list
 shape_of Tags = tag_list
 shape_of Reference = reference
+shape_of Spec = spec
+shape_of State = state
+shape_of ProcessState = container_process_state
+shape_of Features = features

@@ -1,14 +1,17 @@
 -- What each command writes.
 use Rattle.std.specs.Prelude.{ℕ, List, [], ◌∷◌, ◌++◌, codes, Option, Some, None, IfSome}
+use Rattle.oci_image_descriptor.specs.Descriptor.{descriptor, descriptor_plain}
+use Rattle.oci_image_descriptor.specs.declared.descriptor.Descriptor.{Descriptor}
 use Rattle.oci_json_schema.specs.Plain.{Plain}
 use Rattle.oci_json_schema.specs.Shape.{Shape}
 use Rattle.oci_json_schema.specs.Value.{value}
 use Rattle.oci_json_engines.specs.Engines.{MeansBytes, WritesDocument, IsPretty}
 use Rattle.oci_reference.specs.Accepted.{Accepted}
 use Rattle.oci_reference.specs.Parts.{Parts, resolved}
+use Rattle.oci_reference.specs.Replaced.{pinned}
 use Rattle.oci_reference.specs.Whole.{whole}
 use Rattle.oci_text_base.specs.Digest.{IsDigest}
-use Rattle.oci_doc_run.specs.Commands.{Asked, norm, pretty, reference, digest}
+use Rattle.oci_doc_run.specs.Commands.{Asked, norm, pretty, reference, digest, pin}
 use Rattle.oci_doc_run.specs.Kinds.{shape_of}
 
 -- a word, a space, the value and a line feed
@@ -34,6 +37,10 @@ reference_lines r =
 abbrev pub digest_lines : List ℕ → List ℕ → List ℕ
 digest_lines algorithm encoded = line (codes "algorithm") algorithm ++ line (codes "encoded") encoded
 
+-- the line on a reference with the digest of a descriptor
+abbrev pub pinned_line : Parts → Descriptor → List ℕ
+pinned_line r d = whole (pinned r d.digest) ++ 10 ∷ []
+
 -- the pretty text of a document is written, which the bytes mean where they are known
 abbrev pub WritesPretty : Shape → Option (List ℕ) → (List ℕ → Type 0) → Type 0
 WritesPretty s input Wrote =
@@ -47,9 +54,15 @@ WritesReference text Wrote = (parts : Parts) × Accepted text parts × Wrote (re
 abbrev pub WritesDigest : List ℕ → (List ℕ → Type 0) → Type 0
 WritesDigest text Wrote = (algorithm : List ℕ) × (encoded : List ℕ) × IsDigest text algorithm encoded × Wrote (digest_lines algorithm encoded)
 
+-- the line on the reference that the text is, with the digest of the descriptor that the bytes mean where they are known
+abbrev pub WritesPinned : List ℕ → Option (List ℕ) → (List ℕ → Type 0) → Type 0
+WritesPinned text input Wrote = (parts : Parts) × (d : Descriptor) × Accepted text parts
+    × IfSome input (λ bytes. MeansBytes descriptor bytes (descriptor_plain d)) × Wrote (pinned_line parts d)
+
 -- the command's output is written
 abbrev pub Writes : Asked → Option (List ℕ) → (List ℕ → Type 0) → Type 0
 Writes (norm kind) input Wrote = WritesDocument (shape_of kind) input Wrote
 Writes (pretty kind) input Wrote = WritesPretty (shape_of kind) input Wrote
 Writes (reference text) input Wrote = WritesReference text Wrote
 Writes (digest text) input Wrote = WritesDigest text Wrote
+Writes (pin text) input Wrote = WritesPinned text input Wrote

@@ -6,16 +6,17 @@ use Rattle.oci_text_base.specs.declared.error.OciSpecError.{OciSpecError}
 use Rattle.oci_text_base.specs.declared.error.OciSpecError.TheVariants as error
 use Rattle.oci_text_base.specs.declared.error.SerDeError.{SerDeError}
 use Rattle.oci_text_base.specs.declared.error.SerDeError.TheVariants as serde
+use Rattle.oci_image_descriptor.specs.Descriptor.{descriptor}
 use Rattle.oci_json_schema.specs.Shape.{Shape}
-use Rattle.oci_json_engines.specs.Engines.{AppendsSome, WritesDocument, IsNoJson, IsNotNormalized}
+use Rattle.oci_json_engines.specs.Engines.{AppendsSome, WritesDocument, IsNoJson, IsNoDocument, IsNotNormalized}
 use Rattle.oci_reference_scan.specs.declared.error.ParseError.{ParseError}
 use Rattle.oci_reference_scan.specs.declared.error.ParseError.TheVariants as parse
 use Rattle.oci_reference.specs.Accepted as reference_texts
 use Rattle.oci_doc_run.specs.declared.refusal.Refusal.{Refusal}
 use Rattle.oci_doc_run.specs.declared.refusal.Refusal.TheVariants.{Other, Io, Json, Schema, Builder, Memory, Reference}
-use Rattle.oci_doc_run.specs.Commands.{Asked, norm, pretty, reference, digest}
+use Rattle.oci_doc_run.specs.Commands.{Asked, norm, pretty, reference, digest, pin}
 use Rattle.oci_doc_run.specs.Kinds.{shape_of}
-use Rattle.oci_doc_run.specs.Outputs.{WritesPretty, WritesReference, WritesDigest}
+use Rattle.oci_doc_run.specs.Outputs.{WritesPretty, WritesReference, WritesDigest, WritesPinned}
 
 -- ---- the line
 
@@ -91,6 +92,15 @@ HoldsOfDigest text Io = ⊤
 HoldsOfDigest text Memory = ⊤
 HoldsOfDigest text _ = ⊥
 
+-- of the text of a reference and the bytes of a descriptor
+abbrev pub HoldsOfPin : List ℕ → Option (List ℕ) → Refusal → Type 0
+HoldsOfPin text input (Reference e) = reference_texts.Tells text e
+HoldsOfPin text input Io = ⊤
+HoldsOfPin text input Json = IfSome input IsNoJson
+HoldsOfPin text input Schema = IfSome input (IsNoDocument descriptor)
+HoldsOfPin text input Memory = ⊤
+HoldsOfPin text input _ = ⊥
+
 -- a refusal of each command
 abbrev pub TellsOfNormal : Shape → Option (List ℕ) → Option (List ℕ) → Option (List ℕ) → Refusal → Type 0
 TellsOfNormal s input old new r = HoldsOfDocument s input r × Begins (WritesDocument s input) old new r
@@ -104,8 +114,12 @@ TellsOfReference text old new r = HoldsOfReference text r × Begins (WritesRefer
 abbrev pub TellsOfDigest : List ℕ → Option (List ℕ) → Option (List ℕ) → Refusal → Type 0
 TellsOfDigest text old new r = HoldsOfDigest text r × Begins (WritesDigest text) old new r
 
+abbrev pub TellsOfPin : List ℕ → Option (List ℕ) → Option (List ℕ) → Option (List ℕ) → Refusal → Type 0
+TellsOfPin text input old new r = HoldsOfPin text input r × Begins (WritesPinned text input) old new r
+
 abbrev pub Tells : Asked → Option (List ℕ) → Option (List ℕ) → Option (List ℕ) → Refusal → Type 0
 Tells (norm kind) input old new r = TellsOfNormal (shape_of kind) input old new r
 Tells (pretty kind) input old new r = TellsOfPretty (shape_of kind) input old new r
 Tells (reference text) input old new r = TellsOfReference text old new r
 Tells (digest text) input old new r = TellsOfDigest text old new r
+Tells (pin text) input old new r = TellsOfPin text input old new r

@@ -1,12 +1,13 @@
 //! What the words ask for.
-ghost use Rattle.std.specs.Prelude.{◌≡◌, false, map, option_map, string_bytes, OnOk, IfErr};
+ghost use Rattle.std.specs.Prelude.{◌≡◌, map, option_map, string_bytes, OnOk, IfErr};
 ghost use Rattle.std.specs.Io.KnownBytes.{Appends, Keeps};
-ghost use Rattle.oci_doc_run.specs.Commands.{asked, asked_of, asks_input, command_of};
+ghost use Rattle.oci_doc_run.specs.Commands.{asked, asked_of, command_of, LeavesInput};
 ghost use Rattle.oci_doc_run.specs.Outputs.{Writes};
 ghost use Rattle.oci_doc_run.specs.Refusals.{Tells};
 
 use crate::document::{normal_of_kind, pretty_of_kind};
 use crate::kind::Kind;
+use crate::pinning::pinned;
 use crate::refusal::Refusal;
 use crate::text::{digest, reference};
 use std::alloc::Global;
@@ -23,6 +24,8 @@ pub enum Command<'a> {
     Reference(&'a str),
     /// `digest TEXT`: writes the parts of a digest.
     Digest(&'a str),
+    /// `pin TEXT`: writes a reference with the digest of a descriptor.
+    Pin(&'a str),
 }
 
 impl<'a> Command<'a> {
@@ -50,6 +53,7 @@ impl<'a> Command<'a> {
             },
             "ref" => Some(Command::Reference(word)),
             "digest" => Some(Command::Digest(word)),
+            "pin" => Some(Command::Pin(word)),
             _ => None,
         }
     }
@@ -63,13 +67,14 @@ impl<'a> Command<'a> {
     ) -> Result<(), Refusal>
         ensures ok { OnOk result (Writes (asked self.entry) (R.remaining reader.old) (Appends (W.contents writer.old) (W.contents writer.new))) }
         ensures err { IfErr result (λ r. Tells (asked self.entry) (R.remaining reader.old) (W.contents writer.old) (W.contents writer.new) r) }
-        ensures unasked { asks_input (asked self.entry) ≡ false → Keeps (R.remaining reader.old) (R.remaining reader.new) }
+        ensures unasked { LeavesInput (asked self.entry) → Keeps (R.remaining reader.old) (R.remaining reader.new) }
     {
         match self {
             Command::Normalize(kind) => normal_of_kind(kind, alloc, reader, writer),
             Command::Pretty(kind) => pretty_of_kind(kind, alloc, reader, writer),
             Command::Reference(text) => reference(alloc, text, writer),
             Command::Digest(text) => digest(alloc, text, writer),
+            Command::Pin(text) => pinned(alloc, text, reader, writer),
         }
     }
 }

@@ -9,12 +9,14 @@ ghost use Rattle.oci_doc_run.specs.Refusals.{TellsOfNormal, TellsOfPretty};
 use crate::kind::Kind;
 use crate::refusal::Refusal;
 use oci_distribution::{ErrorResponse, RepositoryList, TagList};
+use oci_features::Features;
 use oci_image_config::ImageConfiguration;
 use oci_image_descriptor::Descriptor;
 use oci_image_manifest::{ArtifactManifest, ImageIndex, ImageManifest, OciLayout};
 use oci_json_engines::{from_reader, normalize, to_writer_pretty};
 use oci_json_schema::OciRecord;
 use oci_reference::Reference;
+use oci_runtime::{ContainerProcessState, Spec, State};
 use std::alloc::Global;
 use std::io::{Read, Write};
 
@@ -66,6 +68,10 @@ pub fn normal_of_kind<R: Read, W: Write>(
         Kind::Repositories => normal::<RepositoryList, _, _>(alloc, reader, writer),
         Kind::Tags => normal::<TagList, _, _>(alloc, reader, writer),
         Kind::Reference => normal::<Reference, _, _>(alloc, reader, writer),
+        Kind::Spec => normal::<Spec, _, _>(alloc, reader, writer),
+        Kind::State => normal::<State, _, _>(alloc, reader, writer),
+        Kind::ProcessState => normal::<ContainerProcessState, _, _>(alloc, reader, writer),
+        Kind::Features => normal::<Features, _, _>(alloc, reader, writer),
     }
 }
 
@@ -90,5 +96,9 @@ pub fn pretty_of_kind<R: Read, W: Write>(
         Kind::Repositories => pretty::<RepositoryList, _, _>(alloc, reader, writer),
         Kind::Tags => pretty::<TagList, _, _>(alloc, reader, writer),
         Kind::Reference => pretty::<Reference, _, _>(alloc, reader, writer),
+        Kind::Spec => pretty::<Spec, _, _>(alloc, reader, writer),
+        Kind::State => pretty::<State, _, _>(alloc, reader, writer),
+        Kind::ProcessState => pretty::<ContainerProcessState, _, _>(alloc, reader, writer),
+        Kind::Features => pretty::<Features, _, _>(alloc, reader, writer),
     }
 }

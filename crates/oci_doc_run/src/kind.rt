@@ -25,6 +25,14 @@ pub enum Kind {
     Tags,
     /// `reference`: a reference to an image, in its parts.
     Reference,
+    /// `spec`: the configuration of a container.
+    Spec,
+    /// `state`: the state of a container.
+    State,
+    /// `process-state`: what a listener to a container's system calls is told.
+    ProcessState,
+    /// `features`: what a runtime can do.
+    Features,
 }
 
 impl Kind {
@@ -43,6 +51,10 @@ impl Kind {
             "repositories" => Some(Kind::Repositories),
             "tags" => Some(Kind::Tags),
             "reference" => Some(Kind::Reference),
+            "spec" => Some(Kind::Spec),
+            "state" => Some(Kind::State),
+            "process-state" => Some(Kind::ProcessState),
+            "features" => Some(Kind::Features),
             _ => None,
         }
     }

@@ -4,6 +4,7 @@
 pub mod command;
 pub mod document;
 pub mod kind;
+pub mod pinning;
 pub mod program;
 pub mod refusal;
 pub mod streams;

@@ -1,9 +1,9 @@
 //! The program's whole work.
-ghost use Rattle.std.specs.Prelude.{◌≡◌, ◌<◌, ◌↔◌, false, map, string_bytes, None, IfSome};
+ghost use Rattle.std.specs.Prelude.{◌≡◌, ◌<◌, ◌↔◌, map, string_bytes, None, IfSome};
 ghost use Rattle.std.specs.Io.KnownBytes.{Appends, Keeps};
 ghost use Rattle.oci_json_engines.specs.Engines.{AppendsSome};
 ghost use Rattle.oci_doc_run.specs.declared.refusal.Refusal.{Refusal};
-ghost use Rattle.oci_doc_run.specs.Commands.{asks_input, command_of, usage};
+ghost use Rattle.oci_doc_run.specs.Commands.{command_of, usage, LeavesInput};
 ghost use Rattle.oci_doc_run.specs.Outputs.{Writes};
 ghost use Rattle.oci_doc_run.specs.Refusals.{line_of, Tells};
 
@@ -12,7 +12,7 @@ use oci_json_engines::write_text;
 use std::alloc::Global;
 use std::io::{Read, Write};
 
-const USAGE: &str = "usage: ocidoc norm KIND | pretty KIND | ref TEXT | digest TEXT\n";
+const USAGE: &str = "usage: ocidoc norm KIND | pretty KIND | ref TEXT | digest TEXT | pin TEXT\n";
 
 /// Runs the command that the words ask for, and answers its status: 0 where it is done, 1 where it is refused, which one
 /// line to the errors tells, and 2 where the words ask for no command; then the line of usage goes to the errors. A fault
@@ -27,7 +27,7 @@ pub fn run<R: Read, W: Write, E: Write>(
     ensures status { result < 3 }
     ensures known { (result ≡ 2) ↔ (command_of (map string_bytes words.now) ≡ None) }
     ensures unread { result ≡ 2 → Keeps (R.remaining reader.old) (R.remaining reader.new) }
-    ensures unasked { IfSome (command_of (map string_bytes words.now)) (λ c. asks_input c ≡ false → Keeps (R.remaining reader.old) (R.remaining reader.new)) }
+    ensures unasked { IfSome (command_of (map string_bytes words.now)) (λ c. LeavesInput c → Keeps (R.remaining reader.old) (R.remaining reader.new)) }
     ensures unwritten { result ≡ 2 → Keeps (W.contents writer.old) (W.contents writer.new) }
     ensures unknown { result ≡ 2 → AppendsSome (E.contents errors.old) (E.contents errors.new) usage }
     ensures done { result ≡ 0 → IfSome (command_of (map string_bytes words.now))

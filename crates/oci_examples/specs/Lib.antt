@@ -1,1 +1,2 @@
 pub mod Platforms
+pub mod Policy

@@ -1,11 +1,11 @@
 -- The platform that a descriptor is for (image specification, "Image Index", `platform`).
 use Rattle.std.specs.Prelude.{◌≡◌, Some}
-use Rattle.oci_image.specs.Arch.{arch_name}
-use Rattle.oci_image.specs.Os.{os_name}
-use Rattle.oci_image.specs.declared.Arch.{Arch}
-use Rattle.oci_image.specs.declared.Descriptor.{Descriptor}
-use Rattle.oci_image.specs.declared.Os.{Os}
-use Rattle.oci_image.specs.declared.Platform.{Platform}
+use Rattle.oci_spec.specs.Arch.{arch_name}
+use Rattle.oci_spec.specs.Os.{os_name}
+use Rattle.oci_spec.specs.declared.image.Arch.{Arch}
+use Rattle.oci_spec.specs.declared.image.Descriptor.{Descriptor}
+use Rattle.oci_spec.specs.declared.image.Os.{Os}
+use Rattle.oci_spec.specs.declared.image.Platform.{Platform}
 
 -- the descriptor has a platform, of this operating system and architecture
 pub record IsFor (d : Descriptor) (os : Os) (architecture : Arch) : Type 0 where

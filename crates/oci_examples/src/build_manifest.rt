@@ -1,10 +1,11 @@
 //! Puts the manifest of `examples/manifest.json` together with builders, and prints it.
 ghost use Rattle.std.specs.Prelude.{◌≡◌, IfOk};
 
-use oci_image::{
-    Descriptor, DescriptorBuilder, ImageManifest, ImageManifestBuilder, SCHEMA_VERSION,
+use oci_spec::image::{
+    Descriptor, DescriptorBuilder, ImageManifest, ImageManifestBuilder, MediaType, SCHEMA_VERSION,
+    Sha256Digest,
 };
-use oci_text::{MediaType, OciSpecError, Result, Sha256Digest};
+use oci_spec::{OciSpecError, Result};
 use std::alloc::Global;
 
 /// The descriptor of content of this type, SHA-256 sum and size in bytes.

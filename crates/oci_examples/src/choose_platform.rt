@@ -3,7 +3,7 @@ ghost use Rattle.std.specs.Prelude.{◌≡◌, true, IfSome};
 ghost use Rattle.oci_examples.specs.Platforms.{IsFor};
 
 use anyhow::{Context, Result};
-use oci_image::{Arch, Descriptor, ImageIndex, Os};
+use oci_spec::image::{Arch, Descriptor, ImageIndex, Os};
 use std::rt::Files;
 
 /// Whether a descriptor says that its content is for this operating system and architecture.

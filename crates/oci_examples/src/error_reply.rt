@@ -1,8 +1,8 @@
 //! Reads a registry's error reply, and prints what it displays and then its errors, a line each.
 
 use anyhow::Result;
-use oci_distribution::{ErrorInfo, ErrorResponse};
 use oci_json::from_file;
+use oci_spec::distribution::{ErrorInfo, ErrorResponse};
 use std::rt::Files;
 
 /// Prints an error: its code, and its message and detail where it has them.

@@ -4,6 +4,7 @@ pub mod Lists
 pub mod Maps
 pub mod NoFloat
 pub mod Readers
+pub mod Refusals
 pub mod Removed
 pub mod Together
 pub mod Writers

@@ -4,6 +4,7 @@ pub mod Named
 pub mod Names
 pub mod Parts
 pub mod Record
+pub mod Replaced
 pub mod Whole
 pub mod Written
 pub use Rattle.oci_reference_scan.specs.Pieces

@@ -1,10 +1,12 @@
 //! What holds of references by their definitions alone.
 
 ghost use Rattle.std.specs.Prelude.{◌≡◌, ◌↔◌, ◌⊎◌, codes, ℕ, List, Option, Some, None};
+ghost use Rattle.oci_text_base.specs.Digest.{IsDigest};
 ghost use Rattle.oci_reference_scan.specs.Reference.{IsReference};
 ghost use Rattle.oci_reference_scan.specs.declared.error.ParseError.{ParseError};
 ghost use Rattle.oci_reference.specs.Accepted.{Accepted, Refused};
 ghost use Rattle.oci_reference.specs.Parts.{Parts};
+ghost use Rattle.oci_reference.specs.Replaced.{pinned, IsSupported};
 ghost use Rattle.oci_reference.specs.Whole.{whole};
 
 pub use oci_reference_scan::laws::one_reading;
@@ -34,4 +36,12 @@ pub fn tag_or_digest()
 /// The whole text does not depend on the mirror.
 pub fn mirror_not_shown()
     ensures { (r : Parts) (mirror : Option (List ℕ)) → whole (record r { mirror = mirror }) ≡ whole r }
+{}
+
+/// Where an accepted reference's tag and digest give way to a digest, the whole text is accepted exactly if the digest is
+/// by `sha256`, `sha384` or `sha512`, and never as another reference.
+pub fn digest_replaced()
+    ensures accepted { (t d a e : List ℕ) (r : Parts) → Accepted t r → IsDigest d a e
+        → ((q : Parts) × Accepted (whole (pinned r d)) q) ↔ IsSupported a }
+    ensures alone { (t d : List ℕ) (r q : Parts) → Accepted t r → Accepted (whole (pinned r d)) q → q ≡ pinned r d }
 {}

@@ -1,5 +1,3 @@
-pub mod Answers
-pub mod Canonical
 pub mod RootlessSpec
 pub mod Spec
 pub use Rattle.oci_runtime_lifecycle.specs.ContainerProcessState
@@ -11,3 +9,5 @@ pub use Rattle.oci_runtime_mounts.specs.DefaultMounts
 pub use Rattle.oci_runtime_mounts.specs.Mount
 pub use Rattle.oci_runtime_mounts.specs.MountBuilder
 pub use Rattle.oci_runtime_mounts.specs.Root
+pub use Rattle.oci_runtime_parts.specs.Answers
+pub use Rattle.oci_runtime_parts.specs.Canonical

@@ -2,13 +2,9 @@
 //! (runtime specification, "Configuration").
 #![tactic(auto)]
 
-pub mod answer;
-mod resolver;
 pub mod spec;
-mod texts;
 pub mod versions;
 
-pub use answer::Answer;
 pub use oci_runtime_lifecycle::{
     ContainerProcessState, ContainerProcessStateBuilder, ContainerState, Hook, HookBuilder, Hooks,
     HooksBuilder, SECCOMP_FD_NAME, State, StateBuilder,
@@ -16,5 +12,6 @@ pub use oci_runtime_lifecycle::{
 pub use oci_runtime_mounts::{
     Mount, MountBuilder, Root, RootBuilder, get_default_mounts, get_rootless_mounts,
 };
+pub use oci_runtime_parts::Answer;
 pub use spec::{Spec, SpecBuilder};
 pub use versions::{VERSION, VERSION_DEV, VERSION_MAJOR, VERSION_MINOR, VERSION_PATCH, version};

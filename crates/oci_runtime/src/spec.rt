@@ -7,7 +7,6 @@ mod files;
 mod rootfs;
 mod rootless;
 
-use crate::texts::text_of;
 pub use builder::SpecBuilder;
 use oci_json_kinds::defaulted;
 use oci_json_schema::{
@@ -21,6 +20,7 @@ use oci_platforms_windows::Windows;
 use oci_process::Process;
 use oci_runtime_lifecycle::Hooks;
 use oci_runtime_mounts::{Mount, Root, get_default_mounts};
+use oci_runtime_parts::text_of;
 use oci_text_base::{OciSpecError, Result};
 use serde_json::{Map, Value};
 use std::alloc::Global;

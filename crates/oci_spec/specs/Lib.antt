@@ -130,8 +130,6 @@ pub use Rattle.oci_reference.specs.Written
 pub use Rattle.oci_reference_scan.specs.Pieces
 pub use Rattle.oci_reference_scan.specs.Reference
 pub use Rattle.oci_reference_scan.specs.Scanner
-pub use Rattle.oci_runtime.specs.Answers
-pub use Rattle.oci_runtime.specs.Canonical
 pub use Rattle.oci_runtime.specs.RootlessSpec
 pub use Rattle.oci_runtime.specs.Spec
 pub use Rattle.oci_runtime_lifecycle.specs.ContainerProcessState
@@ -143,6 +141,8 @@ pub use Rattle.oci_runtime_mounts.specs.DefaultMounts
 pub use Rattle.oci_runtime_mounts.specs.Mount
 pub use Rattle.oci_runtime_mounts.specs.MountBuilder
 pub use Rattle.oci_runtime_mounts.specs.Root
+pub use Rattle.oci_runtime_parts.specs.Answers
+pub use Rattle.oci_runtime_parts.specs.Canonical
 pub use Rattle.oci_text.specs.Algorithms
 pub use Rattle.oci_text.specs.Arch
 pub use Rattle.oci_text.specs.CutDigests

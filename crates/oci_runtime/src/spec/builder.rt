@@ -2,7 +2,6 @@
 ghost use Rattle.std.specs.Prelude.{◌≡◌, IfOk, IfErr};
 
 use crate::spec::Spec;
-use crate::texts::text_of;
 use oci_json_schema::{all_2, all_3};
 use oci_linux::Linux;
 use oci_linux_namespaces::LinuxIdMapping;
@@ -11,6 +10,7 @@ use oci_platforms_windows::Windows;
 use oci_process::Process;
 use oci_runtime_lifecycle::Hooks;
 use oci_runtime_mounts::{Mount, Root, get_default_mounts};
+use oci_runtime_parts::text_of;
 use oci_text_base::{OciSpecError, Result};
 use std::alloc::Global;
 use std::collections::BTreeMap;

@@ -2,11 +2,11 @@
 ghost use Rattle.std.specs.Prelude.{◌≡◌, ◌⊎◌, Some, IfErr, OnOk, OnErr, IfSome, IsSome, IsNone, string_bytes, codes, unwrap_or, false};
 ghost use Rattle.std.specs.Fn.{FnReturnsAt};
 ghost use Rattle.oci_text_base.specs.Refused.{Refuses};
-ghost use Rattle.oci_runtime.specs.Canonical.{Resolves, Stops};
+ghost use Rattle.oci_runtime_parts.specs.Answers.{Answered};
+ghost use Rattle.oci_runtime_parts.specs.Canonical.{Resolves, Stops};
 
 use super::Spec;
-use crate::answer::Answer;
-use crate::resolver::canonical;
+use oci_runtime_parts::{Answer, canonicalize};
 use oci_text_base::{OciSpecError, Result};
 use std::alloc::Global;
 
@@ -23,29 +23,13 @@ impl Spec {
     ) -> Result<()>
         requires { F.IsAlwaysCallable resolver.now }
         ensures rooted { OnOk result (IsSome self.old.root × IsSome self.new.root) }
-        ensures resolved { OnOk result (IfSome self.old.root (λ old. IfSome self.new.root (λ new. Resolves (λ p a. (r : R) × FnReturnsAt F.Fn resolver.now p r × R.gives r a) bundle.now (string_bytes old.path) (string_bytes new.path)))) }
+        ensures resolved { OnOk result (IfSome self.old.root (λ old. IfSome self.new.root (λ new. Resolves (Answered (FnReturnsAt F.Fn resolver.now) R.gives) bundle.now (string_bytes old.path) (string_bytes new.path)))) }
         ensures readonly { OnOk result (IfSome self.old.root (λ old. IfSome self.new.root (λ new. new.readonly ≡ Some (unwrap_or old.readonly false)))) }
         ensures others { OnOk result (self.new ≡ record self.old { root = self.new.root }) }
         ensures unrooted { IsNone self.old.root → IfErr result (Refuses (Some (codes "no root path provided for canonicalization"))) }
-        ensures refused { IfErr result (λ e. IfSome self.old.root (λ old. (e ≡ OciSpecError.Memory) ⊎ Stops (λ p a. (r : R) × FnReturnsAt F.Fn resolver.now p r × R.gives r a) bundle.now (string_bytes old.path) (λ p. (r : R) × FnReturnsAt F.Fn resolver.now p r × R.refuses r e))) }
+        ensures refused { IfErr result (λ e. IfSome self.old.root (λ old. (e ≡ OciSpecError.Memory) ⊎ Stops (Answered (FnReturnsAt F.Fn resolver.now) R.gives) bundle.now (string_bytes old.path) (λ p. Answered (FnReturnsAt F.Fn resolver.now) R.refuses p e))) }
         ensures same { OnErr result (self.new ≡ self.old) }
     {
-        let Some(root) = &mut self.root else {
-            return Err(no_root(alloc));
-        };
-        let path = canonical(root.path().as_str(), bundle, resolver)?;
-        let readonly = root.readonly().unwrap_or(false);
-        root.set_path(path).set_readonly(Some(readonly));
-        Ok(())
-    }
-}
-
-// what is answered where there is no root
-fn no_root(alloc: Global) -> OciSpecError
-    ensures { Refuses (Some (codes "no root path provided for canonicalization")) result }
-{
-    match String::from_str(alloc, "no root path provided for canonicalization") {
-        Ok(text) => OciSpecError::Other(text),
-        Err(_) => OciSpecError::Memory,
+        canonicalize(&mut self.root, alloc, bundle, resolver)
     }
 }

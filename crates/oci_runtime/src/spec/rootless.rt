@@ -4,11 +4,10 @@ ghost use Rattle.oci_runtime.specs.Spec.{spec_plain};
 ghost use Rattle.oci_runtime.specs.RootlessSpec.{rootless_spec};
 
 use super::Spec;
-use crate::texts::text_of;
 use oci_json_schema::{all_2, all_3};
 use oci_linux::Linux;
 use oci_process::Process;
-use oci_runtime_mounts::{Root, get_rootless_mounts};
+use oci_runtime_parts::{rootless_parts, text_of};
 use oci_text_base::{OciSpecError, Result};
 use std::alloc::Global;
 use std::collections::BTreeMap;
@@ -21,11 +20,7 @@ impl Spec {
         ensures err { IfErr result (λ e. e ≡ OciSpecError.Memory) }
     {
         let ((version, root, mounts), (process, hostname, linux)) = all_2(
-            all_3(
-                text_of(alloc, "1.0.2-dev"),
-                Root::try_default(alloc),
-                get_rootless_mounts(alloc),
-            ),
+            rootless_parts(alloc),
             all_3(
                 Process::try_default(alloc),
                 text_of(alloc, "youki"),

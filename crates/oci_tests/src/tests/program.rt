@@ -8,9 +8,10 @@ use std::io::ErrorKind;
 use std::process::Abort;
 
 mod documents;
+mod pins;
 mod texts;
 
-const USAGE: &str = "usage: ocidoc norm KIND | pretty KIND | ref TEXT | digest TEXT\n";
+const USAGE: &str = "usage: ocidoc norm KIND | pretty KIND | ref TEXT | digest TEXT | pin TEXT\n";
 
 /// The status of a command.
 fn status(
@@ -35,22 +36,28 @@ fn check_taken(rt: &impl Abort, output: &Output, expected: &str) {
     check_is(rt, &(calls == 0), &expected.is_empty());
 }
 
-/// The status of the words over an input; exactly this is written, and exactly this told.
+/// The status of the words over an input; exactly this is written, and exactly this told. Answers whether anything was read.
 fn check_run(
     rt: &impl Abort,
     alloc: Global,
     words: &[&str],
     input: &str,
     expected: (u8, &str, &str),
-) {
+) -> bool {
     let mut input = Input::new(input.as_bytes());
     let mut output = Output::new(alloc);
     let mut errors = Output::new(alloc);
     let found = status(rt, alloc, words, &mut input, &mut output, &mut errors);
-    let asked = found == 2 && input.reads != 0;
-    check_is(rt, &(words, found, asked), &(words, expected.0, false));
+    let asked = input.reads != 0;
+    let unasked = found == 2 && !asked;
+    check_is(
+        rt,
+        &(words, found, unasked),
+        &(words, expected.0, expected.0 == 2),
+    );
     check_taken(rt, &output, expected.1);
     check_taken(rt, &errors, expected.2);
+    asked
 }
 
 /// A failing stream: the read, the write that fails, whether a flush fails, how, and what was written.

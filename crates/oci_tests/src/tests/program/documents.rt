@@ -19,7 +19,7 @@ struct Kind {
     refused: &'static str,
 }
 
-static KINDS: [Kind; 10] = [
+static KINDS: [Kind; 14] = [
     Kind {
         kind: "manifest",
         text: r#"{"schemaVersion":2,"config":{"mediaType":"m","digest":"foo:bar","size":0},"layers":[]}"#,
@@ -182,6 +182,69 @@ static KINDS: [Kind; 10] = [
 }"#,
         refused: r#"{"registry":"r.io"}"#,
     },
+    Kind {
+        kind: "spec",
+        text: r#"{"ociVersion":"1.0.2","root":{"path":"rootfs","readonly":true},"hostname":"h","layers":[]}"#,
+        compact: r#"{"hostname":"h","ociVersion":"1.0.2","root":{"path":"rootfs","readonly":true}}"#,
+        pretty: r#"{
+  "hostname": "h",
+  "ociVersion": "1.0.2",
+  "root": {
+    "path": "rootfs",
+    "readonly": true
+  }
+}"#,
+        refused: r#"{"ociVersion":"1.0.2","linux":{"resources":{"blockIO":{"weight":65536}}}}"#,
+    },
+    Kind {
+        kind: "state",
+        text: "{}",
+        compact: r#"{"bundle":"","id":"","ociVersion":"","status":"stopped"}"#,
+        pretty: r#"{
+  "bundle": "",
+  "id": "",
+  "ociVersion": "",
+  "status": "stopped"
+}"#,
+        refused: r#"{"status":"Running"}"#,
+    },
+    Kind {
+        kind: "process-state",
+        text: r#"{"ociVersion":"1.0.2","fds":["seccompFd"],"pid":4422,"metadata":"MKNOD","state":{"id":"c","status":"creating"}}"#,
+        compact: r#"{"fds":["seccompFd"],"metadata":"MKNOD","ociVersion":"1.0.2","pid":4422,"state":{"bundle":"","id":"c","ociVersion":"","status":"creating"}}"#,
+        pretty: r#"{
+  "fds": [
+    "seccompFd"
+  ],
+  "metadata": "MKNOD",
+  "ociVersion": "1.0.2",
+  "pid": 4422,
+  "state": {
+    "bundle": "",
+    "id": "c",
+    "ociVersion": "",
+    "status": "creating"
+  }
+}"#,
+        refused: r#"{"pid":2147483648}"#,
+    },
+    Kind {
+        kind: "features",
+        text: r#"{"ociVersionMin":"1.0.0","ociVersionMax":"1.1.0","hooks":["prestart"]}"#,
+        compact: r#"{"annotations":null,"hooks":["prestart"],"linux":null,"mountOptions":null,"ociVersionMax":"1.1.0","ociVersionMin":"1.0.0","potentiallyUnsafeConfigAnnotations":null}"#,
+        pretty: r#"{
+  "annotations": null,
+  "hooks": [
+    "prestart"
+  ],
+  "linux": null,
+  "mountOptions": null,
+  "ociVersionMax": "1.1.0",
+  "ociVersionMin": "1.0.0",
+  "potentiallyUnsafeConfigAnnotations": null
+}"#,
+        refused: r#"{"ociVersionMin":"1.0.0"}"#,
+    },
 ];
 
 fn check_kind(rt: &impl Abort, alloc: Global, row: &Kind) {
@@ -202,7 +265,7 @@ fn kinds(rt: HostRuntime) {
 }
 
 /// Words that ask for nothing.
-static UNKNOWN: [&[&str]; 16] = [
+static UNKNOWN: [&[&str]; 17] = [
     &[],
     &[""],
     &["norm"],
@@ -210,11 +273,12 @@ static UNKNOWN: [&[&str]; 16] = [
     &["norm", ""],
     &["norm", "Manifest"],
     &["norm", "manifest "],
-    &["pretty", "spec"],
-    &["norm", "state"],
+    &["pretty", "Spec"],
+    &["norm", "process_state"],
     &["NORM", "manifest"],
     &["", "manifest"],
-    &["pin", "busybox"],
+    &["pin"],
+    &["Pin", "busybox"],
     &["manifest", "norm"],
     &["norm", "manifest", "manifest"],
     &["ref", "busybox", "busybox"],

@@ -9,7 +9,7 @@ use Rattle.oci_text_base.specs.Refused.{IsSchema}
 use Rattle.oci_text_base.specs.declared.error.OciSpecError.{OciSpecError}
 use Rattle.oci_json_schema.specs.Writable.{Writable}
 use Rattle.oci_process.specs.Process.{process, process_plain}
-use Rattle.oci_process.proofs.Refusals.{each_4, weaker}
+use Rattle.oci_json_schema.proofs.Refusals.{each_4, weaker}
 use Rattle.oci_process.proofs.process.ProcessOciRecord.to_value.Goals as goal
 
 pub returns-clause-ok : goal.returns-clause-ok

@@ -1,0 +1,30 @@
+-- What a policy asks of a container's specification (runtime specification, "Linux Process", `capabilities`; "Linux Container Configuration", "Namespaces").
+use Rattle.std.specs.Prelude.{◌≡◌, ◌⊎◌, Option, IsSomeAnd, IsTrue}
+use Rattle.std.specs.List.{Any}
+use Rattle.std.specs.HashSet.{HashSet, contains}
+use Rattle.oci_spec.specs.CapabilitySets.{capability_eq}
+use Rattle.oci_spec.specs.declared.runtime.Capability.{Capability}
+use Rattle.oci_spec.specs.declared.runtime.LinuxCapabilities.{LinuxCapabilities}
+use Rattle.oci_spec.specs.declared.runtime.LinuxNamespaceType.{LinuxNamespaceType}
+use Rattle.oci_spec.specs.declared.runtime.Spec.{Spec}
+
+module _ {S : Type 0} where
+  -- the set is there and has the capability
+  abbrev pub IsIn : Capability → Option (HashSet Capability S) → Type 0
+  IsIn c set = IsSomeAnd set (λ s. IsTrue (contains capability_eq s c))
+
+-- one of the five sets has it
+abbrev pub HasCapability : LinuxCapabilities → Capability → Type 0
+HasCapability x c = IsIn c x.bounding ⊎ IsIn c x.effective ⊎ IsIn c x.inheritable ⊎ IsIn c x.permitted ⊎ IsIn c x.ambient
+
+-- the container's process has it in one of its sets
+abbrev pub MayUse : Spec → Capability → Type 0
+MayUse x c = IsSomeAnd x.process (λ p. IsSomeAnd p.capabilities (λ sets. HasCapability sets c))
+
+-- a namespace of this kind is listed: a new one, or one that the container joins
+abbrev pub HasNamespace : Spec → LinuxNamespaceType → Type 0
+HasNamespace x kind = IsSomeAnd x.linux (λ l. IsSomeAnd l.namespaces (λ ns. Any (λ n. n.typ ≡ kind) ns.items))
+
+-- none is, so the container stays in that of its host
+abbrev pub SharesWithHost : Spec → LinuxNamespaceType → Type 0
+SharesWithHost x kind = ¬ HasNamespace x kind

@@ -1,0 +1,100 @@
+//! What a runtime does with a bundle before it starts a container: it loads the specification, has the root's path made
+//! canonical, takes away a capability, masks a path, makes the root read-only, and saves the specification.
+ghost use Rattle.std.specs.Prelude.{IfOk, OnOk};
+ghost use Rattle.oci_examples.specs.Policy.{HasCapability, IsIn};
+
+use anyhow::Context;
+use oci_json::to_string_pretty;
+use oci_spec::runtime::{Capabilities, Capability, Linux, LinuxCapabilities, Spec};
+use oci_spec::{OciSpecError, Result};
+use std::alloc::Global;
+use std::rt::Files;
+
+/// A set without a capability.
+fn without(set: &Option<Capabilities>, dropped: Capability) -> Result<Option<Capabilities>>
+    ensures { IfOk result (λ kept. ¬ IsIn dropped kept) }
+{
+    let Some(set) = set else {
+        return Ok(None);
+    };
+    let mut kept = set.clone()?;
+    kept.remove(&dropped);
+    Ok(Some(kept))
+}
+
+/// Takes a capability out of all five sets.
+fn drop_capability(sets: &mut LinuxCapabilities, dropped: Capability) -> Result<()>
+    ensures { OnOk result (¬ HasCapability sets.new dropped) }
+{
+    let bounding = without(sets.bounding(), dropped)?;
+    let effective = without(sets.effective(), dropped)?;
+    let inheritable = without(sets.inheritable(), dropped)?;
+    let permitted = without(sets.permitted(), dropped)?;
+    let ambient = without(sets.ambient(), dropped)?;
+    sets.set_bounding(bounding)
+        .set_effective(effective)
+        .set_inheritable(inheritable)
+        .set_permitted(permitted)
+        .set_ambient(ambient);
+    Ok(())
+}
+
+/// Adds a path to those that the container cannot read.
+fn mask(linux: &mut Linux, alloc: Global, path: &str) -> Result<()> {
+    let path = String::from_str(alloc, path)?;
+    let masked = linux.masked_paths_mut().get_or_insert(Vec::new(alloc));
+    masked.push(path)?;
+    Ok(())
+}
+
+/// Drops `CAP_SYS_ADMIN`, masks `/sys/firmware`, and makes the root read-only.
+fn tighten(spec: &mut Spec, alloc: Global) -> Result<()> {
+    if let Some(process) = spec.process_mut() {
+        if let Some(sets) = process.capabilities() {
+            let mut sets = sets.clone(alloc)?;
+            drop_capability(&mut sets, Capability::SysAdmin)?;
+            process.set_capabilities(Some(sets));
+        }
+    }
+    if let Some(linux) = spec.linux_mut() {
+        mask(linux, alloc, "/sys/firmware")?;
+    }
+    if let Some(root) = spec.root_mut() {
+        root.set_readonly(Some(true));
+    }
+    Ok(())
+}
+
+/// A path without `.` and empty parts: this stands in for what a runtime asks the file system.
+fn resolve(alloc: Global, path: &str) -> Result<String> {
+    let mut resolved = String::new(alloc);
+    for part in path.split('/') {
+        match part {
+            "" | "." => {}
+            ".." => return Err(OciSpecError::Other(String::from_str(alloc, path)?)),
+            _ => {
+                resolved.push_str("/")?;
+                resolved.push_str(part)?;
+            }
+        }
+    }
+    Ok(resolved)
+}
+
+/// Tightens the specification of a bundle's file, saves it in another and prints what was saved.
+pub fn print<R: Files + Print + AllocGlobal>(
+    rt: &R,
+    bundle: &str,
+    loaded: &str,
+    saved: &str,
+) -> anyhow::Result<()> {
+    let alloc = rt.alloc();
+    let mut spec = Spec::load(rt, alloc, loaded).context("no specification")?;
+    let resolver = |path: &str| -> Result<String> { resolve(alloc, path) };
+    spec.canonicalize_rootfs(alloc, bundle, &resolver)?;
+    tighten(&mut spec, alloc)?;
+    spec.save(rt, alloc, saved)?;
+    let spec = Spec::load(rt, alloc, saved)?;
+    rt.println(&to_string_pretty(&spec, alloc)?)?;
+    Ok(())
+}

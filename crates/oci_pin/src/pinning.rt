@@ -1,0 +1,26 @@
+//! Pinning: what a tag may come to mean otherwise is named by its digest (image specification, "Content Descriptors").
+ghost use Rattle.std.specs.Prelude.{◌≡◌, ◌↔◌, ℕ, List, Some, None, IfOk, IfErr};
+ghost use Rattle.oci_text_base.specs.Digest.{IsDigest};
+ghost use Rattle.oci_reference.specs.Accepted.{Accepted};
+ghost use Rattle.oci_reference.specs.Parts.{Parts};
+ghost use Rattle.oci_reference.specs.Replaced.{pinned, IsSupported};
+ghost use Rattle.oci_reference.specs.Whole.{whole};
+
+use oci_image_descriptor::Descriptor;
+use oci_reference::Reference;
+use oci_text_base::{OciSpecError, Result};
+use std::alloc::Global;
+
+/// The reference by the digest of a descriptor's content in the place of its tag and digest, with the same registry,
+/// repository and mirror. Where the reference is one that was read, the whole text of the answer is read again exactly if
+/// the digest is by `sha256`, `sha384` or `sha512`, and then as the answer. The error is `Memory`.
+pub fn pin(alloc: Global, reference: &Reference, descriptor: &Descriptor) -> Result<Reference>
+    ensures ok { IfOk result (λ p. p ≡ record reference.now { tag = None; digest = Some descriptor.now.digest }) }
+    ensures accepted { IfOk result (λ p. (t a e : List ℕ) → Accepted t reference.now → IsDigest descriptor.now.digest a e
+        → ((q : Parts) × Accepted (whole p) q) ↔ IsSupported a) }
+    ensures alone { IfOk result (λ p. (t : List ℕ) (q : Parts) → Accepted t reference.now → Accepted (whole p) q → q ≡ p) }
+    ensures err { IfErr result (λ e. e ≡ OciSpecError.Memory) }
+{
+    let digest = String::from_str(alloc, descriptor.digest().as_ref())?;
+    reference.clone_with_digest(digest)
+}
