@@ -2,16 +2,16 @@
 use Rattle.std.proofs.Common.{List, ℕ, Option, Some, None, inl, inr, refl}
 use Rattle.std.specs.Prelude.{IfSome}
 use Rattle.std.specs.Io.KnownBytes.{Keeps}
-use Rattle.oci_text_base.specs.Refused.{IsJson, IsSchema, IsMemorySchemaOrIo, IsMemorySerDeOrIo}
-use Rattle.oci_text_base.specs.declared.error.OciSpecError.{OciSpecError}
-use Rattle.oci_text_base.specs.declared.error.OciSpecError.TheVariants.{Other, Io, SerDe, Builder, Memory}
-use Rattle.oci_text_base.specs.declared.error.SerDeError.TheVariants.{Json, Schema}
-use Rattle.oci_image_descriptor.specs.Descriptor.{descriptor}
-use Rattle.oci_json_schema.specs.Plain.{Plain}
-use Rattle.oci_json_schema.specs.Shape.{Shape}
-use Rattle.oci_json_schema.specs.Value.{value}
-use Rattle.oci_json_schema.specs.Writable.{Writable}
-use Rattle.oci_json_engines.specs.Engines.{MeansBytes, BeginsPretty, KeepsUnlessIo, IsNoJson, IsNoDocument, IsNotNormalized}
+use Rattle.oci_spec.specs.Refused.{IsJson, IsSchema, IsMemorySchemaOrIo, IsMemorySerDeOrIo}
+use Rattle.oci_spec.specs.declared.OciSpecError.{OciSpecError}
+use Rattle.oci_spec.specs.declared.OciSpecError.TheVariants.{Other, Io, SerDe, Builder, Memory}
+use Rattle.oci_spec.specs.declared.SerDeError.TheVariants.{Json, Schema}
+use Rattle.oci_spec.specs.Descriptor.{descriptor}
+use Rattle.oci_spec.specs.Plain.{Plain}
+use Rattle.oci_spec.specs.Shape.{Shape}
+use Rattle.oci_spec.specs.Value.{value}
+use Rattle.oci_spec.specs.Writable.{Writable}
+use Rattle.oci_spec.specs.Engines.{MeansBytes, BeginsPretty, KeepsUnlessIo, IsNoJson, IsNoDocument, IsNotNormalized}
 use Rattle.oci_doc_run.specs.Refusals.{refusal_of, TellsOfPretty, TellsOfPin}
 
 -- a document that is read is not normalized where it is not writable

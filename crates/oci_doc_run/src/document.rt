@@ -1,22 +1,19 @@
 //! The commands on documents.
 ghost use Rattle.std.specs.Prelude.{OnOk, IfErr};
 ghost use Rattle.std.specs.Io.KnownBytes.{Appends};
-ghost use Rattle.oci_json_engines.specs.Engines.{WritesDocument};
+ghost use Rattle.oci_spec.specs.Engines.{WritesDocument};
 ghost use Rattle.oci_doc_run.specs.Kinds.{shape_of};
 ghost use Rattle.oci_doc_run.specs.Outputs.{WritesPretty};
 ghost use Rattle.oci_doc_run.specs.Refusals.{TellsOfNormal, TellsOfPretty};
 
 use crate::kind::Kind;
 use crate::refusal::Refusal;
-use oci_distribution::{ErrorResponse, RepositoryList, TagList};
-use oci_features::Features;
-use oci_image_config::ImageConfiguration;
-use oci_image_descriptor::Descriptor;
-use oci_image_manifest::{ArtifactManifest, ImageIndex, ImageManifest, OciLayout};
-use oci_json_engines::{from_reader, normalize, to_writer_pretty};
-use oci_json_schema::OciRecord;
-use oci_reference::Reference;
-use oci_runtime::{ContainerProcessState, Spec, State};
+use oci_json::{OciRecord, from_reader, normalize, to_writer_pretty};
+use oci_spec::distribution::{ErrorResponse, Reference, RepositoryList, TagList};
+use oci_spec::image::{
+    ArtifactManifest, Descriptor, ImageConfiguration, ImageIndex, ImageManifest, OciLayout,
+};
+use oci_spec::runtime::{ContainerProcessState, Features, Spec, State};
 use std::alloc::Global;
 use std::io::{Read, Write};
 

@@ -1,14 +1,14 @@
 //! The program's whole work.
 ghost use Rattle.std.specs.Prelude.{◌≡◌, ◌<◌, ◌↔◌, map, string_bytes, None, IfSome};
 ghost use Rattle.std.specs.Io.KnownBytes.{Appends, Keeps};
-ghost use Rattle.oci_json_engines.specs.Engines.{AppendsSome};
+ghost use Rattle.oci_spec.specs.Engines.{AppendsSome};
 ghost use Rattle.oci_doc_run.specs.declared.refusal.Refusal.{Refusal};
 ghost use Rattle.oci_doc_run.specs.Commands.{command_of, usage, LeavesInput};
 ghost use Rattle.oci_doc_run.specs.Outputs.{Writes};
 ghost use Rattle.oci_doc_run.specs.Refusals.{line_of, Tells};
 
 use crate::command::Command;
-use oci_json_engines::write_text;
+use oci_json::write_text;
 use std::alloc::Global;
 use std::io::{Read, Write};
 

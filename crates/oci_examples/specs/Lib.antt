@@ -1,2 +1,1 @@
-pub mod Platforms
 pub mod Policy

@@ -1,11 +1,10 @@
-//! Six small programs over the public calls of the facade, one after the other: a manifest is put together, a platform's manifest
-//! is chosen from an index, a registry's error reply is told, a bundle's specification is checked by a policy, tightened and
-//! checked again, and one without privileges is printed. Their inputs stand in `data/`.
+//! Five small programs over the public calls of the facade, one after the other: a manifest is put together, a registry's error
+//! reply is told, a bundle's specification is checked by a policy, tightened and checked again, and one without privileges is
+//! printed. Their inputs stand in `data/`.
 #![tactic(auto)]
 
 mod build_manifest;
 mod check_policy;
-mod choose_platform;
 mod error_reply;
 mod rootless_spec;
 mod tighten_bundle;
@@ -17,7 +16,6 @@ use std::rt::Files;
 /// Runs the programs in turn.
 fn all<R: Files + Print + AllocGlobal>(rt: &R) -> Result<()> {
     build_manifest::print(rt)?;
-    choose_platform::print(rt, "index.json")?;
     error_reply::print(rt, "reply.json")?;
     check_policy::print(rt, "config.json")?;
     tighten_bundle::print(rt, "/bundles/./web", "config.json", "tightened.json")?;

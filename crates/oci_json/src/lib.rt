@@ -5,7 +5,7 @@ pub mod laws;
 
 pub use oci_json_engines::{
     from_file, from_reader, from_slice, normalize, to_file, to_file_pretty, to_string,
-    to_string_pretty, to_writer, to_writer_pretty,
+    to_string_pretty, to_writer, to_writer_pretty, write_text,
 };
 pub use oci_json_free::{FreeValues, equal_optional_values, equal_trees, equal_values};
 pub use oci_json_kinds::{

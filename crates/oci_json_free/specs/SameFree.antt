@@ -55,6 +55,10 @@ same_free v w = (
   (λ h. from_values (values_view v.entries) (values_view w.entries) (cc)),
 )
 
+-- so is an answer that is that of the definition
+pub told : (b : Bool) (v w : BTreeMap (String Global) (Option Value)) → b ≡ free_eq v w → (b ≡ true) ↔ (free_values_plain v ≡ free_values_plain w)
+told b v w is = let s = same_free v w in (λ k. s.0 (sym is ∙ k), λ k. is ∙ s.1 k)
+
 -- what tells content from content is an equality
 pub agrees_equiv : {T : Type 0} {eq : T → T → Bool} {f : T → Plain} → Agrees eq f → IsEquivalence eq
 agrees_equiv {T} {eq} {f} agrees = record {

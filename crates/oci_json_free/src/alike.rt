@@ -88,6 +88,12 @@ pub fn equal_values(
     a: &BTreeMap<String, Option<Value>>,
     b: &BTreeMap<String, Option<Value>>,
 ) -> bool
+    ensures { (result ≡ true) ↔ (free_values_plain a.now ≡ free_values_plain b.now) }
+{
+    same_values(a, b)
+}
+
+fn same_values(a: &BTreeMap<String, Option<Value>>, b: &BTreeMap<String, Option<Value>>) -> bool
     ensures { result ≡ free_eq a.now b.now }
 {
     let mut others = b.iter();
@@ -112,7 +118,7 @@ pub fn equal_optional_values(
     ensures { result ≡ option_eq free_eq a.now b.now }
 {
     match (a, b) {
-        (Some(x), Some(y)) => equal_values(x, y),
+        (Some(x), Some(y)) => same_values(x, y),
         (None, None) => true,
         _ => false,
     }

@@ -1,5 +1,3 @@
-pub mod RootlessSpec
-pub mod Spec
 pub use Rattle.oci_runtime_lifecycle.specs.ContainerProcessState
 pub use Rattle.oci_runtime_lifecycle.specs.ContainerState
 pub use Rattle.oci_runtime_lifecycle.specs.Hook
@@ -11,3 +9,5 @@ pub use Rattle.oci_runtime_mounts.specs.MountBuilder
 pub use Rattle.oci_runtime_mounts.specs.Root
 pub use Rattle.oci_runtime_parts.specs.Answers
 pub use Rattle.oci_runtime_parts.specs.Canonical
+pub use Rattle.oci_runtime_spec.specs.RootlessSpec
+pub use Rattle.oci_runtime_spec.specs.Spec

@@ -2,7 +2,7 @@
 //! (runtime specification, "Configuration").
 #![tactic(auto)]
 
-pub mod spec;
+pub mod spec_builder;
 pub mod versions;
 
 pub use oci_runtime_lifecycle::{
@@ -13,5 +13,6 @@ pub use oci_runtime_mounts::{
     Mount, MountBuilder, Root, RootBuilder, get_default_mounts, get_rootless_mounts,
 };
 pub use oci_runtime_parts::Answer;
-pub use spec::{Spec, SpecBuilder};
+pub use oci_runtime_spec::Spec;
+pub use spec_builder::SpecBuilder;
 pub use versions::{VERSION, VERSION_DEV, VERSION_MAJOR, VERSION_MINOR, VERSION_PATCH, version};

@@ -5,18 +5,6 @@ use std::alloc::Global;
 use std::fmt::Debug;
 use std::process::Abort;
 
-/// What a builder makes, a copy of it, and the default of its record are written as these texts.
-macro_rules! check_record {
-    ($rt:expr, $record:ident, $builder:expr, $made:expr, $default:expr) => {{
-        let alloc = $rt.alloc();
-        let made = $builder.build(alloc).expect(&$rt, $made);
-        check_copy(&$rt, alloc, &made, made.clone(alloc), $made);
-        check_written(&$rt, alloc, $record::try_default(alloc), $default);
-    }};
-}
-
-mod control_groups;
-mod features;
 mod linux;
 mod platforms;
 mod process;

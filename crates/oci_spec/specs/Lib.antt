@@ -125,13 +125,12 @@ pub use Rattle.oci_reference.specs.Equal
 pub use Rattle.oci_reference.specs.Named
 pub use Rattle.oci_reference.specs.Parts
 pub use Rattle.oci_reference.specs.Record
+pub use Rattle.oci_reference.specs.Replaced
 pub use Rattle.oci_reference.specs.Whole
 pub use Rattle.oci_reference.specs.Written
 pub use Rattle.oci_reference_scan.specs.Pieces
 pub use Rattle.oci_reference_scan.specs.Reference
 pub use Rattle.oci_reference_scan.specs.Scanner
-pub use Rattle.oci_runtime.specs.RootlessSpec
-pub use Rattle.oci_runtime.specs.Spec
 pub use Rattle.oci_runtime_lifecycle.specs.ContainerProcessState
 pub use Rattle.oci_runtime_lifecycle.specs.ContainerState
 pub use Rattle.oci_runtime_lifecycle.specs.Hook
@@ -143,6 +142,8 @@ pub use Rattle.oci_runtime_mounts.specs.MountBuilder
 pub use Rattle.oci_runtime_mounts.specs.Root
 pub use Rattle.oci_runtime_parts.specs.Answers
 pub use Rattle.oci_runtime_parts.specs.Canonical
+pub use Rattle.oci_runtime_spec.specs.RootlessSpec
+pub use Rattle.oci_runtime_spec.specs.Spec
 pub use Rattle.oci_text.specs.Algorithms
 pub use Rattle.oci_text.specs.Arch
 pub use Rattle.oci_text.specs.CutDigests

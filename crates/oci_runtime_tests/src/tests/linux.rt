@@ -1,18 +1,10 @@
-//! Records of the Linux part made in code: built, copied, written, and their defaults; its names and what is displayed.
+//! The default of the Linux part, with and without privileges; its names and what is displayed.
 
-use super::{check_copy, check_is, check_written};
+use super::{check_is, check_written};
 use oci_cgroups::{LinuxDeviceCgroupBuilder, LinuxInterfacePriorityBuilder};
-use oci_linux::{
-    Linux, LinuxBuilder, LinuxDevice, LinuxDeviceBuilder, LinuxIdMapping, LinuxIdMappingBuilder,
-    LinuxIntelRdt, LinuxIntelRdtBuilder, LinuxMemoryPolicy, LinuxMemoryPolicyBuilder,
-    LinuxNamespace, LinuxNamespaceBuilder, LinuxNetDevice, LinuxNetDeviceBuilder, LinuxPersonality,
-    LinuxPersonalityBuilder, LinuxSeccomp, LinuxSeccompArg, LinuxSeccompArgBuilder,
-    LinuxSeccompBuilder, LinuxSyscall, LinuxSyscallBuilder, LinuxTimeOffset,
-    LinuxTimeOffsetBuilder, cgroup_of,
-};
+use oci_linux::{Linux, LinuxDeviceBuilder, LinuxMemoryPolicyBuilder, cgroup_of};
 use oci_linux_names::{
-    LinuxDeviceType, LinuxNamespaceType, LinuxPersonalityDomain, LinuxSeccompAction,
-    LinuxSeccompOperator, MemoryPolicyModeType, SArch,
+    LinuxDeviceType, LinuxNamespaceType, LinuxSeccompAction, MemoryPolicyModeType, SArch,
 };
 use oci_text_base::{OciSpecError, Result};
 use std::alloc::Global;
@@ -23,106 +15,6 @@ use std::process::Abort;
 fn check_shown<T: Display>(rt: &impl Abort, alloc: Global, shown: &T, text: &str) {
     let found = format!(in alloc; "{shown}").expect(rt, text);
     check_is(rt, &found.as_str(), &text);
-}
-
-#[test]
-fn namespaces_and_devices(rt: HostRuntime) {
-    check_record!(
-        rt,
-        LinuxIdMapping,
-        LinuxIdMappingBuilder::default().host_id(1000).size(1),
-        r#"{"containerID":0,"hostID":1000,"size":1}"#,
-        r#"{"containerID":0,"hostID":0,"size":0}"#
-    );
-    check_record!(
-        rt,
-        LinuxNetDevice,
-        LinuxNetDeviceBuilder::default(),
-        r#"{"name":null}"#,
-        r#"{"name":null}"#
-    );
-    check_record!(
-        rt,
-        LinuxNamespace,
-        LinuxNamespaceBuilder::default().typ(LinuxNamespaceType::Time),
-        r#"{"type":"time"}"#,
-        r#"{"type":"pid"}"#
-    );
-    check_record!(
-        rt,
-        LinuxDevice,
-        LinuxDeviceBuilder::default()
-            .typ(LinuxDeviceType::B)
-            .major(8)
-            .uid(0),
-        r#"{"major":8,"minor":0,"path":"","type":"b","uid":0}"#,
-        r#"{"major":0,"minor":0,"path":"","type":"a"}"#
-    );
-    check_record!(
-        rt,
-        LinuxTimeOffset,
-        LinuxTimeOffsetBuilder::default().secs(-1),
-        r#"{"secs":-1}"#,
-        "{}"
-    );
-}
-
-#[test]
-fn system_calls(rt: HostRuntime) {
-    check_record!(
-        rt,
-        LinuxSeccompArg,
-        LinuxSeccompArgBuilder::default()
-            .index(5)
-            .op(LinuxSeccompOperator::ScmpCmpNe),
-        r#"{"index":5,"op":"SCMP_CMP_NE","value":0}"#,
-        r#"{"index":0,"op":"SCMP_CMP_EQ","value":0}"#
-    );
-    check_record!(
-        rt,
-        LinuxSyscall,
-        LinuxSyscallBuilder::default()
-            .action(LinuxSeccompAction::ScmpActErrno)
-            .errno_ret(1),
-        r#"{"action":"SCMP_ACT_ERRNO","errnoRet":1,"names":[]}"#,
-        r#"{"action":"SCMP_ACT_ALLOW","names":[]}"#
-    );
-    check_record!(
-        rt,
-        LinuxSeccomp,
-        LinuxSeccompBuilder::default().default_action(LinuxSeccompAction::ScmpActLog),
-        r#"{"defaultAction":"SCMP_ACT_LOG"}"#,
-        r#"{"defaultAction":"SCMP_ACT_ALLOW"}"#
-    );
-}
-
-#[test]
-fn memory_and_caches(rt: HostRuntime) {
-    let alloc = rt.alloc();
-    check_record!(
-        rt,
-        LinuxIntelRdt,
-        LinuxIntelRdtBuilder::default().schemata(Vec::new(alloc)),
-        "{}",
-        "{}"
-    );
-    check_record!(
-        rt,
-        LinuxPersonality,
-        LinuxPersonalityBuilder::default().domain(LinuxPersonalityDomain::PerLinux32),
-        r#"{"domain":"LINUX32"}"#,
-        r#"{"domain":"LINUX"}"#
-    );
-    check_record!(
-        rt,
-        LinuxMemoryPolicy,
-        LinuxMemoryPolicyBuilder::default()
-            .mode(MemoryPolicyModeType::MpolLocal)
-            .nodes(String::new(alloc))
-            .flags(Vec::new(alloc)),
-        r#"{"flags":[],"mode":"MPOL_LOCAL","nodes":""}"#,
-        r#"{"mode":"MPOL_DEFAULT"}"#
-    );
 }
 
 /// A builder is refused for this field.
@@ -149,25 +41,13 @@ fn a_policy_wants_mode_nodes_and_flags(rt: HostRuntime) {
 static DEFAULT: &str =
     r#"{"maskedPaths":["/proc/acpi","/proc/asound","/proc/kcore","/proc/keys","/proc/latency_stats","/proc/timer_list","/proc/timer_stats","/proc/sched_debug","/sys/firmware","/proc/scsi"],"namespaces":[{"type":"pid"},{"type":"network"},{"type":"ipc"},{"type":"uts"},{"type":"mount"},{"type":"cgroup"}],"readonlyPaths":["/proc/bus","/proc/fs","/proc/irq","/proc/sys","/proc/sysrq-trigger"],"resources":{"devices":[]}}"#;
 
-static BUILT: &str =
-    r#"{"maskedPaths":[],"mountLabel":"","namespaces":[],"readonlyPaths":["/proc/bus","/proc/fs","/proc/irq","/proc/sys","/proc/sysrq-trigger"],"resources":{"devices":[]}}"#;
-
 static ROOTLESS: &str =
     r#"{"gidMappings":[{"containerID":0,"hostID":100,"size":1}],"maskedPaths":["/proc/acpi","/proc/asound","/proc/kcore","/proc/keys","/proc/latency_stats","/proc/timer_list","/proc/timer_stats","/proc/sched_debug","/sys/firmware","/proc/scsi"],"namespaces":[{"type":"pid"},{"type":"ipc"},{"type":"uts"},{"type":"mount"},{"type":"cgroup"},{"type":"user"}],"readonlyPaths":["/proc/bus","/proc/fs","/proc/irq","/proc/sys","/proc/sysrq-trigger"],"uidMappings":[{"containerID":0,"hostID":1000,"size":1}]}"#;
 
 #[test]
 fn linux(rt: HostRuntime) {
     let alloc = rt.alloc();
-    check_record!(
-        rt,
-        Linux,
-        LinuxBuilder::default()
-            .namespaces(Vec::new(alloc))
-            .masked_paths(Vec::new(alloc))
-            .mount_label(String::new(alloc)),
-        BUILT,
-        DEFAULT
-    );
+    check_written(&rt, alloc, Linux::try_default(alloc), DEFAULT);
     check_written(&rt, alloc, Linux::rootless(alloc, 1000, 100), ROOTLESS);
 }
 

@@ -1,18 +1,9 @@
-//! Records of Solaris, of virtual machines, of Windows and of z/OS made in code: built, copied, written, and their defaults.
+//! Objects of any values in documents of Windows, and the names of namespaces of z/OS.
 
-use super::{check_copy, check_is, check_written};
+use super::{check_copy, check_is};
 use oci_json_engines::to_string;
 use oci_json_schema::OciRecord;
-use oci_platforms::{
-    Solaris, SolarisAnet, SolarisAnetBuilder, SolarisBuilder, SolarisCappedCPU,
-    SolarisCappedCPUBuilder, SolarisCappedMemory, SolarisCappedMemoryBuilder, VM, VMBuilder,
-    VMHypervisor, VMHypervisorBuilder, VMImage, VMImageBuilder, VMKernel, VMKernelBuilder, Windows,
-    WindowsBuilder, WindowsCPUResources, WindowsCPUResourcesBuilder, WindowsDevice,
-    WindowsDeviceBuilder, WindowsHyperV, WindowsHyperVBuilder, WindowsMemoryResources,
-    WindowsMemoryResourcesBuilder, WindowsNetwork, WindowsNetworkBuilder, WindowsResources,
-    WindowsResourcesBuilder, WindowsStorageResources, WindowsStorageResourcesBuilder, ZOS,
-    ZOSBuilder, ZOSNamespace, ZOSNamespaceBuilder, ZOSNamespaceType,
-};
+use oci_platforms::{Windows, WindowsBuilder, ZOSNamespaceType};
 use oci_text_base::{OciSpecError, SerDeError};
 use serde_json::Value;
 use std::alloc::Global;
@@ -21,134 +12,6 @@ use std::process::Abort;
 
 fn text(rt: &impl Abort, alloc: Global, text: &str) -> String {
     String::from_str(alloc, text).expect(rt, text)
-}
-
-#[test]
-fn solaris(rt: HostRuntime) {
-    let alloc = rt.alloc();
-    check_record!(
-        rt,
-        SolarisAnet,
-        SolarisAnetBuilder::default().linkname(text(&rt, alloc, "net0")),
-        r#"{"linkname":"net0"}"#,
-        "{}"
-    );
-    check_record!(
-        rt,
-        SolarisCappedCPU,
-        SolarisCappedCPUBuilder::default().ncpus(text(&rt, alloc, "8")),
-        r#"{"ncpus":"8"}"#,
-        "{}"
-    );
-    check_record!(
-        rt,
-        SolarisCappedMemory,
-        SolarisCappedMemoryBuilder::default().swap(text(&rt, alloc, "512m")),
-        r#"{"swap":"512m"}"#,
-        "{}"
-    );
-    check_record!(
-        rt,
-        Solaris,
-        SolarisBuilder::default().limitpriv(text(&rt, alloc, "default")),
-        r#"{"limitpriv":"default"}"#,
-        "{}"
-    );
-}
-
-#[test]
-fn machines(rt: HostRuntime) {
-    let alloc = rt.alloc();
-    check_record!(
-        rt,
-        VMHypervisor,
-        VMHypervisorBuilder::default().parameters(Vec::new(alloc)),
-        r#"{"parameters":[],"path":""}"#,
-        r#"{"path":""}"#
-    );
-    check_record!(
-        rt,
-        VMKernel,
-        VMKernelBuilder::default().path(text(&rt, alloc, "/k")),
-        r#"{"path":"/k"}"#,
-        r#"{"path":""}"#
-    );
-    check_record!(
-        rt,
-        VMImage,
-        VMImageBuilder::default().format(text(&rt, alloc, "raw")),
-        r#"{"format":"raw","path":""}"#,
-        r#"{"format":"","path":""}"#
-    );
-    let image = VMImageBuilder::default().build(alloc).expect(&rt, "image");
-    check_record!(
-        rt,
-        VM,
-        VMBuilder::default().image(image),
-        r#"{"image":{"format":"","path":""},"kernel":{"path":""}}"#,
-        r#"{"kernel":{"path":""}}"#
-    );
-}
-
-#[test]
-fn resources_of_windows(rt: HostRuntime) {
-    check_record!(
-        rt,
-        WindowsMemoryResources,
-        WindowsMemoryResourcesBuilder::default().limit(5),
-        r#"{"limit":5}"#,
-        "{}"
-    );
-    check_record!(
-        rt,
-        WindowsCPUResources,
-        WindowsCPUResourcesBuilder::default().shares(65535),
-        r#"{"shares":65535}"#,
-        "{}"
-    );
-    check_record!(
-        rt,
-        WindowsStorageResources,
-        WindowsStorageResourcesBuilder::default().bps(7),
-        r#"{"bps":7}"#,
-        "{}"
-    );
-    let alloc = rt.alloc();
-    let cpu = WindowsCPUResourcesBuilder::default().count(2).build(alloc);
-    let cpu = cpu.expect(&rt, "processors");
-    check_record!(
-        rt,
-        WindowsResources,
-        WindowsResourcesBuilder::default().cpu(cpu),
-        r#"{"cpu":{"count":2}}"#,
-        "{}"
-    );
-}
-
-#[test]
-fn parts_of_windows(rt: HostRuntime) {
-    let alloc = rt.alloc();
-    check_record!(
-        rt,
-        WindowsDevice,
-        WindowsDeviceBuilder::default().id_type(text(&rt, alloc, "class")),
-        r#"{"id":"","idType":"class"}"#,
-        r#"{"id":"","idType":""}"#
-    );
-    check_record!(
-        rt,
-        WindowsHyperV,
-        WindowsHyperVBuilder::default().utility_vm_path(text(&rt, alloc, "u")),
-        r#"{"utilityVmPath":"u"}"#,
-        "{}"
-    );
-    check_record!(
-        rt,
-        WindowsNetwork,
-        WindowsNetworkBuilder::default().allow_unqualified_dns_query(true),
-        r#"{"allowUnqualifiedDNSQuery":true}"#,
-        "{}"
-    );
 }
 
 /// A credential of one value.
@@ -161,27 +24,6 @@ fn credential(
     let before: Result<_, _> = values.insert(text(rt, alloc, "a"), value);
     drop(before.expect(rt, "a"));
     values
-}
-
-#[test]
-fn windows(rt: HostRuntime) {
-    let alloc = rt.alloc();
-    check_record!(
-        rt,
-        Windows,
-        WindowsBuilder::default().servicing(true),
-        r#"{"servicing":true}"#,
-        "{}"
-    );
-    let none = r#"{"credentialSpec":{"a":null}}"#;
-    let values = credential(&rt, alloc, None);
-    check_record!(
-        rt,
-        Windows,
-        WindowsBuilder::default().credential_spec(values),
-        none,
-        "{}"
-    );
 }
 
 /// A null that code sets as a value is written as null, and read back as none.
@@ -220,25 +62,6 @@ fn other_numbers_in_credentials(rt: HostRuntime) {
     let others = WindowsBuilder::default().credential_spec(values);
     let others = others.build(alloc).expect(&rt, "another");
     check_is(&rt, &windows, &others);
-}
-
-#[test]
-fn zos(rt: HostRuntime) {
-    let alloc = rt.alloc();
-    check_record!(
-        rt,
-        ZOSNamespace,
-        ZOSNamespaceBuilder::default().typ(ZOSNamespaceType::Mount),
-        r#"{"type":"mount"}"#,
-        r#"{"type":"pid"}"#
-    );
-    check_record!(
-        rt,
-        ZOS,
-        ZOSBuilder::default().namespaces(Vec::new(alloc)),
-        r#"{"namespaces":[]}"#,
-        "{}"
-    );
 }
 
 static NAMESPACES: [(&str, Result<ZOSNamespaceType, &str>); 7] = [

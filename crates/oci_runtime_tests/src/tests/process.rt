@@ -1,87 +1,19 @@
-//! Records of a process made in code: built, copied, written, and their defaults; and lists of processors.
+//! The default of a process, and lists of processors.
 
-use super::{check_copy, check_is, check_written};
+use super::{check_is, check_written};
 use oci_json_engines::{to_string, to_writer};
-use oci_process::{
-    Box, BoxBuilder, Capability, ExecCPUAffinity, ExecCPUAffinityBuilder, IOPriorityClass,
-    LinuxCapabilities, LinuxCapabilitiesBuilder, LinuxIOPriority, LinuxIOPriorityBuilder,
-    LinuxSchedulerPolicy, PosixRlimit, PosixRlimitBuilder, PosixRlimitType, Process,
-    ProcessBuilder, Scheduler, SchedulerBuilder, User, UserBuilder, is_cpu_list,
-};
+use oci_process::{ExecCPUAffinity, ExecCPUAffinityBuilder, Process, is_cpu_list};
 use oci_text_base::{OciSpecError, Result, SerDeError};
 use std::alloc::Global;
-use std::collections::HashSet;
 use std::process::Abort;
 
-#[test]
-fn parts(rt: HostRuntime) {
-    check_record!(
-        rt,
-        Box,
-        BoxBuilder::default().height(24),
-        r#"{"height":24,"width":0}"#,
-        r#"{"height":0,"width":0}"#
-    );
-    check_record!(
-        rt,
-        PosixRlimit,
-        PosixRlimitBuilder::default()
-            .typ(PosixRlimitType::RlimitAs)
-            .hard(2),
-        r#"{"hard":2,"soft":0,"type":"RLIMIT_AS"}"#,
-        r#"{"hard":0,"soft":0,"type":"RLIMIT_CPU"}"#
-    );
-    check_record!(
-        rt,
-        User,
-        UserBuilder::default().gid(1000).umask(18),
-        r#"{"gid":1000,"uid":0,"umask":18}"#,
-        r#"{"gid":0,"uid":0}"#
-    );
-    check_record!(
-        rt,
-        LinuxIOPriority,
-        LinuxIOPriorityBuilder::default().class(IOPriorityClass::IoprioClassRt),
-        r#"{"class":"IOPRIO_CLASS_RT","priority":0}"#,
-        r#"{"class":"IOPRIO_CLASS_BE","priority":0}"#
-    );
-    check_record!(
-        rt,
-        Scheduler,
-        SchedulerBuilder::default()
-            .policy(LinuxSchedulerPolicy::SchedFifo)
-            .priority(-1),
-        r#"{"policy":"SCHED_FIFO","priority":-1}"#,
-        r#"{"policy":"SCHED_OTHER"}"#
-    );
-}
-
-#[test]
-fn capabilities(rt: HostRuntime) {
-    let alloc = rt.alloc();
-    let mut kill = HashSet::new(alloc);
-    kill.insert(Capability::Syslog).expect(&rt, "syslog");
-    kill.insert(Capability::Kill).expect(&rt, "kill");
-    check_record!(
-        rt,
-        LinuxCapabilities,
-        LinuxCapabilitiesBuilder::default().ambient(kill),
-        r#"{"ambient":["CAP_KILL","CAP_SYSLOG"],"bounding":["CAP_AUDIT_WRITE","CAP_KILL","CAP_NET_BIND_SERVICE"],"effective":["CAP_AUDIT_WRITE","CAP_KILL","CAP_NET_BIND_SERVICE"],"inheritable":["CAP_AUDIT_WRITE","CAP_KILL","CAP_NET_BIND_SERVICE"],"permitted":["CAP_AUDIT_WRITE","CAP_KILL","CAP_NET_BIND_SERVICE"]}"#,
-        r#"{"ambient":["CAP_AUDIT_WRITE","CAP_KILL","CAP_NET_BIND_SERVICE"],"bounding":["CAP_AUDIT_WRITE","CAP_KILL","CAP_NET_BIND_SERVICE"],"effective":["CAP_AUDIT_WRITE","CAP_KILL","CAP_NET_BIND_SERVICE"],"inheritable":["CAP_AUDIT_WRITE","CAP_KILL","CAP_NET_BIND_SERVICE"],"permitted":["CAP_AUDIT_WRITE","CAP_KILL","CAP_NET_BIND_SERVICE"]}"#
-    );
-}
+static DEFAULT: &str =
+    r#"{"args":["sh"],"capabilities":{"ambient":["CAP_AUDIT_WRITE","CAP_KILL","CAP_NET_BIND_SERVICE"],"bounding":["CAP_AUDIT_WRITE","CAP_KILL","CAP_NET_BIND_SERVICE"],"effective":["CAP_AUDIT_WRITE","CAP_KILL","CAP_NET_BIND_SERVICE"],"inheritable":["CAP_AUDIT_WRITE","CAP_KILL","CAP_NET_BIND_SERVICE"],"permitted":["CAP_AUDIT_WRITE","CAP_KILL","CAP_NET_BIND_SERVICE"]},"cwd":"/","env":["PATH=/usr/local/sbin:/usr/local/bin:/usr/sbin:/usr/bin:/sbin:/bin","TERM=xterm"],"noNewPrivileges":true,"rlimits":[{"hard":1024,"soft":1024,"type":"RLIMIT_NOFILE"}],"terminal":false,"user":{"gid":0,"uid":0}}"#;
 
 #[test]
 fn processes(rt: HostRuntime) {
-    check_record!(
-        rt,
-        Process,
-        ProcessBuilder::default()
-            .terminal(true)
-            .oom_score_adj(-1000),
-        r#"{"args":["sh"],"capabilities":{"ambient":["CAP_AUDIT_WRITE","CAP_KILL","CAP_NET_BIND_SERVICE"],"bounding":["CAP_AUDIT_WRITE","CAP_KILL","CAP_NET_BIND_SERVICE"],"effective":["CAP_AUDIT_WRITE","CAP_KILL","CAP_NET_BIND_SERVICE"],"inheritable":["CAP_AUDIT_WRITE","CAP_KILL","CAP_NET_BIND_SERVICE"],"permitted":["CAP_AUDIT_WRITE","CAP_KILL","CAP_NET_BIND_SERVICE"]},"cwd":"/","env":["PATH=/usr/local/sbin:/usr/local/bin:/usr/sbin:/usr/bin:/sbin:/bin","TERM=xterm"],"noNewPrivileges":true,"oomScoreAdj":-1000,"rlimits":[{"hard":1024,"soft":1024,"type":"RLIMIT_NOFILE"}],"terminal":true,"user":{"gid":0,"uid":0}}"#,
-        r#"{"args":["sh"],"capabilities":{"ambient":["CAP_AUDIT_WRITE","CAP_KILL","CAP_NET_BIND_SERVICE"],"bounding":["CAP_AUDIT_WRITE","CAP_KILL","CAP_NET_BIND_SERVICE"],"effective":["CAP_AUDIT_WRITE","CAP_KILL","CAP_NET_BIND_SERVICE"],"inheritable":["CAP_AUDIT_WRITE","CAP_KILL","CAP_NET_BIND_SERVICE"],"permitted":["CAP_AUDIT_WRITE","CAP_KILL","CAP_NET_BIND_SERVICE"]},"cwd":"/","env":["PATH=/usr/local/sbin:/usr/local/bin:/usr/sbin:/usr/bin:/sbin:/bin","TERM=xterm"],"noNewPrivileges":true,"rlimits":[{"hard":1024,"soft":1024,"type":"RLIMIT_NOFILE"}],"terminal":false,"user":{"gid":0,"uid":0}}"#
-    );
+    let alloc = rt.alloc();
+    check_written(&rt, alloc, Process::try_default(alloc), DEFAULT);
 }
 
 #[test]
@@ -89,15 +21,13 @@ fn affinities(rt: HostRuntime) {
     let alloc = rt.alloc();
     let initial = string(&rt, alloc, "0-3,7,8,9,10");
     let last = string(&rt, alloc, "4-6,8");
-    check_record!(
-        rt,
-        ExecCPUAffinity,
-        ExecCPUAffinityBuilder::default()
-            .initial(initial)
-            .cpu_affinity_final(last),
-        r#"{"final":"4-6,8","initial":"0-3,7,8,9,10"}"#,
-        "{}"
-    );
+    let set = ExecCPUAffinityBuilder::default()
+        .initial(initial)
+        .cpu_affinity_final(last);
+    let text = r#"{"final":"4-6,8","initial":"0-3,7,8,9,10"}"#;
+    check_written(&rt, alloc, set.build(alloc), text);
+    let none = ExecCPUAffinityBuilder::default();
+    check_written(&rt, alloc, none.build(alloc), "{}");
 }
 
 #[test]

@@ -1,71 +1,20 @@
-//! Specifications, states and their parts: made in code, in files, by default, and with a root that is made canonical.
+//! Specifications and states in files, by default, and with a root that is made canonical.
 
 use super::{check_copy, check_is, check_written};
 use oci_linux_namespaces::LinuxIdMappingBuilder;
-use oci_runtime::{
-    ContainerProcessState, ContainerProcessStateBuilder, ContainerState, Hook, HookBuilder, Hooks,
-    HooksBuilder, Mount, MountBuilder, Root, RootBuilder, Spec, SpecBuilder, State, StateBuilder,
-    version,
-};
+use oci_runtime::{MountBuilder, Root, Spec, SpecBuilder, State, version};
 use oci_text_base::{OciSpecError, Result};
 use std::alloc::Global;
 use std::process::Abort;
 
 #[test]
-fn hooks(rt: HostRuntime) {
-    check_record!(
-        rt,
-        Hook,
-        HookBuilder::default().timeout(5),
-        r#"{"path":"","timeout":5}"#,
-        r#"{"path":""}"#
-    );
-    check_record!(rt, Hooks, HooksBuilder::default(), "{}", "{}");
-}
-
-#[test]
 fn states(rt: HostRuntime) {
-    let default = r#"{"bundle":"","id":"","ociVersion":"","status":"stopped"}"#;
-    check_record!(
-        rt,
-        State,
-        StateBuilder::default()
-            .status(ContainerState::Running)
-            .pid(7),
-        r#"{"bundle":"","id":"","ociVersion":"","pid":7,"status":"running"}"#,
-        default
-    );
-    check_record!(
-        rt,
-        ContainerProcessState,
-        ContainerProcessStateBuilder::default().pid(-1),
-        r#"{"fds":[],"ociVersion":"","pid":-1,"state":{"bundle":"","id":"","ociVersion":"","status":"stopped"}}"#,
-        r#"{"fds":[],"ociVersion":"","pid":0,"state":{"bundle":"","id":"","ociVersion":"","status":"stopped"}}"#
-    );
-    let state = State::try_default(rt.alloc()).expect(&rt, "the default");
-    state
-        .save(&rt, rt.alloc(), "state.json")
-        .expect(&rt, "saving");
-    let loaded = State::load(&rt, rt.alloc(), "state.json");
-    check_copy(&rt, rt.alloc(), &state, loaded, default);
-}
-
-#[test]
-fn mounts(rt: HostRuntime) {
-    check_record!(
-        rt,
-        Root,
-        RootBuilder::default().readonly(false),
-        r#"{"path":"rootfs","readonly":false}"#,
-        r#"{"path":"rootfs","readonly":true}"#
-    );
-    check_record!(
-        rt,
-        Mount,
-        MountBuilder::default(),
-        r#"{"destination":""}"#,
-        r#"{"destination":""}"#
-    );
+    let alloc = rt.alloc();
+    let state = State::try_default(alloc).expect(&rt, "the default");
+    state.save(&rt, alloc, "state.json").expect(&rt, "saving");
+    let loaded = State::load(&rt, alloc, "state.json");
+    let text = r#"{"bundle":"","id":"","ociVersion":"","status":"stopped"}"#;
+    check_copy(&rt, alloc, &state, loaded, text);
 }
 
 fn one_mapping(rt: &impl Abort, alloc: Global) -> Vec<oci_linux_namespaces::LinuxIdMapping> {

@@ -1,5 +1,5 @@
-//! Calls of the image documents that may be refused memory, once each with enough of it. What texts are read as stands in the
-//! rows of `oci_rows`.
+//! Image documents that are made in code, in files. What texts are read as stands in the rows of `oci_rows`, and what else these
+//! documents do is run in `oci_vectors`.
 
 use super::check_text;
 use oci_image::version;
@@ -9,8 +9,7 @@ use oci_text_base::Result;
 use std::alloc::Global;
 use std::process::Abort;
 
-mod calls;
-mod copies;
+mod files;
 mod made;
 
 /// An answer is this text.

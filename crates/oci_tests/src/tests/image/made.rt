@@ -4,7 +4,7 @@ use oci_image::{
     Arch, ArtifactManifest, ArtifactManifestBuilder, Config, ConfigBuilder, Descriptor,
     DescriptorBuilder, Digest, History, HistoryBuilder, ImageConfiguration,
     ImageConfigurationBuilder, ImageIndex, ImageIndexBuilder, ImageManifest, ImageManifestBuilder,
-    MediaType, OciLayout, OciLayoutBuilder, Os, Platform, PlatformBuilder, RootFs, RootFsBuilder,
+    MediaType, OciLayout, OciLayoutBuilder, RootFs, RootFsBuilder,
 };
 use std::alloc::Global;
 use std::process::Abort;
@@ -28,17 +28,7 @@ fn single<T: Drop>(rt: &impl Abort, alloc: Global, item: T) -> Vec<T> {
     list
 }
 
-pub fn platform(rt: &impl Abort, alloc: Global) -> Platform {
-    let variant = string(rt, alloc, "v7");
-    let built = PlatformBuilder::default()
-        .architecture(Arch::ARM)
-        .os(Os::Windows)
-        .variant(variant)
-        .build(alloc);
-    built.expect(rt, "a platform")
-}
-
-pub fn descriptor(rt: &impl Abort, alloc: Global) -> Descriptor {
+fn descriptor(rt: &impl Abort, alloc: Global) -> Descriptor {
     let digest = Digest::from_str(alloc, "foo:bar").expect(rt, "a digest");
     let data = string(rt, alloc, "e30=");
     let built = DescriptorBuilder::default()
@@ -90,7 +80,7 @@ pub fn oci_layout(rt: &impl Abort, alloc: Global) -> OciLayout {
 }
 
 /// Its ports are given twice, and not in order.
-pub fn config(rt: &impl Abort, alloc: Global) -> Config {
+fn config(rt: &impl Abort, alloc: Global) -> Config {
     let user = string(rt, alloc, "alice");
     let ports = strings(rt, alloc, &["8080/tcp", "443/tcp", "8080/tcp"]);
     let built = ConfigBuilder::default()
@@ -100,13 +90,13 @@ pub fn config(rt: &impl Abort, alloc: Global) -> Config {
     built.expect(rt, "a configuration")
 }
 
-pub fn root_fs(rt: &impl Abort, alloc: Global) -> RootFs {
+fn root_fs(rt: &impl Abort, alloc: Global) -> RootFs {
     let layers = strings(rt, alloc, &["sha256:abc123"]);
     let built = RootFsBuilder::default().diff_ids(layers).build(alloc);
     built.expect(rt, "layers")
 }
 
-pub fn history(rt: &impl Abort, alloc: Global) -> History {
+fn history(rt: &impl Abort, alloc: Global) -> History {
     let comment = string(rt, alloc, "first");
     let built = HistoryBuilder::default()
         .comment(comment)

@@ -1,0 +1,57 @@
+//! The program `ocicheck`: reads a document from its input, and writes all that the tables of its kind refuse in it, a line
+//! each: the place, as a JSON pointer (RFC 6901), and what was wanted there. It ends in 0 where nothing is refused, in 1 where
+//! something is, and in 2 where its one word names no kind.
+#![tactic(auto)]
+
+mod kinds;
+mod report;
+
+use anyhow::Result;
+use kinds::form_of;
+use oci_doc_run::Kind;
+use oci_json_form::Form;
+use report::judge;
+use std::env;
+use std::io::Read;
+use std::process::ExitCode;
+
+const USAGE: &str = "usage: ocicheck KIND < DOCUMENT
+KIND: manifest | index | config | artifact | layout | descriptor | error | repositories | tags | reference | state | process-state | features";
+
+/// The form of the kind that the program's words ask for.
+fn asked<R: std::rt::Env + AllocGlobal>(rt: &R) -> Result<Option<&'static Form>> {
+    let mut words = env::args(rt)?.skip(1);
+    let Some(word) = words.next() else {
+        return Ok(None);
+    };
+    if words.next().is_some() {
+        return Ok(None);
+    }
+    match Kind::from_word(word.as_str()) {
+        Some(kind) => Ok(form_of(kind)),
+        None => Ok(None),
+    }
+}
+
+fn run(rt: &HostRuntime) -> Result<u8> {
+    let Some(form) = asked(rt)? else {
+        eprintln!(rt; "{USAGE}")?;
+        return Ok(2);
+    };
+    let mut bytes = Vec::new(rt.alloc());
+    rt.stdin().read_to_end(&mut bytes)?;
+    let found = judge(form, bytes.as_slice(), rt.alloc())?;
+    let lines = found.lines.as_str();
+    print!(rt; "{lines}")?;
+    Ok(if found.sound { 0 } else { 1 })
+}
+
+fn main(rt: HostRuntime) -> ExitCode {
+    match run(&rt) {
+        Ok(status) => ExitCode::from(status),
+        Err(fault) => {
+            let _ = eprintln!(&rt; "refused: {fault}");
+            ExitCode::from(1)
+        }
+    }
+}

@@ -1,0 +1,58 @@
+//! What a form refuses in the bytes of a document.
+ghost use Rattle.std.specs.Prelude.{◌≡◌, ◌↔◌, true, IfOk};
+ghost use Rattle.oci_json_schema.specs.Plain.{Plain};
+ghost use Rattle.oci_json_engines.specs.Engines.{MeansBytes};
+ghost use Rattle.oci_json_form.specs.Tables.{shape_of};
+
+use oci_json_form::check::conforms;
+use oci_json_form::find::faults;
+use oci_json_form::{Fault, Form};
+use oci_text_base::{OciSpecError, Result};
+use serde_json::Value;
+use std::alloc::{AllocError, Global};
+
+/// What was found in the bytes of a document.
+#[derive(Drop)]
+pub struct Report {
+    /// A line for each part that is refused.
+    pub lines: String,
+    /// Whether nothing is.
+    pub sound: bool,
+}
+
+/// What the form refuses in the bytes; it refuses nothing exactly where they are a document.
+#[tactic(auto, using(crate::proofs::Bytes::read_tells, crate::proofs::Bytes::no_json_tells))]
+pub fn judge(form: &'static Form, bytes: &[u8], alloc: Global) -> Result<Report>
+    ensures { IfOk result (λ r. (r.sound ≡ true) ↔ ((p : Plain) × MeansBytes (shape_of form.now) bytes.now p)) }
+{
+    match Value::from_slice(alloc, bytes) {
+        Ok(value) => {
+            let sound = conforms(form, &value);
+            let found = faults(form, &value, alloc)?;
+            let lines = lines_of(&found, alloc)?;
+            Ok(Report { lines, sound })
+        }
+        Err(fault) => {
+            if fault.is_memory() {
+                return Err(OciSpecError::Memory);
+            }
+            let lines = String::from_str(alloc, ": a JSON text\n")?;
+            Ok(Report {
+                lines,
+                sound: false,
+            })
+        }
+    }
+}
+
+/// A line for each fault.
+fn lines_of(found: &Vec<Fault>, alloc: Global) -> std::result::Result<String, AllocError> {
+    let mut lines = String::new(alloc);
+    for fault in found {
+        let pointer = fault.pointer.as_str();
+        let wanted = fault.wanted;
+        let line = format!(in alloc; "{pointer}: {wanted}\n")?;
+        lines.push_str(line.as_str())?;
+    }
+    Ok(lines)
+}

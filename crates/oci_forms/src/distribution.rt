@@ -1,0 +1,65 @@
+//! The forms of the records of `oci_distribution`.
+use crate::Tabled;
+use crate::names::ERROR_CODE;
+use oci_distribution::{ErrorInfo, ErrorResponse, RepositoryList, TagList};
+use oci_json_form::forms::{DETAIL, TEXT};
+use oci_json_form::{Form, Presence, Row};
+
+/// One error of a registry's reply (distribution specification, "Error Codes").
+pub const ERROR_INFO: Form = Form::Record(&[
+    row!("code", Presence::Required, ERROR_CODE),
+    row!("message", Presence::Optional, TEXT),
+    row!("detail", Presence::Optional, DETAIL),
+]);
+
+static ERROR_INFO_FORM: Form = ERROR_INFO;
+
+impl Tabled for ErrorInfo {
+    fn form() -> &'static Form {
+        &ERROR_INFO_FORM
+    }
+}
+
+/// A registry's reply to a request that failed (distribution specification, "Error Codes").
+pub const ERROR_RESPONSE: Form = Form::Record(&[row!(
+    "errors",
+    Presence::Required,
+    Form::List(&ERROR_INFO)
+)]);
+
+static ERROR_RESPONSE_FORM: Form = ERROR_RESPONSE;
+
+impl Tabled for ErrorResponse {
+    fn form() -> &'static Form {
+        &ERROR_RESPONSE_FORM
+    }
+}
+
+/// The repositories of a registry (distribution specification, "Listing Repositories").
+pub const REPOSITORY_LIST: Form = Form::Record(&[row!(
+    "repositories",
+    Presence::Required,
+    Form::List(&TEXT)
+)]);
+
+static REPOSITORY_LIST_FORM: Form = REPOSITORY_LIST;
+
+impl Tabled for RepositoryList {
+    fn form() -> &'static Form {
+        &REPOSITORY_LIST_FORM
+    }
+}
+
+/// The tags of a repository (distribution specification, "Listing Tags").
+pub const TAG_LIST: Form = Form::Record(&[
+    row!("name", Presence::Required, TEXT),
+    row!("tags", Presence::Required, Form::List(&TEXT)),
+]);
+
+static TAG_LIST_FORM: Form = TAG_LIST;
+
+impl Tabled for TagList {
+    fn form() -> &'static Form {
+        &TAG_LIST_FORM
+    }
+}

@@ -1,0 +1,22 @@
+//! The form of references as documents.
+use crate::Tabled;
+use oci_json_form::forms::TEXT;
+use oci_json_form::{Form, Presence, Row};
+use oci_reference::Reference;
+
+/// A reference to an image, in its parts.
+pub const REFERENCE: Form = Form::Record(&[
+    row!("registry", Presence::Required, TEXT),
+    row!("mirror_registry", Presence::Optional, TEXT),
+    row!("repository", Presence::Required, TEXT),
+    row!("tag", Presence::Optional, TEXT),
+    row!("digest", Presence::Optional, TEXT),
+]);
+
+static REFERENCE_FORM: Form = REFERENCE;
+
+impl Tabled for Reference {
+    fn form() -> &'static Form {
+        &REFERENCE_FORM
+    }
+}

@@ -1,0 +1,7 @@
+pub mod Decides
+pub mod Empty
+pub mod Listed
+pub mod Processors
+pub mod Replacing
+pub mod Tables
+pub mod Texts

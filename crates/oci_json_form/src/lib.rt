@@ -1,0 +1,13 @@
+//! A record's table as a value: the shape that a form stands for, whether a form allows a value, and all that it refuses in one.
+#![tactic(auto)]
+
+pub mod check;
+pub mod fault;
+pub mod find;
+pub mod form;
+pub mod forms;
+pub mod leaf;
+pub mod place;
+
+pub use fault::{Fault, Wanted};
+pub use form::{Absent, Form, Leaf, Presence, Row};

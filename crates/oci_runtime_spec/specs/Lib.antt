@@ -1,0 +1,2 @@
+pub mod RootlessSpec
+pub mod Spec

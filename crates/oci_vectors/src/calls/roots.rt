@@ -1,0 +1,107 @@
+//! The calls on whole specifications: those without privileges, the default lists, versions, and a root that is made canonical.
+
+use crate::desk::Desk;
+use oci_spec::runtime::{
+    Linux, LinuxDevice, Spec, cgroup_of, get_default_maskedpaths, get_default_mounts,
+    get_default_namespaces, get_default_readonly_paths, get_rootless_mounts,
+};
+use oci_spec::{Result, distribution, image, runtime};
+use std::alloc::Global;
+
+fn lists(desk: &mut Desk<'_>) {
+    let alloc = desk.rt.alloc();
+    desk.same(
+        "get_default_namespaces",
+        get_default_namespaces(alloc),
+        get_default_namespaces(alloc),
+    );
+    desk.same(
+        "get_default_maskedpaths",
+        get_default_maskedpaths(alloc),
+        get_default_maskedpaths(alloc),
+    );
+    desk.same(
+        "get_default_readonly_paths",
+        get_default_readonly_paths(alloc),
+        get_default_readonly_paths(alloc),
+    );
+    desk.same(
+        "get_default_mounts",
+        get_default_mounts(alloc),
+        get_default_mounts(alloc),
+    );
+    desk.same(
+        "get_rootless_mounts",
+        get_rootless_mounts(alloc),
+        get_rootless_mounts(alloc),
+    );
+}
+
+fn rule(alloc: Global) -> Result<runtime::LinuxDeviceCgroup> {
+    cgroup_of(alloc, &LinuxDevice::try_default(alloc)?)
+}
+
+fn wholes(desk: &mut Desk<'_>) {
+    let alloc = desk.rt.alloc();
+    desk.same("cgroup_of", rule(alloc), rule(alloc));
+    desk.same(
+        "Linux::rootless",
+        Linux::rootless(alloc, 1000, 100),
+        Linux::rootless(alloc, 1000, 100),
+    );
+    desk.same(
+        "Spec::rootless",
+        Spec::rootless(alloc, 1000, 100),
+        Spec::rootless(alloc, 1000, 100),
+    );
+    desk.answer("version", &distribution::version(alloc), Ok("1.0.0"));
+    desk.answer("version", &image::version(alloc), Ok("1.0.1"));
+    desk.answer("version", &runtime::version(alloc), Ok("1.1.0"));
+}
+
+/// The root's path after the call; after a refusal the specification is as before.
+fn made_canonical(alloc: Global, mut spec: Spec) -> Result<String> {
+    let before = spec.clone(alloc)?;
+    let resolver = |asked: &str| -> Result<String> { Ok(String::from_str(alloc, asked)?) };
+    match spec.canonicalize_rootfs(alloc, "/b", &resolver) {
+        Ok(()) => path(alloc, &spec),
+        Err(refused) => {
+            if spec == before {
+                Err(refused)
+            } else {
+                Ok(String::from_str(alloc, "another specification")?)
+            }
+        }
+    }
+}
+
+fn path(alloc: Global, spec: &Spec) -> Result<String> {
+    match spec.root() {
+        Some(root) => Ok(root.path().clone()?),
+        None => Ok(String::new(alloc)),
+    }
+}
+
+fn rooted(alloc: Global) -> Result<String> {
+    made_canonical(alloc, Spec::try_default(alloc)?)
+}
+
+fn unrooted(alloc: Global) -> Result<String> {
+    let mut spec = Spec::try_default(alloc)?;
+    spec.set_root(None);
+    made_canonical(alloc, spec)
+}
+
+/// All such calls.
+pub fn all(desk: &mut Desk<'_>) {
+    lists(desk);
+    wholes(desk);
+    let alloc = desk.rt.alloc();
+    desk.answer("canonicalize_rootfs", &rooted(alloc), Ok("/b/rootfs"));
+    desk.answer(
+        "canonicalize_rootfs",
+        &unrooted(alloc),
+        Err("no root path provided for canonicalization"),
+    );
+    desk.end("specifications", "calls");
+}

@@ -1,0 +1,64 @@
+//! What the program needs for itself: its inputs, and words to ask with. A call of the library never answers here, so a run that
+//! gives up tells that the program's own part was refused memory or a file, and no more.
+
+use std::alloc::{AllocError, AllocFailed, Global};
+use std::io;
+
+/// The program's own part was refused. No error of the library is converted into this one.
+#[derive(Debug, Drop)]
+pub struct GaveUp;
+
+impl From<AllocError> for GaveUp {
+    fn from(_refused: AllocError) -> GaveUp {
+        GaveUp
+    }
+}
+
+impl<T: Drop> From<AllocFailed<T>> for GaveUp {
+    fn from(_refused: AllocFailed<T>) -> GaveUp {
+        GaveUp
+    }
+}
+
+impl From<io::Error> for GaveUp {
+    fn from(_fault: io::Error) -> GaveUp {
+        GaveUp
+    }
+}
+
+/// A document of a kind, in three lines of a file of `data/`.
+#[derive(Clone, Copy)]
+pub struct Sample<'a> {
+    /// The word for its kind.
+    pub kind: &'a str,
+    /// The text that is read.
+    pub text: &'a str,
+    /// The compact text of its document.
+    pub compact: &'a str,
+}
+
+impl<'a> Sample<'a> {
+    /// The sample of three lines.
+    pub fn of(row: &'a str) -> Result<Sample<'a>, GaveUp> {
+        let Some((kind, texts)) = row.split_once('\n') else {
+            return Err(GaveUp);
+        };
+        match texts.split_once('\n') {
+            Some((text, compact)) => Ok(Sample {
+                kind,
+                text,
+                compact,
+            }),
+            None => Err(GaveUp),
+        }
+    }
+}
+
+/// Owned words.
+pub fn words(alloc: Global, given: &[&str]) -> Result<Vec<String>, GaveUp> {
+    let mut words = Vec::new(alloc);
+    for word in given {
+        words.push(String::from_str(alloc, word)?)?;
+    }
+    Ok(words)
+}
