@@ -2,7 +2,5 @@
 #![tactic(auto)]
 
 pub mod pinning;
-#[cfg(test)]
-mod tests;
 
 pub use pinning::pin;

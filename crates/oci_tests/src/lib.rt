@@ -1,4 +1,4 @@
-//! Tests of texts, references, image and distribution documents, the engines and the program: of what no contract says.
+//! Tests of texts, references, image and distribution documents, and the engines: of what no contract says.
 #![tactic(auto)]
 
 #[cfg(test)]

@@ -7,7 +7,6 @@ mod distribution;
 mod engines;
 mod errors;
 mod image;
-mod program;
 mod references;
 mod streams;
 mod texts;

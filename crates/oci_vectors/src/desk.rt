@@ -70,6 +70,15 @@ impl<'a> Desk<'a> {
         self.output.is_untouched() && self.errors.taken() == line.as_bytes()
     }
 
+    /// The last command wrote this and told nothing, or wrote nothing and told this.
+    pub fn has_answered(&self, text: &[u8], line: &str) -> bool {
+        if line.is_empty() {
+            self.has_written(text)
+        } else {
+            text.is_empty() && self.has_told(line)
+        }
+    }
+
     /// The last command wrote this before a stream failed.
     pub fn has_begun(&self, text: &[u8]) -> bool {
         self.output.taken() == text && self.errors.taken() == b"refused: Io\n".as_slice()

@@ -1,13 +1,14 @@
-//! The program `oci_vectors`: hostile use of the library, in two halves. It prints how many cases of each group it ran, and each
-//! case that broke its rule.
+//! The program `oci_vectors`: the commands, and hostile use of the library, in two halves. It prints how many cases of each group it
+//! ran, and each case that broke its rule.
 //!
-//! - `vectors` (no memory is refused): documents cut and changed at each byte, texts of references cut and added to at each place, and
-//!   streams that give and take little, or fail, at each read, write and flush.
+//! - `vectors` (no memory is refused): commands and their answers, row by row; documents cut and changed at each byte, texts of
+//!   references cut and added to at each place, and streams that give and take little, or fail, at each read, write and flush.
 //! - `calls`: each call that takes memory, answered as ever or with `Memory`. Undisturbed none is answered so;
 //!   `tools/refuse_memory` runs this half once for each request for memory, with that one refused.
 //!
-//! With no word it runs both, and with another one neither. The numbers in `stdout` are reckoned from the inputs in `data/`, a row three lines: a kind, a text,
-//! and the compact text of its document. Before any proof: `rt try $(for it in data/*; do echo --data "${it#data/}=$it"; done)`.
+//! With no word it runs both, and with another one neither. The numbers in `stdout` are reckoned from the inputs in `data/`. Of
+//! documents a row has three lines: a kind, a text, and the compact text of its document; the rows of commands have marked lines
+//! (`vectors/commands.rt`). Before any proof: `rt try $(for it in data/*; do echo --data "${it#data/}=$it"; done)`.
 #![tactic(auto)]
 
 mod calls;

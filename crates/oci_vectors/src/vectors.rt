@@ -1,6 +1,7 @@
 //! Documents and texts that are cut, changed or given in pieces, and streams that fail.
 
 mod bytes;
+mod commands;
 mod edges;
 mod faults;
 pub mod references;
@@ -29,5 +30,6 @@ pub fn run(desk: &mut Desk<'_>) -> Result<(), GaveUp> {
     references::insertions(desk)?;
     edges::nesting(desk)?;
     edges::none(desk);
-    Ok(())
+    edges::lines(desk);
+    commands::all(desk)
 }

@@ -1,8 +1,11 @@
-//! References: limits of length, and the calls that take memory. The program's rows have the texts that are read.
+//! References: limits of length, and the calls that take memory. The texts that are read are rows of commands in `oci_vectors`.
 
 use super::{check, check_is, repeated, string};
+use oci_image::{Descriptor, Digest, MediaType};
+use oci_pin::pin;
 use oci_reference::{ParseError, Reference};
 use std::alloc::Global;
+use std::process::Abort;
 
 /// A front, how many times a part follows, and an end; and the length of the repository, or the refusal.
 static LENGTHS: [(&str, &str, usize, &str, Result<usize, ParseError>); 12] = [
@@ -67,4 +70,27 @@ fn of_a_mirror(rt: HostRuntime) {
     check(&rt, "pinned", &pinned.whole(), Ok("test.com/repo@foo:bar"));
     let whole = reference.into_string();
     check(&rt, "whole", &whole, Ok("test.com/repo:tag"));
+}
+
+fn manifest(rt: &impl Abort, alloc: Global, digest: &str) -> Descriptor {
+    let digest = Digest::from_str(alloc, digest).expect(rt, "a digest");
+    Descriptor::new(MediaType::ImageManifest, 7023, digest)
+}
+
+/// A mirror is kept by a reference that is pinned to a manifest, and is not shown.
+#[test]
+fn pinned_with_a_mirror(rt: HostRuntime) {
+    let alloc = rt.alloc();
+    let mut reference = Reference::from_str(alloc, "busybox").expect(&rt, "a reference");
+    reference.set_mirror_registry(string(&rt, alloc, "m.io"));
+    let pinned = pin(alloc, &reference, &manifest(&rt, alloc, "foo:bar")).expect(&rt, "memory");
+    check_is(&rt, &pinned.namespace(), &Some("docker.io"));
+    check_is(&rt, &pinned.resolve_registry(), &"m.io");
+    let whole = pinned.into_string();
+    check(
+        &rt,
+        "whole",
+        &whole,
+        Ok("docker.io/library/busybox@foo:bar"),
+    );
 }

@@ -122,39 +122,58 @@ fn copied(alloc: Global, text: &str) -> Result<String> {
     Ok(String::from_str(alloc, text)?)
 }
 
-fn of_digest(alloc: Global, call: Call, text: &str) -> Result<String> {
-    match call {
-        Call::Digest => copied(alloc, Digest::from_str(alloc, text)?.as_ref()),
-        Call::OwnedDigest => copied(alloc, Digest::try_from(copied(alloc, text)?)?.as_ref()),
-        Call::DigestCopy => copied(alloc, Digest::from_str(alloc, text)?.clone()?.as_ref()),
-        Call::Sha256 => copied(alloc, Sha256Digest::from_str(alloc, text)?.as_ref()),
-        Call::Sha256Copy => copied(
-            alloc,
-            Sha256Digest::from_str(alloc, text)?.clone()?.as_ref(),
-        ),
-        Call::IntoDigest => {
-            let digest = Sha256Digest::from_str(alloc, text)?.into_digest()?;
-            copied(alloc, digest.as_ref())
-        }
-        _ => of_name(alloc, call, text),
-    }
+fn digest(alloc: Global, text: &str) -> Result<String> {
+    copied(alloc, Digest::from_str(alloc, text)?.as_ref())
 }
 
-fn of_name(alloc: Global, call: Call, text: &str) -> Result<String> {
-    match call {
-        Call::Algorithm => {
-            let algorithm = DigestAlgorithm::from_text(alloc, text)?.clone(alloc)?;
-            copied(alloc, algorithm.as_ref())
-        }
-        Call::MediaType => MediaType::from_text(alloc, text)?
-            .clone(alloc)?
-            .into_string(alloc),
-        Call::System => copied(alloc, Os::from_text(alloc, text)?.clone(alloc)?.as_ref()),
-        Call::Architecture => copied(alloc, Arch::from_text(alloc, text)?.clone(alloc)?.as_ref()),
-        Call::Namespace => Ok(LinuxNamespaceType::try_from(alloc, text)?.to_string(alloc)?),
-        Call::NamespaceOfZos => Ok(ZOSNamespaceType::try_from(alloc, text)?.to_string(alloc)?),
-        _ => of_reference(alloc, call, text),
-    }
+fn owned_digest(alloc: Global, text: &str) -> Result<String> {
+    copied(alloc, Digest::try_from(copied(alloc, text)?)?.as_ref())
+}
+
+fn digest_copy(alloc: Global, text: &str) -> Result<String> {
+    copied(alloc, Digest::from_str(alloc, text)?.clone()?.as_ref())
+}
+
+fn sha256(alloc: Global, text: &str) -> Result<String> {
+    copied(alloc, Sha256Digest::from_str(alloc, text)?.as_ref())
+}
+
+fn sha256_copy(alloc: Global, text: &str) -> Result<String> {
+    let digest = Sha256Digest::from_str(alloc, text)?;
+    copied(alloc, digest.clone()?.as_ref())
+}
+
+fn into_digest(alloc: Global, text: &str) -> Result<String> {
+    let digest = Sha256Digest::from_str(alloc, text)?.into_digest()?;
+    copied(alloc, digest.as_ref())
+}
+
+fn algorithm(alloc: Global, text: &str) -> Result<String> {
+    let algorithm = DigestAlgorithm::from_text(alloc, text)?;
+    copied(alloc, algorithm.clone(alloc)?.as_ref())
+}
+
+fn media_type(alloc: Global, text: &str) -> Result<String> {
+    let media_type = MediaType::from_text(alloc, text)?;
+    media_type.clone(alloc)?.into_string(alloc)
+}
+
+fn system(alloc: Global, text: &str) -> Result<String> {
+    let system = Os::from_text(alloc, text)?;
+    copied(alloc, system.clone(alloc)?.as_ref())
+}
+
+fn architecture(alloc: Global, text: &str) -> Result<String> {
+    let architecture = Arch::from_text(alloc, text)?;
+    copied(alloc, architecture.clone(alloc)?.as_ref())
+}
+
+fn namespace(alloc: Global, text: &str) -> Result<String> {
+    Ok(LinuxNamespaceType::try_from(alloc, text)?.to_string(alloc)?)
+}
+
+fn namespace_of_zos(alloc: Global, text: &str) -> Result<String> {
+    Ok(ZOSNamespaceType::try_from(alloc, text)?.to_string(alloc)?)
 }
 
 /// A reference that was accepted, or `Memory`; another refusal is none of the answers that are wanted.
@@ -166,19 +185,47 @@ fn accepted(answer: std::result::Result<Reference, ParseError>) -> Result<Refere
     }
 }
 
-fn of_reference(alloc: Global, call: Call, text: &str) -> Result<String> {
-    let reference = match call {
-        Call::OwnedReference => accepted(Reference::try_from(copied(alloc, text)?))?,
-        _ => accepted(Reference::from_str(alloc, text))?,
-    };
+fn reference(alloc: Global, text: &str) -> Result<Reference> {
+    accepted(Reference::from_str(alloc, text))
+}
+
+fn owned_reference(alloc: Global, text: &str) -> Result<String> {
+    accepted(Reference::try_from(copied(alloc, text)?))?.whole()
+}
+
+fn reference_copy(alloc: Global, text: &str) -> Result<String> {
+    reference(alloc, text)?.clone()?.whole()
+}
+
+fn other_digest(alloc: Global, text: &str) -> Result<String> {
+    let digest = copied(alloc, "foo:bar")?;
+    reference(alloc, text)?.clone_with_digest(digest)?.whole()
+}
+
+fn displayed(alloc: Global, text: &str) -> Result<String> {
+    Ok(reference(alloc, text)?.to_string(alloc)?)
+}
+
+fn answer(alloc: Global, call: Call, text: &str) -> Result<String> {
     match call {
-        Call::ReferenceCopy => reference.clone()?.whole(),
-        Call::OtherDigest => reference
-            .clone_with_digest(copied(alloc, "foo:bar")?)?
-            .whole(),
-        Call::IntoString => reference.into_string(),
-        Call::Display => Ok(reference.to_string(alloc)?),
-        _ => reference.whole(),
+        Call::Digest => digest(alloc, text),
+        Call::OwnedDigest => owned_digest(alloc, text),
+        Call::DigestCopy => digest_copy(alloc, text),
+        Call::Sha256 => sha256(alloc, text),
+        Call::Sha256Copy => sha256_copy(alloc, text),
+        Call::IntoDigest => into_digest(alloc, text),
+        Call::Algorithm => algorithm(alloc, text),
+        Call::MediaType => media_type(alloc, text),
+        Call::System => system(alloc, text),
+        Call::Architecture => architecture(alloc, text),
+        Call::Namespace => namespace(alloc, text),
+        Call::NamespaceOfZos => namespace_of_zos(alloc, text),
+        Call::Reference => reference(alloc, text)?.whole(),
+        Call::OwnedReference => owned_reference(alloc, text),
+        Call::ReferenceCopy => reference_copy(alloc, text),
+        Call::OtherDigest => other_digest(alloc, text),
+        Call::IntoString => reference(alloc, text)?.into_string(),
+        Call::Display => displayed(alloc, text),
     }
 }
 
@@ -224,7 +271,7 @@ static REFUSED: [(&str, ParseError); 13] = [
 pub fn all(desk: &mut Desk<'_>) {
     let alloc = desk.rt.alloc();
     for (call, text, expected) in &CALLS {
-        desk.answer(text, &of_digest(alloc, *call, text), *expected);
+        desk.answer(text, &answer(alloc, *call, text), *expected);
     }
     desk.end("texts", "calls");
     for (text, expected) in &REFUSED {

@@ -3,6 +3,7 @@
 use crate::desk::Desk;
 use crate::frame::{GaveUp, words};
 use crate::streams::{Input, Manner};
+use oci_doc_run::Refusal;
 use std::alloc::{AllocError, Global};
 use std::io::ErrorKind;
 
@@ -53,4 +54,18 @@ pub fn none(desk: &mut Desk<'_>) {
         desk.count("no words", 0, kept);
     }
     desk.end("no words", "ways to tell them");
+}
+
+fn line(desk: &mut Desk<'_>, refusal: Refusal, line: &str) {
+    desk.errors.begin(Manner::AMPLE);
+    refusal.report(&mut desk.errors);
+    let kept = desk.errors.taken() == line.as_bytes();
+    desk.count("refusal", 0, kept);
+}
+
+/// The lines of refusals that no input here leads to.
+pub fn lines(desk: &mut Desk<'_>) {
+    line(desk, Refusal::Memory, "refused: Memory\n");
+    line(desk, Refusal::Builder, "refused: Builder\n");
+    desk.end("refusals", "lines that no input leads to");
 }
