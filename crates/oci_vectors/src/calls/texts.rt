@@ -7,6 +7,7 @@ use oci_spec::image::{Arch, Digest, DigestAlgorithm, MediaType, Os, Sha256Digest
 use oci_spec::runtime::{LinuxNamespaceType, ZOSNamespaceType};
 use oci_spec::{OciSpecError, Result};
 use std::alloc::Global;
+use std::fmt::Display;
 use std::io;
 use std::io::ErrorKind;
 
@@ -21,6 +22,7 @@ enum Call {
     IntoDigest,
     Algorithm,
     MediaType,
+    MediaTypeCopy,
     System,
     Architecture,
     Namespace,
@@ -78,7 +80,7 @@ static CALLS: [(Call, &str, Answer<'_>); 31] = [
         "application/vnd.oci.descriptor",
         Ok("application/vnd.oci.descriptor"),
     ),
-    (Call::MediaType, "m", Ok("m")),
+    (Call::MediaTypeCopy, "m", Ok("m")),
     (Call::System, "linux", Ok("linux")),
     (Call::System, "s", Ok("s")),
     (Call::Architecture, "armbe", Ok("armbe")),
@@ -118,62 +120,146 @@ static CALLS: [(Call, &str, Answer<'_>); 31] = [
     (Call::Display, "r.io/a:1", Ok("r.io/a:1")),
 ];
 
+/// A value of which a text is taken.
+trait Textual: Drop {
+    fn text(&self) -> &str;
+
+    /// Its copy.
+    fn twin(&self, alloc: Global) -> Result<Self>;
+}
+
+impl Textual for Digest {
+    fn text(&self) -> &str {
+        self.as_ref()
+    }
+
+    fn twin(&self, _alloc: Global) -> Result<Digest> {
+        self.clone()
+    }
+}
+
+impl Textual for Sha256Digest {
+    fn text(&self) -> &str {
+        self.as_ref()
+    }
+
+    fn twin(&self, _alloc: Global) -> Result<Sha256Digest> {
+        self.clone()
+    }
+}
+
+impl Textual for DigestAlgorithm {
+    fn text(&self) -> &str {
+        self.as_ref()
+    }
+
+    fn twin(&self, alloc: Global) -> Result<DigestAlgorithm> {
+        self.clone(alloc)
+    }
+}
+
+impl Textual for MediaType {
+    fn text(&self) -> &str {
+        self.as_ref()
+    }
+
+    fn twin(&self, alloc: Global) -> Result<MediaType> {
+        self.clone(alloc)
+    }
+}
+
+impl Textual for Os {
+    fn text(&self) -> &str {
+        self.as_ref()
+    }
+
+    fn twin(&self, alloc: Global) -> Result<Os> {
+        self.clone(alloc)
+    }
+}
+
+impl Textual for Arch {
+    fn text(&self) -> &str {
+        self.as_ref()
+    }
+
+    fn twin(&self, alloc: Global) -> Result<Arch> {
+        self.clone(alloc)
+    }
+}
+
 fn copied(alloc: Global, text: &str) -> Result<String> {
     Ok(String::from_str(alloc, text)?)
 }
 
-fn digest(alloc: Global, text: &str) -> Result<String> {
-    copied(alloc, Digest::from_str(alloc, text)?.as_ref())
+/// The text of a value that was answered.
+fn taken<T: Textual>(alloc: Global, answer: Result<T>) -> Result<String> {
+    match answer {
+        Ok(value) => copied(alloc, value.text()),
+        Err(refused) => Err(refused),
+    }
+}
+
+/// The text of its copy.
+fn twin_taken<T: Textual>(alloc: Global, answer: Result<T>) -> Result<String> {
+    match answer {
+        Ok(value) => taken(alloc, value.twin(alloc)),
+        Err(refused) => Err(refused),
+    }
+}
+
+/// What a name that was answered displays.
+fn displayed<T: Display + Drop>(alloc: Global, answer: Result<T>) -> Result<String> {
+    match answer {
+        Ok(value) => Ok(value.to_string(alloc)?),
+        Err(refused) => Err(refused),
+    }
 }
 
 fn owned_digest(alloc: Global, text: &str) -> Result<String> {
-    copied(alloc, Digest::try_from(copied(alloc, text)?)?.as_ref())
-}
-
-fn digest_copy(alloc: Global, text: &str) -> Result<String> {
-    copied(alloc, Digest::from_str(alloc, text)?.clone()?.as_ref())
-}
-
-fn sha256(alloc: Global, text: &str) -> Result<String> {
-    copied(alloc, Sha256Digest::from_str(alloc, text)?.as_ref())
-}
-
-fn sha256_copy(alloc: Global, text: &str) -> Result<String> {
-    let digest = Sha256Digest::from_str(alloc, text)?;
-    copied(alloc, digest.clone()?.as_ref())
+    match copied(alloc, text) {
+        Ok(text) => taken(alloc, Digest::try_from(text)),
+        Err(refused) => Err(refused),
+    }
 }
 
 fn into_digest(alloc: Global, text: &str) -> Result<String> {
-    let digest = Sha256Digest::from_str(alloc, text)?.into_digest()?;
-    copied(alloc, digest.as_ref())
+    match Sha256Digest::from_str(alloc, text) {
+        Ok(digest) => taken(alloc, digest.into_digest()),
+        Err(refused) => Err(refused),
+    }
 }
 
-fn algorithm(alloc: Global, text: &str) -> Result<String> {
-    let algorithm = DigestAlgorithm::from_text(alloc, text)?;
-    copied(alloc, algorithm.clone(alloc)?.as_ref())
+fn of_digest(alloc: Global, call: Call, text: &str) -> Result<String> {
+    match call {
+        Call::Digest => taken(alloc, Digest::from_str(alloc, text)),
+        Call::OwnedDigest => owned_digest(alloc, text),
+        Call::DigestCopy => twin_taken(alloc, Digest::from_str(alloc, text)),
+        Call::Sha256 => taken(alloc, Sha256Digest::from_str(alloc, text)),
+        Call::Sha256Copy => twin_taken(alloc, Sha256Digest::from_str(alloc, text)),
+        Call::IntoDigest => into_digest(alloc, text),
+        _ => of_name(alloc, call, text),
+    }
 }
 
 fn media_type(alloc: Global, text: &str) -> Result<String> {
-    let media_type = MediaType::from_text(alloc, text)?;
-    media_type.clone(alloc)?.into_string(alloc)
+    match MediaType::from_text(alloc, text) {
+        Ok(media_type) => media_type.into_string(alloc),
+        Err(refused) => Err(refused),
+    }
 }
 
-fn system(alloc: Global, text: &str) -> Result<String> {
-    let system = Os::from_text(alloc, text)?;
-    copied(alloc, system.clone(alloc)?.as_ref())
-}
-
-fn architecture(alloc: Global, text: &str) -> Result<String> {
-    let architecture = Arch::from_text(alloc, text)?;
-    copied(alloc, architecture.clone(alloc)?.as_ref())
-}
-
-fn namespace(alloc: Global, text: &str) -> Result<String> {
-    Ok(LinuxNamespaceType::try_from(alloc, text)?.to_string(alloc)?)
-}
-
-fn namespace_of_zos(alloc: Global, text: &str) -> Result<String> {
-    Ok(ZOSNamespaceType::try_from(alloc, text)?.to_string(alloc)?)
+fn of_name(alloc: Global, call: Call, text: &str) -> Result<String> {
+    match call {
+        Call::Algorithm => twin_taken(alloc, DigestAlgorithm::from_text(alloc, text)),
+        Call::MediaType => media_type(alloc, text),
+        Call::MediaTypeCopy => twin_taken(alloc, MediaType::from_text(alloc, text)),
+        Call::System => twin_taken(alloc, Os::from_text(alloc, text)),
+        Call::Architecture => twin_taken(alloc, Arch::from_text(alloc, text)),
+        Call::Namespace => displayed(alloc, LinuxNamespaceType::try_from(alloc, text)),
+        Call::NamespaceOfZos => displayed(alloc, ZOSNamespaceType::try_from(alloc, text)),
+        _ => of_reference(alloc, call, text),
+    }
 }
 
 /// A reference that was accepted, or `Memory`; another refusal is none of the answers that are wanted.
@@ -185,47 +271,36 @@ fn accepted(answer: std::result::Result<Reference, ParseError>) -> Result<Refere
     }
 }
 
-fn reference(alloc: Global, text: &str) -> Result<Reference> {
-    accepted(Reference::from_str(alloc, text))
+fn whole(answer: Result<Reference>) -> Result<String> {
+    match answer {
+        Ok(reference) => reference.whole(),
+        Err(refused) => Err(refused),
+    }
 }
 
 fn owned_reference(alloc: Global, text: &str) -> Result<String> {
-    accepted(Reference::try_from(copied(alloc, text)?))?.whole()
+    match copied(alloc, text) {
+        Ok(text) => whole(accepted(Reference::try_from(text))),
+        Err(refused) => Err(refused),
+    }
 }
 
-fn reference_copy(alloc: Global, text: &str) -> Result<String> {
-    reference(alloc, text)?.clone()?.whole()
+fn other_digest(alloc: Global, reference: &Reference) -> Result<String> {
+    match copied(alloc, "foo:bar") {
+        Ok(digest) => whole(reference.clone_with_digest(digest)),
+        Err(refused) => Err(refused),
+    }
 }
 
-fn other_digest(alloc: Global, text: &str) -> Result<String> {
-    let digest = copied(alloc, "foo:bar")?;
-    reference(alloc, text)?.clone_with_digest(digest)?.whole()
-}
-
-fn displayed(alloc: Global, text: &str) -> Result<String> {
-    Ok(reference(alloc, text)?.to_string(alloc)?)
-}
-
-fn answer(alloc: Global, call: Call, text: &str) -> Result<String> {
-    match call {
-        Call::Digest => digest(alloc, text),
-        Call::OwnedDigest => owned_digest(alloc, text),
-        Call::DigestCopy => digest_copy(alloc, text),
-        Call::Sha256 => sha256(alloc, text),
-        Call::Sha256Copy => sha256_copy(alloc, text),
-        Call::IntoDigest => into_digest(alloc, text),
-        Call::Algorithm => algorithm(alloc, text),
-        Call::MediaType => media_type(alloc, text),
-        Call::System => system(alloc, text),
-        Call::Architecture => architecture(alloc, text),
-        Call::Namespace => namespace(alloc, text),
-        Call::NamespaceOfZos => namespace_of_zos(alloc, text),
-        Call::Reference => reference(alloc, text)?.whole(),
-        Call::OwnedReference => owned_reference(alloc, text),
-        Call::ReferenceCopy => reference_copy(alloc, text),
-        Call::OtherDigest => other_digest(alloc, text),
-        Call::IntoString => reference(alloc, text)?.into_string(),
-        Call::Display => displayed(alloc, text),
+fn of_reference(alloc: Global, call: Call, text: &str) -> Result<String> {
+    let answer = accepted(Reference::from_str(alloc, text));
+    match (call, answer) {
+        (Call::OwnedReference, Ok(_)) => owned_reference(alloc, text),
+        (Call::ReferenceCopy, Ok(reference)) => whole(reference.clone()),
+        (Call::OtherDigest, Ok(reference)) => other_digest(alloc, &reference),
+        (Call::IntoString, Ok(reference)) => reference.into_string(),
+        (Call::Display, Ok(reference)) => Ok(reference.to_string(alloc)?),
+        (_, answer) => whole(answer),
     }
 }
 
@@ -271,7 +346,7 @@ static REFUSED: [(&str, ParseError); 13] = [
 pub fn all(desk: &mut Desk<'_>) {
     let alloc = desk.rt.alloc();
     for (call, text, expected) in &CALLS {
-        desk.answer(text, &answer(alloc, *call, text), *expected);
+        desk.answer(text, &of_digest(alloc, *call, text), *expected);
     }
     desk.end("texts", "calls");
     for (text, expected) in &REFUSED {
