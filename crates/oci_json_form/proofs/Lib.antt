@@ -6,3 +6,4 @@ pub mod Replacing
 pub mod Stands
 pub mod Tables
 pub mod Texts
+pub mod Ways

@@ -32,7 +32,6 @@ no_row = record { same_rows = refl }
 
 -- a row, and those after it
 infixr 5 ◌▸◌
-
 pub ◌▸◌ : {r : Row} {t : List Row} {s : Shape} {rs : Rows} → StandsFor r.form.now s → StandFor t rs
     → StandFor (r ∷ t) (row r.name.now (name_of r.second) (presence_of r.presence) s rs)
 ◌▸◌ {r} {t} {s} e es = record { same_rows = ap (λ x. row r.name.now (name_of r.second) (presence_of r.presence) x (rows_of t)) e.same_shape ∙ ap (row r.name.now (name_of r.second) (presence_of r.presence) s) es.same_rows }
