@@ -1,6 +1,7 @@
 pub mod Decides
 pub mod Empty
 pub mod Listed
+pub mod Pointers
 pub mod Processors
 pub mod Replacing
 pub mod Stands

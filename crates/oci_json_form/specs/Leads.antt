@@ -1,6 +1,7 @@
 -- Where the places of faults lead.
-use Rattle.std.specs.Prelude.{◌≡◌, ◌⊎◌, ℕ, List, [], ◌∷◌, true, false, Some, None, is_some}
-use Rattle.serde_json.specs.Data.{Data, Items, Members, no_members, member}
+use Rattle.std.specs.Prelude.{◌≡◌, ◌≤◌, ◌^◌, ◌⊎◌, ⊤, ℕ, List, [], ◌∷◌, true, false, Some, None, is_some}
+use Rattle.serde_json.specs.Data.{Data, null, boolean, number, string, array, object, Items, no_items, item, Members, no_members, member}
+use Rattle.serde_json.specs.Events.{items_len}
 use Rattle.serde_json.specs.Find.{as_array, as_object, get, get_item}
 use Rattle.oci_json_schema.specs.Means.{is_object}
 use Rattle.oci_json_form.specs.Allows.{allows}
@@ -55,3 +56,21 @@ HoldsAt d at (no_second second) =
 
 abbrev pub IsSo : Data → Told → Type 0
 IsSo d x = HoldsAt d x.0 x.1
+
+-- no name stands twice in an object, and each item has an index of 64 bits
+abbrev mutual
+  pub IsOrderly : Data → Type 0
+  IsOrderly null = ⊤
+  IsOrderly (boolean b) = ⊤
+  IsOrderly (number n) = ⊤
+  IsOrderly (string t) = ⊤
+  IsOrderly (array ds) = (items_len ds ≤ 2 ^ 64) × AreOrderly ds
+  IsOrderly (object ms) = HoldOrderly ms
+
+  pub AreOrderly : Items → Type 0
+  AreOrderly no_items = ⊤
+  AreOrderly (item d ds) = IsOrderly d × AreOrderly ds
+
+  pub HoldOrderly : Members → Type 0
+  HoldOrderly no_members = ⊤
+  HoldOrderly (member name d ms) = ((c : Data) → Have ms name c → ⊥) × IsOrderly d × HoldOrderly ms
