@@ -1,5 +1,5 @@
 //! The forms of the kinds of documents.
-ghost use Rattle.std.specs.Prelude.{◌≡◌};
+ghost use Rattle.std.specs.Prelude.{◌≡◌, IfSome};
 ghost use Rattle.oci_json_form.specs.Tables.{shape_of as form_shape};
 ghost use Rattle.oci_doc_run.specs.Kinds.{shape_of};
 
@@ -13,26 +13,25 @@ use oci_image_manifest::{ArtifactManifest, ImageIndex, ImageManifest, OciLayout}
 use oci_json_form::Form;
 use oci_reference::Reference;
 use oci_runtime_lifecycle::{ContainerProcessState, State};
-use oci_runtime_spec::Spec;
 
-/// The form of a kind's documents.
-pub fn form_of(kind: Kind) -> &'static Form
-    ensures { form_shape result.now ≡ shape_of kind }
+/// The form of a kind's documents; none of a container's configuration, whose table is no value yet.
+pub fn form_of(kind: Kind) -> Option<&'static Form>
+    ensures { IfSome result (λ f. form_shape f.now ≡ shape_of kind) }
 {
     match kind {
-        Kind::Manifest => ImageManifest::form(),
-        Kind::Index => ImageIndex::form(),
-        Kind::Config => ImageConfiguration::form(),
-        Kind::Artifact => ArtifactManifest::form(),
-        Kind::Layout => OciLayout::form(),
-        Kind::Descriptor => Descriptor::form(),
-        Kind::Error => ErrorResponse::form(),
-        Kind::Repositories => RepositoryList::form(),
-        Kind::Tags => TagList::form(),
-        Kind::Reference => Reference::form(),
-        Kind::Spec => Spec::form(),
-        Kind::State => State::form(),
-        Kind::ProcessState => ContainerProcessState::form(),
-        Kind::Features => Features::form(),
+        Kind::Manifest => Some(ImageManifest::form()),
+        Kind::Index => Some(ImageIndex::form()),
+        Kind::Config => Some(ImageConfiguration::form()),
+        Kind::Artifact => Some(ArtifactManifest::form()),
+        Kind::Layout => Some(OciLayout::form()),
+        Kind::Descriptor => Some(Descriptor::form()),
+        Kind::Error => Some(ErrorResponse::form()),
+        Kind::Repositories => Some(RepositoryList::form()),
+        Kind::Tags => Some(TagList::form()),
+        Kind::Reference => Some(Reference::form()),
+        Kind::Spec => None,
+        Kind::State => Some(State::form()),
+        Kind::ProcessState => Some(ContainerProcessState::form()),
+        Kind::Features => Some(Features::form()),
     }
 }

@@ -16,7 +16,7 @@ use std::io::Read;
 use std::process::ExitCode;
 
 const USAGE: &str = "usage: ocicheck KIND < DOCUMENT
-KIND: manifest | index | config | artifact | layout | descriptor | error | repositories | tags | reference | spec | state | process-state | features";
+KIND: manifest | index | config | artifact | layout | descriptor | error | repositories | tags | reference | state | process-state | features";
 
 /// The form of the kind that the program's words ask for.
 fn asked<R: std::rt::Env + AllocGlobal>(rt: &R) -> Result<Option<&'static Form>> {
@@ -28,7 +28,7 @@ fn asked<R: std::rt::Env + AllocGlobal>(rt: &R) -> Result<Option<&'static Form>>
         return Ok(None);
     }
     match Kind::from_word(word.as_str()) {
-        Some(kind) => Ok(Some(form_of(kind))),
+        Some(kind) => Ok(form_of(kind)),
         None => Ok(None),
     }
 }

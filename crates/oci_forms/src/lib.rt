@@ -32,7 +32,6 @@ pub mod process_parts;
 pub mod reference;
 pub mod runtime_lifecycle;
 pub mod runtime_mounts;
-pub mod runtime_spec;
 pub mod tabled;
 
 pub use tabled::{Tabled, faults_of};
