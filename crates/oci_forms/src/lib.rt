@@ -11,6 +11,9 @@ macro_rules! row {
     };
 }
 
+pub mod cgroups;
+pub mod cgroups_devices;
+pub mod cgroups_network;
 pub mod distribution;
 pub mod features;
 pub mod features_linux;
@@ -18,9 +21,17 @@ pub mod image_config;
 pub mod image_descriptor;
 pub mod image_manifest;
 pub mod image_platform;
+pub mod linux;
+pub mod linux_namespaces;
+pub mod linux_policies;
 pub mod names;
+pub mod platforms;
+pub mod platforms_windows;
+pub mod process;
+pub mod process_parts;
 pub mod reference;
 pub mod runtime_lifecycle;
+pub mod runtime_mounts;
 pub mod tabled;
 
 pub use tabled::{Tabled, faults_of};

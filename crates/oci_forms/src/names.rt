@@ -1,6 +1,11 @@
 //! The forms of names that the specifications list.
 use oci_json_form::{Form, Leaf};
 
+/// `ContainerState`.
+pub const CONTAINER_STATE: Form = Form::Leaf(Leaf::Named(&[
+    "creating", "created", "running", "stopped",
+]));
+
 /// `ErrorCode`.
 pub const ERROR_CODE: Form = Form::Leaf(Leaf::Named(&[
     "BLOB_UNKNOWN",
@@ -19,9 +24,44 @@ pub const ERROR_CODE: Form = Form::Leaf(Leaf::Named(&[
     "TOOMANYREQUESTS",
 ]));
 
+/// `IOPriorityClass`.
+pub const IO_PRIORITY_CLASS: Form = Form::Leaf(Leaf::Named(&[
+    "IOPRIO_CLASS_RT",
+    "IOPRIO_CLASS_BE",
+    "IOPRIO_CLASS_IDLE",
+]));
+
+/// `LinuxDeviceType`.
+pub const LINUX_DEVICE_TYPE: Form = Form::Leaf(Leaf::Named(&["a", "b", "c", "u", "p"]));
+
 /// `LinuxNamespaceType`.
 pub const LINUX_NAMESPACE_TYPE: Form = Form::Leaf(Leaf::Named(&[
     "mount", "cgroup", "uts", "ipc", "user", "pid", "network", "time",
+]));
+
+/// `LinuxPersonalityDomain`.
+pub const LINUX_PERSONALITY_DOMAIN: Form = Form::Leaf(Leaf::Named(&["LINUX", "LINUX32"]));
+
+/// `LinuxSchedulerFlag`.
+pub const LINUX_SCHEDULER_FLAG: Form = Form::Leaf(Leaf::Named(&[
+    "SCHED_RESET_ON_FORK",
+    "SCHED_FLAG_RECLAIM",
+    "SCHED_FLAG_D_L_OVERRUN",
+    "SCHED_FLAG_KEEP_POLICY",
+    "SCHED_FLAG_KEEP_PARAMS",
+    "SCHED_FLAG_UTIL_CLAMP_MIN",
+    "SCHED_FLAG_UTIL_CLAMP_MAX",
+]));
+
+/// `LinuxSchedulerPolicy`.
+pub const LINUX_SCHEDULER_POLICY: Form = Form::Leaf(Leaf::Named(&[
+    "SCHED_OTHER",
+    "SCHED_FIFO",
+    "SCHED_RR",
+    "SCHED_BATCH",
+    "SCHED_ISO",
+    "SCHED_IDLE",
+    "SCHED_DEADLINE",
 ]));
 
 /// `LinuxSeccompAction`.
@@ -35,6 +75,63 @@ pub const LINUX_SECCOMP_ACTION: Form = Form::Leaf(Leaf::Named(&[
     "SCMP_ACT_TRACE",
     "SCMP_ACT_LOG",
     "SCMP_ACT_ALLOW",
+]));
+
+/// `LinuxSeccompFilterFlag`.
+pub const LINUX_SECCOMP_FILTER_FLAG: Form = Form::Leaf(Leaf::Named(&[
+    "SECCOMP_FILTER_FLAG_LOG",
+    "SECCOMP_FILTER_FLAG_TSYNC",
+    "SECCOMP_FILTER_FLAG_SPEC_ALLOW",
+    "SECCOMP_FILTER_FLAG_WAIT_KILLABLE_RECV",
+]));
+
+/// `LinuxSeccompOperator`.
+pub const LINUX_SECCOMP_OPERATOR: Form = Form::Leaf(Leaf::Named(&[
+    "SCMP_CMP_NE",
+    "SCMP_CMP_LT",
+    "SCMP_CMP_LE",
+    "SCMP_CMP_EQ",
+    "SCMP_CMP_GE",
+    "SCMP_CMP_GT",
+    "SCMP_CMP_MASKED_EQ",
+]));
+
+/// `MemoryPolicyFlagType`.
+pub const MEMORY_POLICY_FLAG_TYPE: Form = Form::Leaf(Leaf::Named(&[
+    "MPOL_F_NUMA_BALANCING",
+    "MPOL_F_RELATIVE_NODES",
+    "MPOL_F_STATIC_NODES",
+]));
+
+/// `MemoryPolicyModeType`.
+pub const MEMORY_POLICY_MODE_TYPE: Form = Form::Leaf(Leaf::Named(&[
+    "MPOL_DEFAULT",
+    "MPOL_BIND",
+    "MPOL_INTERLEAVE",
+    "MPOL_WEIGHTED_INTERLEAVE",
+    "MPOL_PREFERRED",
+    "MPOL_PREFERRED_MANY",
+    "MPOL_LOCAL",
+]));
+
+/// `PosixRlimitType`.
+pub const POSIX_RLIMIT_TYPE: Form = Form::Leaf(Leaf::Named(&[
+    "RLIMIT_CPU",
+    "RLIMIT_FSIZE",
+    "RLIMIT_DATA",
+    "RLIMIT_STACK",
+    "RLIMIT_CORE",
+    "RLIMIT_RSS",
+    "RLIMIT_NPROC",
+    "RLIMIT_NOFILE",
+    "RLIMIT_MEMLOCK",
+    "RLIMIT_AS",
+    "RLIMIT_LOCKS",
+    "RLIMIT_SIGPENDING",
+    "RLIMIT_MSGQUEUE",
+    "RLIMIT_NICE",
+    "RLIMIT_RTPRIO",
+    "RLIMIT_RTTIME",
 ]));
 
 /// `SArch`.
@@ -65,7 +162,5 @@ pub const S_ARCH: Form = Form::Leaf(Leaf::Named(&[
     "SCMP_ARCH_SHEB",
 ]));
 
-/// `ContainerState`.
-pub const CONTAINER_STATE: Form = Form::Leaf(Leaf::Named(&[
-    "creating", "created", "running", "stopped",
-]));
+/// `ZOSNamespaceType`.
+pub const ZOS_NAMESPACE_TYPE: Form = Form::Leaf(Leaf::Named(&["pid", "mount", "ipc", "uts"]));

@@ -1,7 +1,10 @@
 pub mod Decides
 pub mod Empty
 pub mod Listed
+pub mod Pointers
 pub mod Processors
 pub mod Replacing
+pub mod Stands
 pub mod Tables
 pub mod Texts
+pub mod Ways

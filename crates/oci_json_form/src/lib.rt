@@ -6,6 +6,7 @@ pub mod fault;
 pub mod find;
 pub mod form;
 pub mod forms;
+pub mod laws;
 pub mod leaf;
 pub mod place;
 

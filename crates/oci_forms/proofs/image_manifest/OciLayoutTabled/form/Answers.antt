@@ -1,5 +1,7 @@
-use Rattle.oci_json_form.proofs.Tables.{shape_leaf, shape_list, shape_map, shape_record}
+use Rattle.oci_json_form.proofs.Stands.{shape_is, a_leaf, a_record, ◌▸◌, no_row}
 use Rattle.oci_forms.proofs.image_manifest.OciLayoutTabled.form.Goals as goal
 
 pub returns : goal.returns
-returns c = simp (shape_record, shape_list, shape_map, shape_leaf)
+returns c = shape_is (a_record (
+    a_leaf ▸
+    no_row))
