@@ -1,4 +1,4 @@
-//! The forms of all records: each record's table as a value.
+//! The forms of all records but `Linux` and `Spec`: each record's table as a value.
 #![tactic(auto)]
 
 /// A listed member of a table: its name, with a second one behind a bar where it has one, how it is asked for, and its form.
@@ -21,7 +21,6 @@ pub mod image_config;
 pub mod image_descriptor;
 pub mod image_manifest;
 pub mod image_platform;
-pub mod linux;
 pub mod linux_namespaces;
 pub mod linux_policies;
 pub mod names;
