@@ -17,8 +17,7 @@ use oci_spec::runtime::{
 };
 use std::alloc::Global;
 
-/// The default of a record, and what its builder makes of no field: one equals the other. A function's proof costs by the square of
-/// what it calls, so few records stand in one.
+/// The default of a record, and what its builder makes of no field: one equals the other.
 macro_rules! defaults {
     ($desk:expr, $module:ident: $($record:ident $builder:ident),* $(,)?) => {{
         let alloc = $desk.rt.alloc();
@@ -30,19 +29,12 @@ macro_rules! defaults {
     }};
 }
 
-fn configurations(desk: &mut Desk<'_>) {
+fn images(desk: &mut Desk<'_>) {
     defaults!(
         desk,
         image:
         RootFs RootFsBuilder,
         Config ConfigBuilder,
-    );
-}
-
-fn whole_configurations(desk: &mut Desk<'_>) {
-    defaults!(
-        desk,
-        image:
         History HistoryBuilder,
         ImageConfiguration ImageConfigurationBuilder,
     );
@@ -55,36 +47,15 @@ fn resources(desk: &mut Desk<'_>) {
         LinuxResources LinuxResourcesBuilder,
         LinuxMemory LinuxMemoryBuilder,
         LinuxCpu LinuxCpuBuilder,
-    );
-}
-
-fn limits(desk: &mut Desk<'_>) {
-    defaults!(
-        desk,
-        runtime:
         LinuxPids LinuxPidsBuilder,
         LinuxHugepageLimit LinuxHugepageLimitBuilder,
-        LinuxRdma LinuxRdmaBuilder,
-    );
-}
-
-fn block_devices(desk: &mut Desk<'_>) {
-    defaults!(
-        desk,
-        runtime:
         LinuxBlockIo LinuxBlockIoBuilder,
         LinuxWeightDevice LinuxWeightDeviceBuilder,
         LinuxThrottleDevice LinuxThrottleDeviceBuilder,
-    );
-}
-
-fn network_controls(desk: &mut Desk<'_>) {
-    defaults!(
-        desk,
-        runtime:
         LinuxDeviceCgroup LinuxDeviceCgroupBuilder,
         LinuxNetwork LinuxNetworkBuilder,
         LinuxInterfacePriority LinuxInterfacePriorityBuilder,
+        LinuxRdma LinuxRdmaBuilder,
     );
 }
 
@@ -93,102 +64,46 @@ fn linux(desk: &mut Desk<'_>) {
         desk,
         runtime:
         Linux LinuxBuilder,
+        LinuxIdMapping LinuxIdMappingBuilder,
+        LinuxNetDevice LinuxNetDeviceBuilder,
+        LinuxNamespace LinuxNamespaceBuilder,
+        LinuxDevice LinuxDeviceBuilder,
+        LinuxTimeOffset LinuxTimeOffsetBuilder,
+        LinuxSeccomp LinuxSeccompBuilder,
+        LinuxSyscall LinuxSyscallBuilder,
+        LinuxSeccompArg LinuxSeccompArgBuilder,
         LinuxIntelRdt LinuxIntelRdtBuilder,
         LinuxPersonality LinuxPersonalityBuilder,
     );
 }
 
-fn mappings(desk: &mut Desk<'_>) {
-    defaults!(
-        desk,
-        runtime:
-        LinuxIdMapping LinuxIdMappingBuilder,
-        LinuxNetDevice LinuxNetDeviceBuilder,
-    );
-}
-
-fn namespaces(desk: &mut Desk<'_>) {
-    defaults!(
-        desk,
-        runtime:
-        LinuxNamespace LinuxNamespaceBuilder,
-        LinuxDevice LinuxDeviceBuilder,
-        LinuxTimeOffset LinuxTimeOffsetBuilder,
-    );
-}
-
-fn filters(desk: &mut Desk<'_>) {
-    defaults!(
-        desk,
-        runtime:
-        LinuxSeccomp LinuxSeccompBuilder,
-        LinuxSyscall LinuxSyscallBuilder,
-        LinuxSeccompArg LinuxSeccompArgBuilder,
-    );
-}
-
-fn processes(desk: &mut Desk<'_>) {
+fn process(desk: &mut Desk<'_>) {
     defaults!(
         desk,
         runtime:
         Process ProcessBuilder,
         Box BoxBuilder,
-        User UserBuilder,
-    );
-}
-
-fn privileges(desk: &mut Desk<'_>) {
-    defaults!(
-        desk,
-        runtime:
-        LinuxCapabilities LinuxCapabilitiesBuilder,
         PosixRlimit PosixRlimitBuilder,
-    );
-}
-
-fn scheduling(desk: &mut Desk<'_>) {
-    defaults!(
-        desk,
-        runtime:
+        User UserBuilder,
+        LinuxCapabilities LinuxCapabilitiesBuilder,
         LinuxIOPriority LinuxIOPriorityBuilder,
         Scheduler SchedulerBuilder,
         ExecCPUAffinity ExecCPUAffinityBuilder,
     );
 }
 
-fn solaris(desk: &mut Desk<'_>) {
+fn platforms(desk: &mut Desk<'_>) {
     defaults!(
         desk,
         runtime:
         Solaris SolarisBuilder,
         SolarisAnet SolarisAnetBuilder,
-    );
-}
-
-fn solaris_caps(desk: &mut Desk<'_>) {
-    defaults!(
-        desk,
-        runtime:
         SolarisCappedCPU SolarisCappedCPUBuilder,
         SolarisCappedMemory SolarisCappedMemoryBuilder,
-    );
-}
-
-fn virtual_machines(desk: &mut Desk<'_>) {
-    defaults!(
-        desk,
-        runtime:
         VM VMBuilder,
         VMHypervisor VMHypervisorBuilder,
         VMKernel VMKernelBuilder,
         VMImage VMImageBuilder,
-    );
-}
-
-fn zos(desk: &mut Desk<'_>) {
-    defaults!(
-        desk,
-        runtime:
         ZOS ZOSBuilder,
         ZOSNamespace ZOSNamespaceBuilder,
     );
@@ -200,26 +115,12 @@ fn windows(desk: &mut Desk<'_>) {
         runtime:
         Windows WindowsBuilder,
         WindowsDevice WindowsDeviceBuilder,
-        WindowsNetwork WindowsNetworkBuilder,
-    );
-}
-
-fn windows_resources(desk: &mut Desk<'_>) {
-    defaults!(
-        desk,
-        runtime:
         WindowsResources WindowsResourcesBuilder,
         WindowsMemoryResources WindowsMemoryResourcesBuilder,
         WindowsCPUResources WindowsCPUResourcesBuilder,
-    );
-}
-
-fn windows_others(desk: &mut Desk<'_>) {
-    defaults!(
-        desk,
-        runtime:
         WindowsStorageResources WindowsStorageResourcesBuilder,
         WindowsHyperV WindowsHyperVBuilder,
+        WindowsNetwork WindowsNetworkBuilder,
     );
 }
 
@@ -230,95 +131,29 @@ fn features(desk: &mut Desk<'_>) {
         Features FeaturesBuilder,
         LinuxFeature LinuxFeatureBuilder,
         Cgroup CgroupBuilder,
-    );
-}
-
-fn security_features(desk: &mut Desk<'_>) {
-    defaults!(
-        desk,
-        runtime:
         Seccomp SeccompBuilder,
         Apparmor ApparmorBuilder,
         Selinux SelinuxBuilder,
-    );
-}
-
-fn mount_features(desk: &mut Desk<'_>) {
-    defaults!(
-        desk,
-        runtime:
         IDMap IDMapBuilder,
-        MountExtensions MountExtensionsBuilder,
         NetDevices NetDevicesBuilder,
-    );
-}
-
-fn other_features(desk: &mut Desk<'_>) {
-    defaults!(
-        desk,
-        runtime:
         IntelRdt IntelRdtBuilder,
         MemoryPolicy MemoryPolicyBuilder,
+        MountExtensions MountExtensionsBuilder,
     );
 }
 
-fn specifications(desk: &mut Desk<'_>) {
+fn containers(desk: &mut Desk<'_>) {
     defaults!(
         desk,
         runtime:
         Spec SpecBuilder,
         Root RootBuilder,
         Mount MountBuilder,
-    );
-}
-
-fn hooks(desk: &mut Desk<'_>) {
-    defaults!(
-        desk,
-        runtime:
         Hooks HooksBuilder,
         Hook HookBuilder,
-    );
-}
-
-fn states(desk: &mut Desk<'_>) {
-    defaults!(
-        desk,
-        runtime:
         State StateBuilder,
         ContainerProcessState ContainerProcessStateBuilder,
     );
-}
-
-/// The records with a default that builders fill from.
-fn with_defaults(desk: &mut Desk<'_>) {
-    configurations(desk);
-    whole_configurations(desk);
-    resources(desk);
-    limits(desk);
-    block_devices(desk);
-    network_controls(desk);
-    linux(desk);
-    mappings(desk);
-    namespaces(desk);
-    filters(desk);
-    processes(desk);
-    privileges(desk);
-    scheduling(desk);
-    solaris(desk);
-    solaris_caps(desk);
-    virtual_machines(desk);
-    zos(desk);
-    windows(desk);
-    windows_resources(desk);
-    windows_others(desk);
-    features(desk);
-    security_features(desk);
-    mount_features(desk);
-    other_features(desk);
-    specifications(desk);
-    hooks(desk);
-    states(desk);
 }
 
 fn platform(alloc: Global) -> Result<Platform> {
@@ -396,34 +231,20 @@ fn policy(alloc: Global) -> Result<LinuxMemoryPolicy> {
         .build(alloc)
 }
 
-fn required_images(desk: &mut Desk<'_>) {
+/// The records whose builders have to be given fields; of those with a default that is compared too.
+fn required(desk: &mut Desk<'_>) {
     let alloc = desk.rt.alloc();
     desk.same("Platform", Platform::try_default(alloc), platform(alloc));
-    desk.same("Descriptor", descriptor(alloc), descriptor(alloc));
     desk.same("ImageIndex", ImageIndex::try_default(alloc), index(alloc));
+    desk.same("Descriptor", descriptor(alloc), descriptor(alloc));
     desk.same("ImageManifest", manifest(alloc), manifest(alloc));
-}
-
-fn required_others(desk: &mut Desk<'_>) {
-    let alloc = desk.rt.alloc();
     desk.same("ArtifactManifest", artifact(alloc), artifact(alloc));
     desk.same("OciLayout", layout(alloc), layout(alloc));
-    desk.same("LinuxMemoryPolicy", policy(alloc), policy(alloc));
-}
-
-fn required_answers(desk: &mut Desk<'_>) {
-    let alloc = desk.rt.alloc();
     desk.same("ErrorInfo", error(alloc), error(alloc));
     desk.same("ErrorResponse", reply(alloc), reply(alloc));
     desk.same("RepositoryList", repositories(alloc), repositories(alloc));
     desk.same("TagList", tags(alloc), tags(alloc));
-}
-
-/// The records whose builders have to be given fields; of those with a default that is compared too.
-fn required(desk: &mut Desk<'_>) {
-    required_images(desk);
-    required_others(desk);
-    required_answers(desk);
+    desk.same("LinuxMemoryPolicy", policy(alloc), policy(alloc));
 }
 
 /// A text that is no list of processors.
@@ -460,7 +281,14 @@ fn refused(desk: &mut Desk<'_>) {
 
 /// All records that are made in code.
 pub fn all(desk: &mut Desk<'_>) {
-    with_defaults(desk);
+    images(desk);
+    resources(desk);
+    linux(desk);
+    process(desk);
+    platforms(desk);
+    windows(desk);
+    features(desk);
+    containers(desk);
     required(desk);
     refused(desk);
     desk.end("records", "made in code");

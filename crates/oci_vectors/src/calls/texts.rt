@@ -7,7 +7,6 @@ use oci_spec::image::{Arch, Digest, DigestAlgorithm, MediaType, Os, Sha256Digest
 use oci_spec::runtime::{LinuxNamespaceType, ZOSNamespaceType};
 use oci_spec::{OciSpecError, Result};
 use std::alloc::Global;
-use std::fmt::Display;
 use std::io;
 use std::io::ErrorKind;
 
@@ -22,7 +21,6 @@ enum Call {
     IntoDigest,
     Algorithm,
     MediaType,
-    MediaTypeCopy,
     System,
     Architecture,
     Namespace,
@@ -80,7 +78,7 @@ static CALLS: [(Call, &str, Answer<'_>); 31] = [
         "application/vnd.oci.descriptor",
         Ok("application/vnd.oci.descriptor"),
     ),
-    (Call::MediaTypeCopy, "m", Ok("m")),
+    (Call::MediaType, "m", Ok("m")),
     (Call::System, "linux", Ok("linux")),
     (Call::System, "s", Ok("s")),
     (Call::Architecture, "armbe", Ok("armbe")),
@@ -120,144 +118,41 @@ static CALLS: [(Call, &str, Answer<'_>); 31] = [
     (Call::Display, "r.io/a:1", Ok("r.io/a:1")),
 ];
 
-/// A value of which a text is taken.
-trait Textual: Drop {
-    fn text(&self) -> &str;
-
-    /// Its copy.
-    fn twin(&self, alloc: Global) -> Result<Self>;
-}
-
-impl Textual for Digest {
-    fn text(&self) -> &str {
-        self.as_ref()
-    }
-
-    fn twin(&self, _alloc: Global) -> Result<Digest> {
-        self.clone()
-    }
-}
-
-impl Textual for Sha256Digest {
-    fn text(&self) -> &str {
-        self.as_ref()
-    }
-
-    fn twin(&self, _alloc: Global) -> Result<Sha256Digest> {
-        self.clone()
-    }
-}
-
-impl Textual for DigestAlgorithm {
-    fn text(&self) -> &str {
-        self.as_ref()
-    }
-
-    fn twin(&self, alloc: Global) -> Result<DigestAlgorithm> {
-        self.clone(alloc)
-    }
-}
-
-impl Textual for MediaType {
-    fn text(&self) -> &str {
-        self.as_ref()
-    }
-
-    fn twin(&self, alloc: Global) -> Result<MediaType> {
-        self.clone(alloc)
-    }
-}
-
-impl Textual for Os {
-    fn text(&self) -> &str {
-        self.as_ref()
-    }
-
-    fn twin(&self, alloc: Global) -> Result<Os> {
-        self.clone(alloc)
-    }
-}
-
-impl Textual for Arch {
-    fn text(&self) -> &str {
-        self.as_ref()
-    }
-
-    fn twin(&self, alloc: Global) -> Result<Arch> {
-        self.clone(alloc)
-    }
-}
-
 fn copied(alloc: Global, text: &str) -> Result<String> {
     Ok(String::from_str(alloc, text)?)
 }
 
-/// The text of a value that was answered.
-fn taken<T: Textual>(alloc: Global, answer: Result<T>) -> Result<String> {
-    match answer {
-        Ok(value) => copied(alloc, value.text()),
-        Err(refused) => Err(refused),
-    }
-}
-
-/// The text of its copy.
-fn twin_taken<T: Textual>(alloc: Global, answer: Result<T>) -> Result<String> {
-    match answer {
-        Ok(value) => taken(alloc, value.twin(alloc)),
-        Err(refused) => Err(refused),
-    }
-}
-
-/// What a name that was answered displays.
-fn displayed<T: Display + Drop>(alloc: Global, answer: Result<T>) -> Result<String> {
-    match answer {
-        Ok(value) => Ok(value.to_string(alloc)?),
-        Err(refused) => Err(refused),
-    }
-}
-
-fn owned_digest(alloc: Global, text: &str) -> Result<String> {
-    match copied(alloc, text) {
-        Ok(text) => taken(alloc, Digest::try_from(text)),
-        Err(refused) => Err(refused),
-    }
-}
-
-fn into_digest(alloc: Global, text: &str) -> Result<String> {
-    match Sha256Digest::from_str(alloc, text) {
-        Ok(digest) => taken(alloc, digest.into_digest()),
-        Err(refused) => Err(refused),
-    }
-}
-
 fn of_digest(alloc: Global, call: Call, text: &str) -> Result<String> {
     match call {
-        Call::Digest => taken(alloc, Digest::from_str(alloc, text)),
-        Call::OwnedDigest => owned_digest(alloc, text),
-        Call::DigestCopy => twin_taken(alloc, Digest::from_str(alloc, text)),
-        Call::Sha256 => taken(alloc, Sha256Digest::from_str(alloc, text)),
-        Call::Sha256Copy => twin_taken(alloc, Sha256Digest::from_str(alloc, text)),
-        Call::IntoDigest => into_digest(alloc, text),
+        Call::Digest => copied(alloc, Digest::from_str(alloc, text)?.as_ref()),
+        Call::OwnedDigest => copied(alloc, Digest::try_from(copied(alloc, text)?)?.as_ref()),
+        Call::DigestCopy => copied(alloc, Digest::from_str(alloc, text)?.clone()?.as_ref()),
+        Call::Sha256 => copied(alloc, Sha256Digest::from_str(alloc, text)?.as_ref()),
+        Call::Sha256Copy => copied(
+            alloc,
+            Sha256Digest::from_str(alloc, text)?.clone()?.as_ref(),
+        ),
+        Call::IntoDigest => {
+            let digest = Sha256Digest::from_str(alloc, text)?.into_digest()?;
+            copied(alloc, digest.as_ref())
+        }
         _ => of_name(alloc, call, text),
-    }
-}
-
-fn media_type(alloc: Global, text: &str) -> Result<String> {
-    match MediaType::from_text(alloc, text) {
-        Ok(media_type) => media_type.into_string(alloc),
-        Err(refused) => Err(refused),
     }
 }
 
 fn of_name(alloc: Global, call: Call, text: &str) -> Result<String> {
     match call {
-        Call::Algorithm => twin_taken(alloc, DigestAlgorithm::from_text(alloc, text)),
-        Call::MediaType => media_type(alloc, text),
-        Call::MediaTypeCopy => twin_taken(alloc, MediaType::from_text(alloc, text)),
-        Call::System => twin_taken(alloc, Os::from_text(alloc, text)),
-        Call::Architecture => twin_taken(alloc, Arch::from_text(alloc, text)),
-        Call::Namespace => displayed(alloc, LinuxNamespaceType::try_from(alloc, text)),
-        Call::NamespaceOfZos => displayed(alloc, ZOSNamespaceType::try_from(alloc, text)),
+        Call::Algorithm => {
+            let algorithm = DigestAlgorithm::from_text(alloc, text)?.clone(alloc)?;
+            copied(alloc, algorithm.as_ref())
+        }
+        Call::MediaType => MediaType::from_text(alloc, text)?
+            .clone(alloc)?
+            .into_string(alloc),
+        Call::System => copied(alloc, Os::from_text(alloc, text)?.clone(alloc)?.as_ref()),
+        Call::Architecture => copied(alloc, Arch::from_text(alloc, text)?.clone(alloc)?.as_ref()),
+        Call::Namespace => Ok(LinuxNamespaceType::try_from(alloc, text)?.to_string(alloc)?),
+        Call::NamespaceOfZos => Ok(ZOSNamespaceType::try_from(alloc, text)?.to_string(alloc)?),
         _ => of_reference(alloc, call, text),
     }
 }
@@ -271,36 +166,19 @@ fn accepted(answer: std::result::Result<Reference, ParseError>) -> Result<Refere
     }
 }
 
-fn whole(answer: Result<Reference>) -> Result<String> {
-    match answer {
-        Ok(reference) => reference.whole(),
-        Err(refused) => Err(refused),
-    }
-}
-
-fn owned_reference(alloc: Global, text: &str) -> Result<String> {
-    match copied(alloc, text) {
-        Ok(text) => whole(accepted(Reference::try_from(text))),
-        Err(refused) => Err(refused),
-    }
-}
-
-fn other_digest(alloc: Global, reference: &Reference) -> Result<String> {
-    match copied(alloc, "foo:bar") {
-        Ok(digest) => whole(reference.clone_with_digest(digest)),
-        Err(refused) => Err(refused),
-    }
-}
-
 fn of_reference(alloc: Global, call: Call, text: &str) -> Result<String> {
-    let answer = accepted(Reference::from_str(alloc, text));
-    match (call, answer) {
-        (Call::OwnedReference, Ok(_)) => owned_reference(alloc, text),
-        (Call::ReferenceCopy, Ok(reference)) => whole(reference.clone()),
-        (Call::OtherDigest, Ok(reference)) => other_digest(alloc, &reference),
-        (Call::IntoString, Ok(reference)) => reference.into_string(),
-        (Call::Display, Ok(reference)) => Ok(reference.to_string(alloc)?),
-        (_, answer) => whole(answer),
+    let reference = match call {
+        Call::OwnedReference => accepted(Reference::try_from(copied(alloc, text)?))?,
+        _ => accepted(Reference::from_str(alloc, text))?,
+    };
+    match call {
+        Call::ReferenceCopy => reference.clone()?.whole(),
+        Call::OtherDigest => reference
+            .clone_with_digest(copied(alloc, "foo:bar")?)?
+            .whole(),
+        Call::IntoString => reference.into_string(),
+        Call::Display => Ok(reference.to_string(alloc)?),
+        _ => reference.whole(),
     }
 }
 
