@@ -1,12 +1,15 @@
 //! A record's table as a value: the shape that a form stands for, whether a form allows a value, and all that it refuses in one.
 #![tactic(auto)]
 
+pub mod absent;
 pub mod check;
+pub mod conform;
 pub mod fault;
 pub mod find;
 pub mod form;
 pub mod forms;
 pub mod leaf;
+pub mod normal;
 pub mod place;
 
 pub use fault::{Fault, Wanted};
