@@ -13,6 +13,7 @@ use Rattle.oci_json_schema.specs.Shape as shape
 use Rattle.oci_json_schema.specs.Shape.{Presence, required, defaulted, optional, nullable, unless_empty, Shape, text, truth, whole, named, open_name, digest_text, cpu_text, cap_set, list, key_set, detail, free_map, rows, Rows, no_rows, row}
 use Rattle.oci_json_schema.specs.Means.{Means, MeansRows, MeansEither, MeansMember, EachMeans, EachEntryMeans, IsThere, IsThereOr, is_object, get_second, unless_null, as_whole, opened, member_names, free_values, AreObjects, IsCapability, AreCapabilities, SomeIs, IsSetOf}
 use Rattle.oci_json_form.specs.Allows.{allows, rows_allow, each_allowed, items_allowed, each_member_allowed, members_allowed, text_allowed, names_capability, is_in_range, are_free, member_allowed, either_allowed, is_digest_text, is_spelled, is_capability}
+use Rattle.oci_json_form.specs.Conformed.{item_is, some_is, set_in}
 use Rattle.oci_json_form.specs.Processors.{is_list_of_processors}
 use Rattle.oci_json_form.proofs.Processors.{processors_tell}
 use Rattle.oci_json_form.proofs.Texts.{digest_tells, capability_tells, spelled_tells}
@@ -62,13 +63,6 @@ given_whole low high (Some z) e = (z, refl, in_order low z (first_of (int_le low
 
 -- ---- sets of capabilities
 
-abbrev item_is : Data → List ℕ → Bool
-item_is d name = text_allowed (λ t. is_spelled t name) (as_str d)
-
-abbrev some_is : Items → List ℕ → Bool
-some_is no_items name = false
-some_is (item d ds) name = item_is d name || some_is ds name
-
 item_tells : (d : Data) (name : List ℕ) → (item_is d name ≡ true) ↔ IsCapability d name
 item_tells d name = (
   (λ e. let t = given_text (λ u. is_spelled u name) (as_str d) e in (t.0, t.1, (spelled_tells t.0 name).0 t.2)),
@@ -86,12 +80,9 @@ either_of false b P Q h k = ((λ e. inr (k.0 e)), from)
 never : {P : Type 0} → (P → ⊥) → (false ≡ true) ↔ P
 never f = ((λ e. absurd (true≢false (sym e))), (λ m. absurd (f m)))
 
-some_tells : (ds : Items) (name : List ℕ) → (some_is ds name ≡ true) ↔ SomeIs ds name
+pub some_tells : (ds : Items) (name : List ℕ) → (some_is ds name ≡ true) ↔ SomeIs ds name
 some_tells no_items name = never (λ m. m)
 some_tells (item d ds) name = either_of (item_is d name) (some_is ds name) (IsCapability d name) (SomeIs ds name) (item_tells d name) (some_tells ds name)
-
-abbrev set_in : List (List ℕ) → Items → List Bool
-set_in table ds = std.map (some_is ds) table
 
 set_of_items : (table : List (List ℕ)) (ds : Items) → IsSetOf table ds (set_in table ds)
 set_of_items [] ds = tt

@@ -11,7 +11,7 @@ use Rattle.oci_json_form.specs.declared.form.Row.{Row}
 use Rattle.oci_json_form.specs.declared.fault.Fault.{Fault}
 use Rattle.oci_json_form.proofs.Empty.{none_is_meant}
 
-drop_at : (rs : List Row) (i : ℕ) (x : Row) → i < length rs → drop i rs ≡ slice_index_or rs i x ∷ drop (i + 1) rs
+pub drop_at : {A : Type 0} (rs : List A) (i : ℕ) (x : A) → i < length rs → drop i rs ≡ slice_index_or rs i x ∷ drop (i + 1) rs
 drop_at [] i x below = absurd (omega arith)
 drop_at (r ∷ rs) zero x below = refl
 drop_at (r ∷ rs) (suc i) x below =

@@ -36,3 +36,6 @@ record_allows f rs d b is object e = e ∙ sym (ap (λ x. allows (shape_of x) d)
 
 pub record_lists : (f : Form) (rs : Bor (List Row)) (at : List ℕ) (d : Data) → f ≡ form.Record rs → is_object d ≡ true → rows_faults (rows_of rs.now) at d ≡ faults (shape_of f) at d
 record_lists f rs at d is object = sym (ap (λ x. faults (shape_of x) at d) is ∙ ap (λ s. faults s at d) (shape_record rs) ∙ rw object refl)
+
+pub record_is : (f : Form) (rs : Bor (List Row)) → f ≡ form.Record rs → shape_of f ≡ shape.rows (rows_of rs.now)
+record_is f rs is = ap shape_of is ∙ shape_record rs

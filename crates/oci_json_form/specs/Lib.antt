@@ -1,4 +1,5 @@
 pub mod Allows
+pub mod Conformed
 pub mod Faults
 pub mod Leads
 pub mod Places
