@@ -14,6 +14,5 @@ pub mod leaf;
 pub mod normal;
 pub mod place;
 
-pub use conform::conform;
 pub use fault::{Fault, Wanted};
 pub use form::{Absent, Form, Leaf, Presence, Row};
