@@ -1,4 +1,5 @@
-//! The forms of all records but `Linux` and `Spec`: each record's table as a value.
+//! The forms of all records but `Linux` and `Spec`, each record's table as a value, and what is done by them: all faults of a
+//! document, and its normal form.
 #![tactic(auto)]
 
 /// A listed member of a table: its name, with a second one behind a bar where it has one, how it is asked for, and its form.
@@ -24,6 +25,7 @@ pub mod image_platform;
 pub mod linux_namespaces;
 pub mod linux_policies;
 pub mod names;
+pub mod normal;
 pub mod platforms;
 pub mod platforms_windows;
 pub mod process;
@@ -33,4 +35,5 @@ pub mod runtime_lifecycle;
 pub mod runtime_mounts;
 pub mod tabled;
 
+pub use normal::{conform_as, normalize};
 pub use tabled::{Tabled, faults_of};

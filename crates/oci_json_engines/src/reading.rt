@@ -58,15 +58,25 @@ fn read_all<R: Read>(alloc: Global, reader: &mut R) -> Result<Vec<u8>>
     }
 }
 
+/// The value of all that is left to read, a JSON text; refused with `SerDe(Json)` where it is none, or with `Io` where a read
+/// failed. The bytes are let go of before the value is answered.
+pub fn value_from_reader<R: Read + Drop>(alloc: Global, mut reader: R) -> Result<Value>
+    ensures ok { IfOk result (λ v. IfSome (R.remaining reader) (λ bytes. ReadsAs bytes (view v))) }
+    ensures json { IfErr result (λ e. IsJson e → IfSome (R.remaining reader) IsNoJson) }
+    ensures no_schema { IfErr result (λ e. ¬ IsSchema e) }
+    ensures kind { IfErr result IsMemorySerDeOrIo }
+{
+    let bytes = read_all(alloc, &mut reader)?;
+    value_of(alloc, bytes.as_slice())
+}
+
 /// Reads a document of all that is left to read; refused as by `from_slice`, or with `Io` where a read failed.
-pub fn from_reader<T: OciRecord, R: Read + Drop>(alloc: Global, mut reader: R) -> Result<T>
+pub fn from_reader<T: OciRecord, R: Read + Drop>(alloc: Global, reader: R) -> Result<T>
     ensures ok { IfOk result (λ x. IfSome (R.remaining reader) (λ bytes. MeansBytes T.shape bytes (T.plain x))) }
     ensures json { IfErr result (λ e. IsJson e → IfSome (R.remaining reader) IsNoJson) }
     ensures schema { IfErr result (λ e. IsSchema e → IfSome (R.remaining reader) (IsNoDocument T.shape)) }
     ensures kind { IfErr result IsMemorySerDeOrIo }
 {
-    let bytes = read_all(alloc, &mut reader)?;
-    let value = value_of(alloc, bytes.as_slice())?;
-    drop(bytes);
+    let value = value_from_reader(alloc, reader)?;
     T::from_value_owned(alloc, value)
 }

@@ -12,8 +12,7 @@ use Rattle.oci_json_schema.specs.Plain.{Plain, Plains, no_plains, Entries, no_en
 use Rattle.oci_json_schema.specs.Shape as shape
 use Rattle.oci_json_schema.specs.Shape.{Presence, required, defaulted, optional, nullable, unless_empty, Shape, text, truth, whole, named, open_name, digest_text, cpu_text, cap_set, list, key_set, detail, free_map, rows, Rows, no_rows, row}
 use Rattle.oci_json_schema.specs.Means.{Means, MeansRows, MeansEither, MeansMember, EachMeans, EachEntryMeans, IsThere, IsThereOr, is_object, get_second, unless_null, as_whole, opened, member_names, free_values, AreObjects, IsCapability, AreCapabilities, SomeIs, IsSetOf}
-use Rattle.oci_json_form.specs.Allows.{allows, rows_allow, each_allowed, items_allowed, each_member_allowed, members_allowed, text_allowed, names_capability, is_in_range, are_free, member_allowed, either_allowed, is_digest_text, is_spelled, is_capability}
-use Rattle.oci_json_form.specs.Conformed.{item_is, some_is, set_in}
+use Rattle.oci_json_form.specs.Allows.{allows, rows_allow, each_allowed, items_allowed, each_member_allowed, members_allowed, text_allowed, names_capability, is_in_range, are_free, member_allowed, either_allowed, is_digest_text, is_spelled, is_capability, item_is, some_is, set_in}
 use Rattle.oci_json_form.specs.Processors.{is_list_of_processors}
 use Rattle.oci_json_form.proofs.Processors.{processors_tell}
 use Rattle.oci_json_form.proofs.Texts.{digest_tells, capability_tells, spelled_tells}

@@ -1,10 +1,6 @@
-pub mod Accepted
-pub mod Conforms
 pub mod Decides
 pub mod Empty
 pub mod Listed
-pub mod Moved
-pub mod Parts
 pub mod Pointers
 pub mod Processors
 pub mod Replacing

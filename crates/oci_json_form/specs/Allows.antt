@@ -113,3 +113,16 @@ abbrev mutual
 -- a listed member of a table
 abbrev pub row_allows : Row → Data → Bool
 row_allows r d = either_allowed (presence_of r.presence) (allows (shape_of r.form.now)) (get r.name.now d) (get_second (name_of r.second) d)
+
+-- ---- sets of capabilities
+
+abbrev pub item_is : Data → List ℕ → Bool
+item_is d name = text_allowed (λ t. is_spelled t name) (as_str d)
+
+abbrev pub some_is : Items → List ℕ → Bool
+some_is no_items name = false
+some_is (item d ds) name = item_is d name || some_is ds name
+
+-- for each name of the table, whether an item is of it
+abbrev pub set_in : List (List ℕ) → Items → List Bool
+set_in table ds = std.map (some_is ds) table

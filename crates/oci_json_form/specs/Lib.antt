@@ -1,5 +1,4 @@
 pub mod Allows
-pub mod Conformed
 pub mod Faults
 pub mod Leads
 pub mod Places

@@ -1,6 +1,7 @@
 //! What is found of a text, in the form of a row's last line.
 
 use anyhow::Result;
+use oci_forms::{Tabled, conform_as, faults_of};
 use oci_json_engines::{from_slice, to_string};
 use oci_json_schema::OciRecord;
 use oci_text_base::{OciSpecError, SerDeError};
@@ -34,11 +35,36 @@ impl Reading {
     pub fn found<T: OciRecord>(self, alloc: Global, text: &str) -> Result<String> {
         match self.read::<T>(alloc, text) {
             Ok(document) => written(alloc, &document, text),
-            Err(OciSpecError::SerDe(SerDeError::Schema(fault))) => {
-                Ok(format!(in alloc; "! {}.{}", fault.owner, fault.member)?)
-            }
-            Err(fault) => Ok(format!(in alloc; "{fault}")?),
+            Err(fault) => refused(alloc, &fault),
         }
+    }
+}
+
+/// The place that refuses the text, or what else is told.
+fn refused(alloc: Global, fault: &OciSpecError) -> Result<String> {
+    match fault {
+        OciSpecError::SerDe(SerDeError::Schema(fault)) => {
+            Ok(format!(in alloc; "! {}.{}", fault.owner, fault.member)?)
+        }
+        _ => Ok(format!(in alloc; "{fault}")?),
+    }
+}
+
+/// What is found by the record's table, with no document between: the compact text of the value's normal form, or the place
+/// that refuses the text. Faults are listed exactly where it is refused.
+pub fn by_table<T: Tabled>(alloc: Global, text: &str) -> Result<String> {
+    let value = Value::from_str(alloc, text)?;
+    let is_faulty = !faults_of::<T>(alloc, &value)?.is_empty();
+    let answer = conform_as::<T>(value, alloc);
+    if is_faulty != answer.is_err() {
+        return Ok(String::from_str(alloc, "faults are listed, or not")?);
+    }
+    match answer {
+        Ok(normal) => {
+            let compact = normal.to_string(alloc)?;
+            Ok(format!(in alloc; "= {compact}")?)
+        }
+        Err(fault) => refused(alloc, &fault),
     }
 }
 

@@ -1,0 +1,215 @@
+-- Parts of values, and of records that are taken apart.
+use Rattle.std.proofs.Common.{◌≡◌, ◌≢◌, refl, sym, ap, ◌∙◌, subst, Bool, true, false, ◌&&◌, ◌||◌, List, [], ◌∷◌, ◌++◌, length, drop, slice_index_or, Option, Some, None, is_some, option_map, ℕ, zero, suc, ◌+◌, ◌<◌, bytes_eq, nat_cmp, string_bytes, string_cmp, true≢false, arith, Result, Ok, Err, Greater, Less, nat_eq}
+use Rattle.std.specs.Prelude.{IfOk, not, ◌==◌, option_and_then}
+use Rattle.std.specs.Cmp.Lexicographic.{slice_cmp}
+use Rattle.std.specs.List.{AllByRecursion}
+use Rattle.std.specs.List.Sorted.{IsStrictlySortedBy}
+use Rattle.std.specs.Map.{keys_of, lookup}
+use Rattle.std.specs.BTreeMap.{is_at, insert_entry}
+use Rattle.std.specs.Ordering.{ordering_reverse}
+use Rattle.std.proofs.Math.Dec.{eqb-suc-zero}
+use Rattle.std.proofs.lemmas.Cmp.{nat_list_cmp_total}
+use Rattle.std.proofs.lemmas.Slice.Eq.{bytes_eq-Decides}
+use Rattle.serde_json.specs.Data.{Data, null, boolean, number, string, array, object, Items, no_items, item, Members, no_members, member, put}
+use Rattle.serde_json.specs.Find.{as_null, as_array, as_object, get_member}
+use Rattle.serde_json.specs.Read.{read}
+use Rattle.serde_json.specs.Written.{has_float, compact_text}
+use Rattle.serde_json.specs.View.{view, items_view, members_view}
+use Rattle.serde_json.specs.declared.value.Value.{Value}
+use Rattle.serde_json.proofs.Views.{Entry, view-lookup}
+use Rattle.oci_text_base.specs.Refused.{IsSchema}
+use Rattle.oci_json_schema.specs.Means.{unless_null, Means}
+use Rattle.oci_json_schema.specs.Plain as plain
+use Rattle.oci_json_schema.specs.Plain.{Plain, text_of}
+use Rattle.oci_json_schema.specs.Refused.{IsRefused}
+use Rattle.oci_json_schema.specs.Shape as shape
+use Rattle.oci_json_schema.specs.Shape.{Shape, Rows, detail}
+use Rattle.oci_json_schema.specs.Value.{value, is_empty_array}
+use Rattle.oci_json_schema.specs.Writable.{Writable}
+use Rattle.oci_json_schema.proofs.Writers.{inserted}
+use Rattle.oci_json_form.specs.Allows.{allows, each_allowed, each_member_allowed}
+use Rattle.oci_json_conform.specs.Conformed.{is_kept, accepts, rows_accept, conformed, conformed_rows, chosen, is_one_there, each_conformed, each_member_conformed}
+use Rattle.oci_json_form.proofs.Decides.{meant}
+use Rattle.oci_json_conform.proofs.Conforms.{told, object_kept}
+
+-- ---- lists and nulls
+
+pub no_items_told : (d : Data) (vs : List Value) → Some (items_view vs) ≡ as_array d → (length vs == 0) ≡ is_empty_array d
+no_items_told null vs e = cc
+no_items_told (boolean b) vs e = cc
+no_items_told (number n) vs e = cc
+no_items_told (string s) vs e = cc
+no_items_told (object ms) vs e = cc
+no_items_told (array no_items) [] e = refl
+no_items_told (array no_items) (v ∷ vs) e = cc
+no_items_told (array (item d ds)) [] e = cc
+no_items_told (array (item d ds)) (v ∷ vs) e = eqb-suc-zero (length vs)
+
+pub no_list_told : (d : Data) → None ≡ as_array d → false ≡ is_empty_array d
+no_list_told null e = refl
+no_list_told (boolean b) e = refl
+no_list_told (number n) e = refl
+no_list_told (string s) e = refl
+no_list_told (object ms) e = refl
+no_list_told (array ds) e = cc
+
+pub is_gone : (d : Data) → is_some (as_null d) ≡ true → unless_null d ≡ None
+is_gone null e = refl
+is_gone (boolean b) e = cc
+is_gone (number n) e = cc
+is_gone (string s) e = cc
+is_gone (array ds) e = cc
+is_gone (object ms) e = cc
+
+pub is_left : (d : Data) → is_some (as_null d) ≡ false → unless_null d ≡ Some d
+is_left null e = cc
+is_left (boolean b) e = refl
+is_left (number n) e = refl
+is_left (string s) e = refl
+is_left (array ds) e = refl
+is_left (object ms) e = refl
+
+-- ---- what stands under a name
+
+some_viewed : (o : Option Value) → is_some o ≡ is_some (option_map view o)
+some_viewed None = refl
+some_viewed (Some v) = refl
+
+pub has_told : (name : List ℕ) (es : List Entry) → is_some (lookup (is_at (λ k. slice_cmp nat_cmp name (string_bytes k))) es) ≡ is_some (get_member name (members_view es))
+has_told name es = some_viewed (lookup (is_at (λ k. slice_cmp nat_cmp name (string_bytes k))) es) ∙ ap is_some (view-lookup name es)
+
+pub chosen_first : (a b : Option Data) → is_some b ≡ false → chosen a b ≡ a
+chosen_first a None e = refl
+chosen_first a (Some d) e = cc
+
+pub chosen_second : (a b : Option Data) → is_some b ≡ true → chosen a b ≡ b
+chosen_second a None e = cc
+chosen_second a (Some d) e = refl
+
+pub first_alone : (a b : Option Data) → is_some b ≡ false → is_one_there a b ≡ true
+first_alone a None e = refl
+first_alone a (Some d) e = cc
+
+pub second_alone : (a b : Option Data) → is_some a ≡ false → is_one_there a b ≡ true
+second_alone None None e = refl
+second_alone None (Some d) e = refl
+second_alone (Some c) b e = cc
+
+pub both_there : (a b : Option Data) → is_some a ≡ true → is_some b ≡ true → is_one_there a b ≡ false
+both_there None b e h = cc
+both_there (Some c) None e h = cc
+both_there (Some c) (Some d) e h = refl
+
+-- ---- lists and maps, part by part
+
+-- the one list before the other
+abbrev pub joined : Items → Items → Items
+joined no_items es = es
+joined (item d ds) es = item d (joined ds es)
+
+pub joined_end : (ds : Items) → joined ds no_items ≡ ds
+joined_end no_items = refl
+joined_end (item d ds) = ap (item d) (joined_end ds)
+
+pub joined_more : (vs : List Value) (v : Value) (es : Items) → joined (items_view (vs ++ v ∷ [])) es ≡ joined (items_view vs) (item (view v) es)
+joined_more [] v es = refl
+joined_more (w ∷ vs) v es = ap (item (view w)) (joined_more vs v es)
+
+module _ (f : Data → Bool) (g : Data → Data) where
+  -- one item more
+  pub items_more : (all : Items) (before left made : List Value) (v w : Value) → before ≡ v ∷ left → (f (view v) ≡ true) × (view w ≡ g (view v))
+      → each_allowed f all ≡ each_allowed f (items_view before) → each_conformed g all ≡ joined (items_view made) (each_conformed g (items_view before))
+      → (each_allowed f all ≡ each_allowed f (items_view left)) × (each_conformed g all ≡ joined (items_view (made ++ w ∷ [])) (each_conformed g (items_view left)))
+  items_more all before left made v w cut h a m = (
+    a ∙ ap (λ vs. each_allowed f (items_view vs)) cut ∙ ap (λ b. b && each_allowed f (items_view left)) h.0,
+    m ∙ ap (λ vs. joined (items_view made) (each_conformed g (items_view vs))) cut
+        ∙ ap (λ d. joined (items_view made) (item d (each_conformed g (items_view left)))) (sym h.1) ∙ sym (joined_more made w (each_conformed g (items_view left))),
+  )
+
+  -- a refused item
+  pub item_refused : (all : Items) (before left : List Value) (v : Value) → before ≡ v ∷ left → f (view v) ≡ false → each_allowed f all ≡ each_allowed f (items_view before) → each_allowed f all ≡ false
+  item_refused all before left v cut e a = a ∙ ap (λ vs. each_allowed f (items_view vs)) cut ∙ ap (λ b. b && each_allowed f (items_view left)) e
+
+  -- no item more
+  pub items_all : (all : Items) (before made : List Value) → before ≡ [] → each_allowed f all ≡ each_allowed f (items_view before)
+      → each_conformed g all ≡ joined (items_view made) (each_conformed g (items_view before)) → (each_allowed f all ≡ true) × (items_view made ≡ each_conformed g all)
+  items_all all before made none a m = (
+    a ∙ ap (λ vs. each_allowed f (items_view vs)) none,
+    sym (m ∙ ap (λ vs. joined (items_view made) (each_conformed g (items_view vs))) none ∙ joined_end (items_view made)),
+  )
+
+pub none_left : (vs : List Value) → length vs ≡ 0 → vs ≡ []
+none_left [] e = refl
+none_left (v ∷ vs) e = absurd (omega arith)
+
+below_last : (first : Entry) (done : List Entry) (e : Entry) (more : List Entry) → AllByRecursion (λ y. string_cmp first.0 y ≡ Less) (keys_of (done ++ e ∷ more)) → string_cmp first.0 e.0 ≡ Less
+below_last first [] e more h = h.0
+below_last first (x ∷ done) e more h = below_last first done e more h.1
+
+-- a name that is above those before it goes last
+pub put_last : (f : Data → Data) (done : List Entry) (e : Entry) (more : List Entry) → IsStrictlySortedBy string_cmp (keys_of (done ++ e ∷ more))
+    → put (string_bytes e.0) (f (view e.1)) (each_member_conformed f (members_view done)) ≡ each_member_conformed f (members_view (done ++ e ∷ []))
+unfolding IsStrictlySortedBy
+put_last f [] e more h = refl
+put_last f (first ∷ done) e more h =
+    let above : slice_cmp nat_cmp (string_bytes e.0) (string_bytes first.0) ≡ Greater =
+    nat_list_cmp_total.antisymm (string_bytes e.0) (string_bytes first.0) ∙ ap ordering_reverse (below_last first done e more h.0) in
+    rw above (ap (member (string_bytes first.0) (f (view first.1))) (put_last f done e more h.1))
+
+-- one member more is put last
+pub members_more : (g : Data → Data) (done left made more : List Entry) (e : Entry) (v : Value) → IsStrictlySortedBy string_cmp (keys_of (done ++ e ∷ left)) → view v ≡ g (view e.1)
+    → more ≡ insert_entry string_cmp made e.0 v → members_view made ≡ each_member_conformed g (members_view done) → members_view more ≡ each_member_conformed g (members_view (done ++ e ∷ []))
+members_more g done left made more e v sorted seen put_in h =
+    inserted made more e.0 v (string_bytes e.0) (g (view e.1)) put_in refl seen ∙ ap (put (string_bytes e.0) (g (view e.1))) h ∙ put_last g done e left sorted
+
+-- ---- kinds
+
+-- what is refused is not allowed
+pub not_allowed : (s : Shape) (d : Data) → IsRefused s d → allows s d ≡ false
+unfolding IsRefused
+not_allowed s d refused = here (allows s d) refl
+  where
+    here : (b : Bool) → allows s d ≡ b → b ≡ false
+    here true e = let m = meant s d e in absurd (refused m.0 m.1)
+    here false e = refl
+
+pub not_accepted : (d : Data) → IsRefused detail d → accepts detail d ≡ false
+not_accepted d refused = rw (not_allowed detail d refused) refl
+
+none_of : (a b : Bool) → b ≡ false → (a && b) ≡ false
+none_of true b e = e
+none_of false b e = refl
+
+-- what was read and written is the normal form, at the end of a call
+pub written_told : {E : Type 0} (r : Result Value E) (s : Shape) (d : Data) (p : Plain) → Means s d p → Writable s p → IfOk r (λ v. view v ≡ value s p)
+    → IfOk r (λ v. (accepts s d ≡ true) × (view v ≡ conformed s d))
+written_told (Ok v) s d p m w e = let t = told s d p m w in (t.0, e ∙ sym t.1)
+written_told (Err x) s d p m w e = tt
+
+-- a detail that is not writable
+pub not_kept : (d : Data) (p : Plain) → Means detail d p → ¬ Writable detail p → accepts detail d ≡ false
+not_kept d p m lost = none_of (allows detail d) _ (here (read (compact_text d)) refl)
+  where
+    is_text : read (text_of p) ≡ read (compact_text d)
+    is_text = ap (λ q. read (text_of q)) m.2
+
+    here : (o : Option Data) → read (compact_text d) ≡ o → is_kept o ≡ false
+    here None e = refl
+    here (Some c) e = told_by (has_float c) refl
+      where
+        told_by : (b : Bool) → has_float c ≡ b → not b ≡ false
+        told_by true h = refl
+        told_by false h = absurd (lost (c, is_text ∙ e, h))
+
+-- ---- records
+
+pub record_told : (s : Shape) (rs : Rows) (d c : Data) (ms made : Members) → s ≡ shape.rows rs → Some ms ≡ as_object d
+    → (rows_accept rs (object ms) ≡ true) × (made ≡ conformed_rows rs (object ms) no_members) → c ≡ object made → (accepts s d ≡ true) × (c ≡ conformed s d)
+record_told s rs d c ms made is there h e =
+    let seen : d ≡ object ms = object_kept d ms (sym there) in
+    rw (is, seen) (h.0, e ∙ ap object h.1)
+
+pub record_refused : (s : Shape) (rs : Rows) (d : Data) (ms : Members) → s ≡ shape.rows rs → Some ms ≡ as_object d → rows_accept rs (object ms) ≡ false → accepts s d ≡ false
+record_refused s rs d ms is there h =
+    let seen : d ≡ object ms = object_kept d ms (sym there) in
+    rw (is, seen) h

@@ -1,0 +1,2 @@
+pub mod Conformed
+pub mod Normal

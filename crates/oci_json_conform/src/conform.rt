@@ -1,0 +1,226 @@
+//! The normal form of a value.
+ghost use Rattle.std.specs.Prelude.{◌≡◌, ◌⊎◌, true, false, map, option_map, is_some, IfOk, IfErr, OnOk, IsTrue, bytes_eq};
+ghost use Rattle.serde_json.specs.Data.{object, no_members};
+ghost use Rattle.serde_json.specs.Find.{get_member};
+ghost use Rattle.serde_json.specs.View.{view, items_view, members_view};
+ghost use Rattle.oci_text_base.specs.Names.{no_text_twice, is_listed};
+ghost use Rattle.oci_text_base.specs.Refused.{IsSchema, IsMemoryOrSchema};
+ghost use Rattle.oci_json_schema.specs.Plain.{Plain};
+ghost use Rattle.oci_json_schema.specs.Means.{Means, get_second};
+ghost use Rattle.oci_json_schema.specs.Shape.{names};
+ghost use Rattle.oci_json_schema.specs.Value.{value as json_of, with_member};
+ghost use Rattle.oci_json_schema.specs.WellFormed.{WellFormed, AreWellFormed, MemberIsWellFormed};
+ghost use Rattle.oci_json_schema.specs.Writable.{Writable};
+ghost use Rattle.oci_json_form.specs.Allows.{each_allowed, each_member_allowed, member_allowed};
+ghost use Rattle.oci_json_conform.specs.Conformed.{IsSound, IsNotConformed, accepts, rows_accept, row_accepts, conformed, each_conformed, each_member_conformed, conformed_member, conformed_rows, row_conformed, chosen, is_one_of, is_one_there};
+ghost use Rattle.oci_json_form.specs.Tables.{shape_of, presence_of, name_of, rows_of};
+
+use crate::absent::conform_absent;
+use oci_json_form::{Form, Presence, Row};
+use crate::kept::is_normal;
+use crate::normal::{conform_leaf, unless_no_items};
+use oci_json_schema::fault::refused;
+use oci_json_schema::owned::{into_items, into_members};
+use oci_text_base::Result;
+use serde_json::{Map, Value};
+use std::alloc::Global;
+
+/// The value that is written for the document which the value means; `SerDe(Schema)` where it means none, or one that is
+/// not writable. No document is made, texts are moved and not copied, and a part that is known to be its own normal form is
+/// answered as it is. The value is consumed also where it is refused, and the refusal names no place.
+pub fn conform(form: &Form, value: Value, alloc: Global) -> Result<Value>
+    requires { WellFormed (shape_of form.now) }
+    ensures ok { IfOk result (λ v. (p : Plain) × Means (shape_of form.now) (view value) p × Writable (shape_of form.now) p × (view v ≡ json_of (shape_of form.now) p)) }
+    ensures err { IfErr result (λ e. IsSchema e → IsNotConformed (shape_of form.now) (view value)) }
+    ensures kind { IfErr result IsMemoryOrSchema }
+{
+    conform_value(form, value, alloc)
+}
+
+/// The same, as a computation.
+#[cycle(conforms)]
+fn conform_value(form: &Form, value: Value, alloc: Global) -> Result<Value>
+    requires { IsSound (shape_of form.now) }
+    ensures ok { IfOk result (λ v. (accepts (shape_of form.now) (view value) ≡ true) × (view v ≡ conformed (shape_of form.now) (view value))) }
+    ensures err { IfErr result (λ e. IsSchema e → accepts (shape_of form.now) (view value) ≡ false) }
+    ensures kind { IfErr result IsMemoryOrSchema }
+{
+    if is_normal(form, &value) {
+        return Ok(value);
+    }
+    match form {
+        Form::Leaf(leaf) => conform_leaf(leaf, value, alloc),
+        Form::List(inner) => match into_items(value) {
+            Some(items) => Ok(Value::Array(conform_items(inner, items, alloc)?)),
+            None => Err(refused("", "")),
+        },
+        Form::Map(inner) => match into_members(value) {
+            Some(members) => Ok(Value::Object(conform_members(inner, members, alloc)?)),
+            None => Err(refused("", "")),
+        },
+        Form::Record(rows) => match into_members(value) {
+            Some(members) => Ok(Value::Object(conform_rows(rows, members, alloc)?)),
+            None => Err(refused("", "")),
+        },
+    }
+}
+
+#[cycle(conforms)]
+fn conform_items(form: &Form, items: Vec<Value>, alloc: Global) -> Result<Vec<Value>>
+    requires { IsSound (shape_of form.now) }
+    ensures ok { IfOk result (λ v. (each_allowed (accepts (shape_of form.now)) (items_view items.items) ≡ true)
+        × (items_view v.items ≡ each_conformed (conformed (shape_of form.now)) (items_view items.items))) }
+    ensures err { IfErr result (λ e. IsSchema e → each_allowed (accepts (shape_of form.now)) (items_view items.items) ≡ false) }
+    ensures kind { IfErr result IsMemoryOrSchema }
+{
+    let mut made = Vec::with_capacity(alloc, items.len())?;
+    for item in items {
+        made.push(conform_value(form, item, alloc)?)?;
+    }
+    Ok(made)
+}
+
+#[cycle(conforms)]
+fn conform_members(
+    form: &Form,
+    members: Map<String, Value>,
+    alloc: Global,
+) -> Result<Map<String, Value>>
+    requires { IsSound (shape_of form.now) }
+    ensures ok { IfOk result (λ m. (each_member_allowed (accepts (shape_of form.now)) (members_view members.entries) ≡ true)
+        × (members_view m.entries ≡ each_member_conformed (conformed (shape_of form.now)) (members_view members.entries))) }
+    ensures err { IfErr result (λ e. IsSchema e → each_member_allowed (accepts (shape_of form.now)) (members_view members.entries) ≡ false) }
+    ensures kind { IfErr result IsMemoryOrSchema }
+{
+    let mut made = Map::new(alloc);
+    for (name, member) in members {
+        let member = conform_value(form, member, alloc)?;
+        drop(made.insert(name, member)?);
+    }
+    Ok(made)
+}
+
+#[cycle(conforms)]
+fn conform_rows(
+    rows: &[Row],
+    mut members: Map<String, Value>,
+    alloc: Global,
+) -> Result<Map<String, Value>>
+    requires distinct { IsTrue (no_text_twice (names (rows_of rows.now))) }
+    requires well { AreWellFormed (rows_of rows.now) }
+    ensures ok { IfOk result (λ m. (rows_accept (rows_of rows.now) (object (members_view members.entries)) ≡ true)
+        × (members_view m.entries ≡ conformed_rows (rows_of rows.now) (object (members_view members.entries)) no_members)) }
+    ensures err { IfErr result (λ e. IsSchema e → rows_accept (rows_of rows.now) (object (members_view members.entries)) ≡ false) }
+    ensures kind { IfErr result IsMemoryOrSchema }
+{
+    let mut made = Map::new(alloc);
+    for row in rows {
+        conform_row(row, &mut members, &mut made, alloc)?;
+    }
+    Ok(made)
+}
+
+/// Moves what a row lists from the one object to the other.
+#[cycle(conforms)]
+fn conform_row(
+    row: &Row,
+    members: &mut Map<String, Value>,
+    made: &mut Map<String, Value>,
+    alloc: Global,
+) -> Result<()>
+    requires { MemberIsWellFormed (presence_of row.now.presence) (shape_of row.now.form.now) (WellFormed (shape_of row.now.form.now)) }
+    ensures ok { OnOk result (members_view made.new.entries ≡ with_member row.now.name.now (row_conformed row.now (object (members_view members.old.entries))) (members_view made.old.entries)) }
+    ensures accepts { OnOk result (row_accepts row.now (object (members_view members.old.entries)) ≡ true) }
+    ensures others { (q : _) → is_one_of q row.now.name.now (name_of row.now.second) ≡ false → get_member q (members_view members.new.entries) ≡ get_member q (members_view members.old.entries) }
+    ensures err { IfErr result (λ e. IsSchema e → row_accepts row.now (object (members_view members.old.entries)) ≡ false) }
+    ensures kind { IfErr result IsMemoryOrSchema }
+{
+    let found = take_row(row, members)?;
+    match conform_found(row.form, &row.presence, found, alloc)? {
+        Some(member) => {
+            let name = String::from_str(alloc, row.name)?;
+            drop(made.insert(name, member)?);
+            Ok(())
+        }
+        None => Ok(()),
+    }
+}
+
+/// Takes what stands under a row's names; refused where something stands under both.
+fn take_row(row: &Row, members: &mut Map<String, Value>) -> Result<Option<Value>>
+    ensures ok { IfOk result (λ o. option_map view o ≡ chosen (get_member row.now.name.now (members_view members.old.entries)) (get_second (name_of row.now.second) (object (members_view members.old.entries)))) }
+    ensures one { OnOk result (is_one_there (get_member row.now.name.now (members_view members.old.entries)) (get_second (name_of row.now.second) (object (members_view members.old.entries))) ≡ true) }
+    ensures err { IfErr result (λ e. is_one_there (get_member row.now.name.now (members_view members.old.entries)) (get_second (name_of row.now.second) (object (members_view members.old.entries))) ≡ false) }
+    ensures others { (q : _) → is_one_of q row.now.name.now (name_of row.now.second) ≡ false → get_member q (members_view members.new.entries) ≡ get_member q (members_view members.old.entries) }
+    ensures kind { IfErr result IsMemoryOrSchema }
+{
+    match row.second {
+        None => Ok(take_member(members, row.name)),
+        Some(second) => {
+            if !has_member(members, second) {
+                Ok(take_member(members, row.name))
+            } else if has_member(members, row.name) {
+                Err(refused("", ""))
+            } else {
+                Ok(take_member(members, second))
+            }
+        }
+    }
+}
+
+/// Whether something stands under a name.
+pub fn has_member(members: &Map<String, Value>, name: &str) -> bool
+    ensures { result ≡ is_some (get_member name.now (members_view members.now.entries)) }
+{
+    members.contains_key(name)
+}
+
+/// Takes what stands under a name.
+fn take_member(members: &mut Map<String, Value>, name: &str) -> Option<Value>
+    ensures found { option_map view result ≡ get_member name.now (members_view members.old.entries) }
+    ensures others { (q : _) → bytes_eq q name.now ≡ false → get_member q (members_view members.new.entries) ≡ get_member q (members_view members.old.entries) }
+{
+    members.remove(name)
+}
+
+/// The normal form of a member, if it is written.
+#[cycle(conforms)]
+fn conform_found(
+    form: &Form,
+    presence: &Presence,
+    found: Option<Value>,
+    alloc: Global,
+) -> Result<Option<Value>>
+    requires { MemberIsWellFormed (presence_of presence.now) (shape_of form.now) (WellFormed (shape_of form.now)) }
+    ensures ok { IfOk result (λ o. (member_allowed (presence_of presence.now) (accepts (shape_of form.now)) (option_map view found) ≡ true)
+        × (option_map view o ≡ conformed_member (presence_of presence.now) (json_of (shape_of form.now)) (conformed (shape_of form.now)) (option_map view found))) }
+    ensures err { IfErr result (λ e. IsSchema e → member_allowed (presence_of presence.now) (accepts (shape_of form.now)) (option_map view found) ≡ false) }
+    ensures kind { IfErr result IsMemoryOrSchema }
+{
+    let Some(value) = found else {
+        return conform_absent(form, presence, alloc);
+    };
+    match presence {
+        Presence::Required | Presence::Defaulted(_) | Presence::DefaultedRecord(_) => {
+            Ok(Some(conform_value(form, value, alloc)?))
+        }
+        Presence::Optional => {
+            if value.is_null() {
+                return Ok(None);
+            }
+            Ok(Some(conform_value(form, value, alloc)?))
+        }
+        Presence::Nullable => {
+            if value.is_null() {
+                return Ok(Some(Value::Null));
+            }
+            Ok(Some(conform_value(form, value, alloc)?))
+        }
+        Presence::UnlessEmpty => {
+            if value.is_null() {
+                return Ok(None);
+            }
+            Ok(unless_no_items(conform_value(form, value, alloc)?))
+        }
+    }
+}
