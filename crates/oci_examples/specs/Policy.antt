@@ -1,6 +1,7 @@
 -- What a policy asks of a container's specification (runtime specification, "Linux Process", `capabilities`; "Linux Container Configuration", "Namespaces").
-use Rattle.std.specs.Prelude.{◌≡◌, ◌⊎◌, Option, IsSomeAnd, IsTrue}
+use Rattle.std.specs.Prelude.{ℕ, List, [], map, ◌≡◌, ◌⊎◌, ◌↔◌, false, Option, Some, None, String, Vec, IsSomeAnd, IsTrue}
 use Rattle.std.specs.List.{Any}
+use Rattle.std.specs.String.{string_bytes}
 use Rattle.std.specs.HashSet.{HashSet, contains}
 use Rattle.oci_spec.specs.CapabilitySets.{capability_eq}
 use Rattle.oci_spec.specs.declared.runtime.Capability.{Capability}
@@ -13,9 +14,17 @@ module _ {S : Type 0} where
   abbrev pub IsIn : Capability → Option (HashSet Capability S) → Type 0
   IsIn c set = IsSomeAnd set (λ s. IsTrue (contains capability_eq s c))
 
+  -- each capability but this one is in the second set exactly if it is in the first
+  unfoldable pub HasOthers : Capability → Option (HashSet Capability S) → Option (HashSet Capability S) → Type 0
+  HasOthers dropped set kept = (c : Capability) → capability_eq dropped c ≡ false → IsIn c kept ↔ IsIn c set
+
 -- one of the five sets has it
 abbrev pub HasCapability : LinuxCapabilities → Capability → Type 0
 HasCapability x c = IsIn c x.bounding ⊎ IsIn c x.effective ⊎ IsIn c x.inheritable ⊎ IsIn c x.permitted ⊎ IsIn c x.ambient
+
+-- each of the five sets has the others of the same set before
+abbrev pub HaveOthers : Capability → LinuxCapabilities → LinuxCapabilities → Type 0
+HaveOthers dropped x y = HasOthers dropped x.bounding y.bounding × HasOthers dropped x.effective y.effective × HasOthers dropped x.inheritable y.inheritable × HasOthers dropped x.permitted y.permitted × HasOthers dropped x.ambient y.ambient
 
 -- the container's process has it in one of its sets
 abbrev pub MayUse : Spec → Capability → Type 0
@@ -28,3 +37,8 @@ HasNamespace x kind = IsSomeAnd x.linux (λ l. IsSomeAnd l.namespaces (λ ns. An
 -- none is, so the container stays in that of its host
 abbrev pub SharesWithHost : Spec → LinuxNamespaceType → Type 0
 SharesWithHost x kind = ¬ HasNamespace x kind
+
+-- the texts of a list, none where there is no list
+abbrev pub texts : {Y Z : Type 0} → Option (Vec (String Y) Z) → List (List ℕ)
+texts None = []
+texts (Some ts) = map string_bytes ts.items

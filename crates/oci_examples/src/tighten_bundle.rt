@@ -1,7 +1,7 @@
 //! What a runtime does with a bundle before it starts a container: it loads the specification, has the root's path made
 //! canonical, takes away a capability, masks a path, makes the root read-only, and saves the specification.
-ghost use Rattle.std.specs.Prelude.{IfOk, OnOk};
-ghost use Rattle.oci_examples.specs.Policy.{HasCapability, IsIn};
+ghost use Rattle.std.specs.Prelude.{◌≡◌, ◌++◌, [], ◌∷◌, IfOk, OnErr, OnOk, is_some};
+ghost use Rattle.oci_examples.specs.Policy.{HasCapability, HasOthers, HaveOthers, IsIn, texts};
 
 use anyhow::Context;
 use oci_json::to_string_pretty;
@@ -10,9 +10,12 @@ use oci_spec::{OciSpecError, Result};
 use std::alloc::Global;
 use std::rt::Files;
 
-/// A set without a capability.
+/// A set without a capability, where there is a set.
+#[tactic(auto, unfolding(crate::specs::Policy::HasOthers))]
 fn without(set: &Option<Capabilities>, dropped: Capability) -> Result<Option<Capabilities>>
-    ensures { IfOk result (λ kept. ¬ IsIn dropped kept) }
+    ensures gone { IfOk result (λ kept. ¬ IsIn dropped kept) }
+    ensures others { IfOk result (λ kept. HasOthers dropped set.now kept) }
+    ensures there { IfOk result (λ kept. is_some kept ≡ is_some set.now) }
 {
     let Some(set) = set else {
         return Ok(None);
@@ -24,7 +27,8 @@ fn without(set: &Option<Capabilities>, dropped: Capability) -> Result<Option<Cap
 
 /// Takes a capability out of all five sets.
 fn drop_capability(sets: &mut LinuxCapabilities, dropped: Capability) -> Result<()>
-    ensures { OnOk result (¬ HasCapability sets.new dropped) }
+    ensures gone { OnOk result (¬ HasCapability sets.new dropped) }
+    ensures others { OnOk result (HaveOthers dropped sets.old sets.new) }
 {
     let bounding = without(sets.bounding(), dropped)?;
     let effective = without(sets.effective(), dropped)?;
@@ -40,7 +44,12 @@ fn drop_capability(sets: &mut LinuxCapabilities, dropped: Capability) -> Result<
 }
 
 /// Adds a path to those that the container cannot read.
-fn mask(linux: &mut Linux, alloc: Global, path: &str) -> Result<()> {
+#[tactic(auto, using(std::proofs::lemmas::List::map_push))]
+fn mask(linux: &mut Linux, alloc: Global, path: &str) -> Result<()>
+    ensures masked { OnOk result (texts linux.new.masked_paths ≡ texts linux.old.masked_paths ++ path.now ∷ []) }
+    ensures refused { OnErr result (texts linux.new.masked_paths ≡ texts linux.old.masked_paths) }
+    ensures others { linux.new ≡ record linux.old { masked_paths = linux.new.masked_paths } }
+{
     let path = String::from_str(alloc, path)?;
     let masked = linux.masked_paths_mut().get_or_insert(Vec::new(alloc));
     masked.push(path)?;

@@ -1,15 +1,10 @@
-//! Each call that takes memory: answered as ever, or with `Memory`.
+//! Each call on a document and each command that takes memory: answered as ever, or with `Memory`.
 
 mod commands;
 mod documents;
-mod files;
 mod images;
-mod made;
-mod roots;
-mod texts;
 
-use crate::desk::Desk;
-use crate::frame::{GaveUp, Sample};
+use oci_desk::{Desk, GaveUp, Sample};
 use std::fs;
 
 /// All groups of this half.
@@ -24,10 +19,6 @@ pub fn run(desk: &mut Desk<'_>) -> Result<(), GaveUp> {
         }
     }
     commands::texts(desk)?;
-    texts::all(desk);
-    made::all(desk);
-    roots::all(desk);
-    files::all(desk)?;
     desk.end_calls();
     Ok(())
 }

@@ -4,10 +4,8 @@ mod bytes;
 mod commands;
 mod edges;
 mod faults;
-pub mod references;
 
-use crate::desk::Desk;
-use crate::frame::{GaveUp, Sample, words};
+use oci_desk::{Desk, GaveUp, Sample, words};
 use std::fs;
 
 /// All groups of this half.
@@ -26,8 +24,6 @@ pub fn run(desk: &mut Desk<'_>) -> Result<(), GaveUp> {
         let normal = words(desk.rt.alloc(), &["norm", sample.kind])?;
         faults::all(desk, &sample, normal.as_slice());
     }
-    references::prefixes(desk)?;
-    references::insertions(desk)?;
     edges::nesting(desk)?;
     edges::none(desk);
     edges::lines(desk);

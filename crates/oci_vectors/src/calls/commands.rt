@@ -1,15 +1,14 @@
 //! The commands of the program.
 
-use crate::desk::Desk;
-use crate::frame::{GaveUp, Sample, words};
-use crate::streams::{Input, Manner};
+use crate::command::status;
+use oci_desk::{Desk, GaveUp, Input, Manner, Sample, words};
 
 /// A command is done and writes this, or tells `Memory` and writes nothing.
 fn command(desk: &mut Desk<'_>, given: &[&str], input: &str, expected: &str) -> Result<(), GaveUp> {
     let is_pretty = given.first() == Some(&"pretty");
     let words = words(desk.rt.alloc(), given)?;
     let mut input = Input::new(input.as_bytes(), Manner::AMPLE);
-    let status = desk.status(words.as_slice(), &mut input, Manner::AMPLE);
+    let status = status(desk, words.as_slice(), &mut input, Manner::AMPLE);
     let kept = match status {
         0 => desk.has_done(expected, is_pretty),
         1 => desk.has_no_memory(),

@@ -1,7 +1,6 @@
 //! The calls that every document has.
 
-use crate::desk::Desk;
-use crate::frame::Sample;
+use oci_desk::{Desk, Sample};
 use oci_doc_run::Kind;
 use oci_json_engines::{from_slice, to_string, to_string_pretty};
 use oci_json_schema::OciRecord;

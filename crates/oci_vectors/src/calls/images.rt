@@ -1,8 +1,6 @@
 //! The reading and writing calls that image documents have of their own.
 
-use crate::desk::Desk;
-use crate::frame::Sample;
-use crate::streams::{Input, Manner, Output};
+use oci_desk::{Desk, Input, Manner, Output, Sample};
 use oci_doc_run::Kind;
 use oci_json_engines::write_text;
 use oci_spec::image::{ArtifactManifest, ImageConfiguration, ImageIndex, ImageManifest, OciLayout};

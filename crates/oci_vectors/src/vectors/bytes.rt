@@ -1,15 +1,14 @@
 //! A document's text, cut at each byte, and with each byte replaced.
 
-use crate::desk::Desk;
-use crate::frame::Sample;
-use crate::streams::{Input, Manner};
+use crate::command::{gives_itself, status};
+use oci_desk::{Desk, Input, Manner, Sample};
 
 /// Each beginning of a document that is not all of it is no JSON.
 pub fn prefixes(desk: &mut Desk<'_>, sample: &Sample<'_>, words: &[String]) {
     let text = sample.text.as_bytes();
     for count in 0..text.len() {
         let mut input = Input::new(&text[..count], Manner::AMPLE);
-        let status = desk.status(words, &mut input, Manner::AMPLE);
+        let status = status(desk, words, &mut input, Manner::AMPLE);
         let kept = status == 1 && desk.has_told("refused: Json\n");
         desk.count("prefix", count, kept);
     }
@@ -32,7 +31,7 @@ pub fn replaced(desk: &mut Desk<'_>, sample: &Sample<'_>, words: &[String]) {
     for place in 0..text.len() {
         for (byte, is_no_json) in &REPLACEMENTS {
             let mut input = Input::replaced(&text[..place], byte, &text[place + 1..]);
-            let status = desk.status(words, &mut input, Manner::AMPLE);
+            let status = status(desk, words, &mut input, Manner::AMPLE);
             let kept = if *is_no_json {
                 status == 1 && desk.has_told("refused: Json\n")
             } else {
@@ -46,7 +45,7 @@ pub fn replaced(desk: &mut Desk<'_>, sample: &Sample<'_>, words: &[String]) {
 
 fn ends_well(desk: &mut Desk<'_>, words: &[String], status: u8) -> bool {
     match status {
-        0 => desk.errors.is_untouched() && desk.gives_itself(words),
+        0 => desk.errors.is_untouched() && gives_itself(desk, words),
         1 => desk.has_told("refused: Json\n") || desk.has_told("refused: Schema\n"),
         _ => false,
     }

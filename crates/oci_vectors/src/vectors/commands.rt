@@ -5,9 +5,8 @@
 //! - `>`: a line that is written, and `=` one that is written without a line feed;
 //! - `!`: a line that is told. The status is 0 where there is none, 2 where it is the line of usage, and else 1.
 
-use crate::desk::Desk;
-use crate::frame::GaveUp;
-use crate::streams::{Input, Manner};
+use crate::command;
+use oci_desk::{Desk, GaveUp, Input, Manner};
 use std::alloc::Global;
 use std::fs;
 
@@ -53,7 +52,7 @@ fn status(told: &str) -> u8 {
 }
 
 /// A command answers as its row says.
-fn command(desk: &mut Desk<'_>, row: &str) -> Result<(), GaveUp> {
+fn answers(desk: &mut Desk<'_>, row: &str) -> Result<(), GaveUp> {
     let alloc = desk.rt.alloc();
     let Some(line) = marked(row, "$ ") else {
         return Err(GaveUp);
@@ -64,7 +63,7 @@ fn command(desk: &mut Desk<'_>, row: &str) -> Result<(), GaveUp> {
     let told = all_marked(alloc, row, "! ", "\n")?;
     let given = marked(row, "< ");
     let mut input = Input::new(given.unwrap_or("{}").as_bytes(), Manner::AMPLE);
-    let found = desk.status(words.as_slice(), &mut input, Manner::AMPLE);
+    let found = command::status(desk, words.as_slice(), &mut input, Manner::AMPLE);
     let kept = found == status(told.as_str())
         && given.is_some() == (input.reads > 0)
         && desk.has_answered(written.as_bytes(), told.as_str());
@@ -76,7 +75,7 @@ fn command(desk: &mut Desk<'_>, row: &str) -> Result<(), GaveUp> {
 pub fn all(desk: &mut Desk<'_>) -> Result<(), GaveUp> {
     let rows = fs::read_to_string(desk.rt, "commands.rows")?;
     for row in rows.as_str().split("\n\n") {
-        command(desk, row)?;
+        answers(desk, row)?;
     }
     desk.end("commands", "rows");
     Ok(())

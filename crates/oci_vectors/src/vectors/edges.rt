@@ -1,8 +1,7 @@
 //! Words that ask for nothing, and documents that nest deep.
 
-use crate::desk::Desk;
-use crate::frame::{GaveUp, words};
-use crate::streams::{Input, Manner};
+use crate::command::status;
+use oci_desk::{Desk, GaveUp, Input, Manner, words};
 use oci_doc_run::Refusal;
 use std::alloc::{AllocError, Global};
 use std::io::ErrorKind;
@@ -27,7 +26,7 @@ pub fn nesting(desk: &mut Desk<'_>) -> Result<(), GaveUp> {
     for depth in [126, 127] {
         let text = nested(alloc, depth)?;
         let mut input = Input::new(text.as_bytes(), Manner::AMPLE);
-        let status = desk.status(words.as_slice(), &mut input, Manner::AMPLE);
+        let status = status(desk, words.as_slice(), &mut input, Manner::AMPLE);
         let kept = match depth {
             126 => status == 0 && desk.has_written(b"{\"imageLayoutVersion\":\"1\"}"),
             _ => status == 1 && desk.has_told("refused: Json\n"),
@@ -49,7 +48,7 @@ pub fn none(desk: &mut Desk<'_>) {
             ..Manner::AMPLE
         };
         let mut input = Input::new(b"{}", manner);
-        let status = desk.status(&[], &mut input, manner);
+        let status = status(desk, &[], &mut input, manner);
         let kept = status == 2 && input.reads == 0 && desk.has_told(told);
         desk.count("no words", 0, kept);
     }

@@ -1,8 +1,7 @@
 //! A document over streams that give and take little, or fail.
 
-use crate::desk::Desk;
-use crate::frame::Sample;
-use crate::streams::{Input, Manner};
+use crate::command;
+use oci_desk::{Desk, Input, Manner, Sample};
 use std::io::ErrorKind;
 
 /// Bytes that a reader gives at most before it fails.
@@ -30,7 +29,12 @@ pub fn all(desk: &mut Desk<'_>, sample: &Sample<'_>, words: &[String]) {
 }
 
 fn status(desk: &mut Desk<'_>, words: &[String], text: &str, manner: Manner) -> u8 {
-    desk.status(words, &mut Input::new(text.as_bytes(), manner), manner)
+    command::status(
+        desk,
+        words,
+        &mut Input::new(text.as_bytes(), manner),
+        manner,
+    )
 }
 
 /// The same text is written, however little is given and taken at once.

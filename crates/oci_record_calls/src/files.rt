@@ -1,7 +1,6 @@
 //! The calls on files: a file is as before where memory is refused or a document is not writable.
 
-use crate::desk::Desk;
-use crate::frame::GaveUp;
+use oci_desk::{Desk, GaveUp};
 use oci_json_engines::{from_file, to_file, to_file_pretty, to_string};
 use oci_spec::distribution::{ErrorCode, ErrorInfoBuilder, ErrorResponse, ErrorResponseBuilder};
 use oci_spec::runtime::{ExecCPUAffinity, Spec, State};

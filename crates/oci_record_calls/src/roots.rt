@@ -1,6 +1,6 @@
 //! The calls on whole specifications: those without privileges, the default lists, versions, and a root that is made canonical.
 
-use crate::desk::Desk;
+use oci_desk::Desk;
 use oci_spec::runtime::{
     Linux, LinuxDevice, Spec, cgroup_of, get_default_maskedpaths, get_default_mounts,
     get_default_namespaces, get_default_readonly_paths, get_rootless_mounts,

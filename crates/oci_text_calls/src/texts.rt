@@ -1,11 +1,11 @@
 //! The calls on texts: digests, open names and references.
 
-use crate::desk::{Answer, Desk};
-use crate::vectors::references::is_answered;
-use oci_spec::distribution::{ParseError, Reference};
-use oci_spec::image::{Arch, Digest, DigestAlgorithm, MediaType, Os, Sha256Digest};
-use oci_spec::runtime::{LinuxNamespaceType, ZOSNamespaceType};
-use oci_spec::{OciSpecError, Result};
+use crate::references::is_answered;
+use oci_desk::{Answer, Desk};
+use oci_linux_names::LinuxNamespaceType;
+use oci_reference::{ParseError, Reference};
+use oci_text::{Arch, Digest, DigestAlgorithm, MediaType, Os, Sha256Digest};
+use oci_text_base::{OciSpecError, Result};
 use std::alloc::Global;
 use std::io;
 use std::io::ErrorKind;
@@ -24,7 +24,6 @@ enum Call {
     System,
     Architecture,
     Namespace,
-    NamespaceOfZos,
     Reference,
     OwnedReference,
     ReferenceCopy,
@@ -36,7 +35,7 @@ enum Call {
 const DIGITS: &str = "b5b2b2c507a0944348e0303114d8d93aaaa081732b86451d9bce1f432a537bc7";
 
 /// A call, its text, and the text that is taken again or told.
-static CALLS: [(Call, &str, Answer<'_>); 31] = [
+static CALLS: [(Call, &str, Answer<'_>); 30] = [
     (Call::Digest, "foo:bar", Ok("foo:bar")),
     (Call::Digest, "blah+", Err("missing ':' in digest")),
     (Call::Digest, ":", Err("Empty algorithm component")),
@@ -90,11 +89,6 @@ static CALLS: [(Call, &str, Answer<'_>); 31] = [
         Err("unknown namespace x, could not convert"),
     ),
     (
-        Call::NamespaceOfZos,
-        "x",
-        Err("unknown z/OS namespace x, could not convert"),
-    ),
-    (
         Call::Reference,
         "busybox",
         Ok("docker.io/library/busybox:latest"),
@@ -122,20 +116,29 @@ fn copied(alloc: Global, text: &str) -> Result<String> {
     Ok(String::from_str(alloc, text)?)
 }
 
+fn digest(alloc: Global, call: Call, text: &str) -> Result<Digest> {
+    match call {
+        Call::OwnedDigest => Digest::try_from(copied(alloc, text)?),
+        Call::DigestCopy => Digest::from_str(alloc, text)?.clone(),
+        Call::IntoDigest => Sha256Digest::from_str(alloc, text)?.into_digest(),
+        _ => Digest::from_str(alloc, text),
+    }
+}
+
+fn sha256(alloc: Global, call: Call, text: &str) -> Result<Sha256Digest> {
+    let digest = Sha256Digest::from_str(alloc, text)?;
+    match call {
+        Call::Sha256Copy => digest.clone(),
+        _ => Ok(digest),
+    }
+}
+
 fn of_digest(alloc: Global, call: Call, text: &str) -> Result<String> {
     match call {
-        Call::Digest => copied(alloc, Digest::from_str(alloc, text)?.as_ref()),
-        Call::OwnedDigest => copied(alloc, Digest::try_from(copied(alloc, text)?)?.as_ref()),
-        Call::DigestCopy => copied(alloc, Digest::from_str(alloc, text)?.clone()?.as_ref()),
-        Call::Sha256 => copied(alloc, Sha256Digest::from_str(alloc, text)?.as_ref()),
-        Call::Sha256Copy => copied(
-            alloc,
-            Sha256Digest::from_str(alloc, text)?.clone()?.as_ref(),
-        ),
-        Call::IntoDigest => {
-            let digest = Sha256Digest::from_str(alloc, text)?.into_digest()?;
-            copied(alloc, digest.as_ref())
+        Call::Digest | Call::OwnedDigest | Call::DigestCopy | Call::IntoDigest => {
+            copied(alloc, digest(alloc, call, text)?.as_ref())
         }
+        Call::Sha256 | Call::Sha256Copy => copied(alloc, sha256(alloc, call, text)?.as_ref()),
         _ => of_name(alloc, call, text),
     }
 }
@@ -152,7 +155,6 @@ fn of_name(alloc: Global, call: Call, text: &str) -> Result<String> {
         Call::System => copied(alloc, Os::from_text(alloc, text)?.clone(alloc)?.as_ref()),
         Call::Architecture => copied(alloc, Arch::from_text(alloc, text)?.clone(alloc)?.as_ref()),
         Call::Namespace => Ok(LinuxNamespaceType::try_from(alloc, text)?.to_string(alloc)?),
-        Call::NamespaceOfZos => Ok(ZOSNamespaceType::try_from(alloc, text)?.to_string(alloc)?),
         _ => of_reference(alloc, call, text),
     }
 }
@@ -232,4 +234,5 @@ pub fn all(desk: &mut Desk<'_>) {
         desk.count(text, 0, kept);
     }
     desk.end("references", "refused");
+    desk.end_calls();
 }

@@ -1,8 +1,9 @@
-//! What the program needs for itself: its inputs, and words to ask with. A call of the library never answers here, so a run that
+//! What a program needs for itself: its inputs, and words to ask with. A call of the library never answers here, so a run that
 //! gives up tells that the program's own part was refused memory or a file, and no more.
 
 use std::alloc::{AllocError, AllocFailed, Global};
-use std::io;
+use std::process::ExitCode;
+use std::{env, io};
 
 /// The program's own part was refused. No error of the library is converted into this one.
 #[derive(Debug, Drop)]
@@ -61,4 +62,23 @@ pub fn words(alloc: Global, given: &[&str]) -> Result<Vec<String>, GaveUp> {
         words.push(String::from_str(alloc, word)?)?;
     }
     Ok(words)
+}
+
+/// Whether the first word behind the program's own name asks for this half; with no word each is asked for.
+pub fn asks_for(rt: &HostRuntime, half: &str) -> Result<bool, GaveUp> {
+    match env::args(rt)?.nth(1) {
+        Some(word) => Ok(word.as_str() == half),
+        None => Ok(true),
+    }
+}
+
+/// The status of a program that did its work, or gave up and tells so.
+pub fn exit(rt: &HostRuntime, done: Result<(), GaveUp>) -> ExitCode {
+    match done {
+        Ok(()) => ExitCode::SUCCESS,
+        Err(GaveUp) => {
+            let _ = eprintln!(rt; "gave up");
+            ExitCode::from(3)
+        }
+    }
 }

@@ -1,9 +1,8 @@
 //! Where the cases are run and counted.
 
 use crate::frame::GaveUp;
-use crate::streams::{Input, Manner, Output};
-use oci_doc_run::run;
-use oci_spec::{OciSpecError, Result};
+use crate::streams::Output;
+use oci_text_base::{OciSpecError, Result};
 
 /// Runs and counts the cases of one group after the other.
 #[derive(Drop)]
@@ -14,7 +13,8 @@ pub struct Desk<'a> {
     pub output: Output,
     /// What it told.
     pub errors: Output,
-    again: Output,
+    /// What a command wrote that was given this.
+    pub again: Output,
     cases: u64,
     memory: u64,
 }
@@ -30,34 +30,6 @@ impl<'a> Desk<'a> {
             cases: 0,
             memory: 0,
         })
-    }
-
-    /// The status of a command.
-    pub fn status(&mut self, words: &[String], input: &mut Input<'_>, manner: Manner) -> u8 {
-        self.output.begin(manner);
-        self.errors.begin_errors(manner);
-        run(
-            self.rt.alloc(),
-            words,
-            input,
-            &mut self.output,
-            &mut self.errors,
-        )
-    }
-
-    /// The command gives what the last one wrote, given that.
-    pub fn gives_itself(&mut self, words: &[String]) -> bool {
-        self.again.begin(Manner::AMPLE);
-        self.errors.begin(Manner::AMPLE);
-        let mut input = Input::new(self.output.taken(), Manner::AMPLE);
-        let status = run(
-            self.rt.alloc(),
-            words,
-            &mut input,
-            &mut self.again,
-            &mut self.errors,
-        );
-        status == 0 && self.again.is_done(self.output.taken())
     }
 
     /// The last command wrote this, and told nothing.

@@ -1,9 +1,8 @@
 //! A reference's text, cut and added to at each place.
 
-use crate::desk::Desk;
-use crate::frame::GaveUp;
-use oci_spec::distribution::{ParseError, Reference};
-use oci_spec::runtime::is_cpu_list;
+use oci_desk::{Desk, GaveUp};
+use oci_process_texts::is_cpu_list;
+use oci_reference::{ParseError, Reference};
 use std::alloc::{AllocError, Global};
 
 const WHOLE: &str =
@@ -32,7 +31,7 @@ pub fn is_answered(alloc: Global, text: &str, expected: Option<ParseError>) -> b
 }
 
 /// Each beginning of a reference, the empty one and the whole among them.
-pub fn prefixes(desk: &mut Desk<'_>) -> Result<(), GaveUp> {
+fn prefixes(desk: &mut Desk<'_>) -> Result<(), GaveUp> {
     let alloc = desk.rt.alloc();
     let mut text = String::new(alloc);
     let mut rest = WHOLE.chars();
@@ -69,7 +68,7 @@ fn inserted(alloc: Global, put: char, place: usize) -> Result<String, AllocError
 }
 
 /// A character that no reference has, at each place; one of them is a digit past ASCII, which no list of processors has.
-pub fn insertions(desk: &mut Desk<'_>) -> Result<(), GaveUp> {
+fn insertions(desk: &mut Desk<'_>) -> Result<(), GaveUp> {
     let alloc = desk.rt.alloc();
     for put in &PUT {
         for place in 0..=NAME.len() {
@@ -82,4 +81,10 @@ pub fn insertions(desk: &mut Desk<'_>) -> Result<(), GaveUp> {
     desk.count("list of processors", 0, !is_cpu_list("\u{663}"));
     desk.end("list of processors", "digits past ASCII");
     Ok(())
+}
+
+/// All groups of this half.
+pub fn all(desk: &mut Desk<'_>) -> Result<(), GaveUp> {
+    prefixes(desk)?;
+    insertions(desk)
 }

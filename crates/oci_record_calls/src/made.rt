@@ -1,6 +1,6 @@
 //! Records that are made in code: by default, and by their builders.
 
-use crate::desk::Desk;
+use oci_desk::Desk;
 use oci_spec::Result;
 use oci_spec::distribution::{
     ErrorCode, ErrorInfo, ErrorInfoBuilder, ErrorResponse, ErrorResponseBuilder, RepositoryList,
@@ -13,7 +13,7 @@ use oci_spec::image::{
 };
 use oci_spec::runtime::{
     ExecCPUAffinityBuilder, LinuxIdMapping, LinuxMemoryPolicy, LinuxMemoryPolicyBuilder,
-    MemoryPolicyModeType, MountBuilder,
+    MemoryPolicyModeType, MountBuilder, ZOSNamespaceType,
 };
 use std::alloc::Global;
 
@@ -264,7 +264,11 @@ fn mount(alloc: Global) -> Result<String> {
     Ok(String::new(alloc))
 }
 
-/// Builders that refuse what they are given.
+fn namespace(alloc: Global) -> Result<String> {
+    Ok(ZOSNamespaceType::try_from(alloc, "x")?.to_string(alloc)?)
+}
+
+/// Builders that refuse what they are given, and a name that is refused.
 fn refused(desk: &mut Desk<'_>) {
     let alloc = desk.rt.alloc();
     desk.answer(
@@ -276,6 +280,11 @@ fn refused(desk: &mut Desk<'_>) {
         "MountBuilder",
         &mount(alloc),
         Err("Mount.uidMappings and Mount.gidMappings must be specified together"),
+    );
+    desk.answer(
+        "ZOSNamespaceType",
+        &namespace(alloc),
+        Err("unknown z/OS namespace x, could not convert"),
     );
 }
 

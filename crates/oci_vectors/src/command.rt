@@ -1,0 +1,32 @@
+//! The program's commands, run at the desk.
+
+use oci_desk::{Desk, Input, Manner};
+use oci_doc_run::run;
+
+/// The status of a command.
+pub fn status(desk: &mut Desk<'_>, words: &[String], input: &mut Input<'_>, manner: Manner) -> u8 {
+    desk.output.begin(manner);
+    desk.errors.begin_errors(manner);
+    run(
+        desk.rt.alloc(),
+        words,
+        input,
+        &mut desk.output,
+        &mut desk.errors,
+    )
+}
+
+/// The command gives what the last one wrote, given that.
+pub fn gives_itself(desk: &mut Desk<'_>, words: &[String]) -> bool {
+    desk.again.begin(Manner::AMPLE);
+    desk.errors.begin(Manner::AMPLE);
+    let mut input = Input::new(desk.output.taken(), Manner::AMPLE);
+    let status = run(
+        desk.rt.alloc(),
+        words,
+        &mut input,
+        &mut desk.again,
+        &mut desk.errors,
+    );
+    status == 0 && desk.again.is_done(desk.output.taken())
+}
