@@ -9,7 +9,7 @@ ghost use Rattle.oci_doc_run.specs.Refusals.{TellsOfNormal, TellsOfPretty};
 use crate::kind::Kind;
 use crate::refusal::Refusal;
 use oci_forms::{Tabled, normalize};
-use oci_json::{OciRecord, from_reader, to_writer_pretty};
+use oci_json::{OciRecord, from_reader, normalize as normalize_by_document, to_writer_pretty};
 use oci_spec::distribution::{ErrorResponse, Reference, RepositoryList, TagList};
 use oci_spec::image::{
     ArtifactManifest, Descriptor, ImageConfiguration, ImageIndex, ImageManifest, OciLayout,
@@ -40,7 +40,7 @@ fn normal_by_document<T: OciRecord, R: Read, W: Write>(
     ensures ok { OnOk result (WritesDocument T.shape (R.remaining reader.old) (Appends (W.contents writer.old) (W.contents writer.new))) }
     ensures err { IfErr result (λ r. TellsOfNormal T.shape (R.remaining reader.old) (W.contents writer.old) (W.contents writer.new) r) }
 {
-    oci_json::normalize::<T, _, _>(alloc, &mut *reader, writer)?;
+    normalize_by_document::<T, _, _>(alloc, &mut *reader, writer)?;
     Ok(())
 }
 

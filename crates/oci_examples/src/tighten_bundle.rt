@@ -57,7 +57,9 @@ fn mask(linux: &mut Linux, alloc: Global, path: &str) -> Result<()>
 }
 
 /// Drops `CAP_SYS_ADMIN`, masks `/sys/firmware`, and makes the root read-only.
-fn tighten(spec: &mut Spec, alloc: Global) -> Result<()> {
+fn tighten(spec: &mut Spec, alloc: Global) -> Result<()>
+    ensures others { spec.new ≡ record spec.old { process = spec.new.process; linux = spec.new.linux; root = spec.new.root } }
+{
     if let Some(process) = spec.process_mut() {
         if let Some(sets) = process.capabilities() {
             let mut sets = sets.clone(alloc)?;

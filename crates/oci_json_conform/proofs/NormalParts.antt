@@ -1,19 +1,26 @@
 -- Parts that are their own normal form.
-use Rattle.std.proofs.Common.{◌≡◌, refl, ap, ◌∙◌, sym, List, [], ◌∷◌, ℕ, true, Some, string_bytes, string_cmp, Less}
+use Rattle.std.proofs.Common.{◌≡◌, refl, ap, ◌∙◌, sym, List, [], ◌∷◌, ℕ, true, false, Some, is_some, string_bytes, string_cmp, Less}
+use Rattle.std.specs.Prelude.{not, unwrap_or}
 use Rattle.std.specs.List.{AllByRecursion}
 use Rattle.std.specs.List.Sorted.{IsStrictlySortedBy}
 use Rattle.std.specs.Map.{keys_of}
-use Rattle.serde_json.specs.Data.{Data, object, Members, no_members, member}
-use Rattle.serde_json.specs.Find.{as_object}
+use Rattle.serde_json.specs.Data.{Data, null, object, Members, no_members, member}
+use Rattle.serde_json.specs.Find.{as_null, as_object}
+use Rattle.serde_json.specs.Read.{read, max_depth}
+use Rattle.serde_json.specs.Written.{compact_text}
 use Rattle.serde_json.specs.View.{members_view}
 use Rattle.serde_json.proofs.Views.{Entry}
 use Rattle.oci_json_schema.specs.Means.{is_object, member_names}
 use Rattle.oci_json_schema.specs.Shape as shape
-use Rattle.oci_json_schema.specs.Shape.{Shape, Rows, key_set}
+use Rattle.oci_json_schema.specs.Shape.{Shape, Rows, key_set, detail}
 use Rattle.oci_json_schema.specs.Value.{with_text, sorted, empty_objects}
 use Rattle.oci_json.specs.Readable.{IsBefore, IsInOrder}
-use Rattle.oci_json_form.specs.Allows.{each_member_allowed}
+use Rattle.oci_json.proofs.ReadAgain.{compact_read}
+use Rattle.oci_json_form.specs.Allows.{allows, each_member_allowed}
+use Rattle.oci_json_form.proofs.Decides.{both}
+use Rattle.oci_json_conform.specs.Conformed.{is_kept}
 use Rattle.oci_json_conform.specs.Normal.{IsNormal, AreNormalMembers, AreEmptyObjects}
+use Rattle.oci_json_conform.specs.Plain.{IsPlain}
 use Rattle.oci_json_conform.proofs.Conforms.{object_kept}
 
 all_before : (e : Entry) (es : List Entry) → AllByRecursion (λ y. string_cmp e.0 y ≡ Less) (keys_of es) → IsBefore (string_bytes e.0) (members_view es)
@@ -49,6 +56,14 @@ keys_kept ms order h = (are_objects ms h, ap (λ ks. object (empty_objects ks)) 
 
 pub keys_normal : (s : Shape) (d : Data) (ms : Members) → s ≡ key_set → Some ms ≡ as_object d → IsInOrder ms → AreEmptyObjects ms → IsNormal s d
 keys_normal s d ms is there order h = let seen : d ≡ object ms = object_kept d ms (sym there) in rw (is, seen) (keys_kept ms order h)
+
+-- ---- details
+
+pub detail_normal : (s : Shape) (d : Data) → s ≡ detail → is_some (as_null d) ≡ false → IsPlain max_depth d → IsNormal s d
+detail_normal s d is there h =
+    let back : read (compact_text d) ≡ Some d = compact_read d h.0 h.1 h.2 in
+    let allowed : allows detail d ≡ true = both _ _ (ap not there) (ap not h.2) in
+    rw is (both _ _ allowed (ap is_kept back ∙ ap not h.2), ap (λ o. unwrap_or o null) back)
 
 -- ---- records
 

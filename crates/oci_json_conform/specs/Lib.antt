@@ -1,2 +1,3 @@
 pub mod Conformed
 pub mod Normal
+pub mod Plain

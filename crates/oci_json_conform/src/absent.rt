@@ -12,8 +12,8 @@ ghost use Rattle.oci_json_form.specs.Allows.{member_allowed};
 ghost use Rattle.oci_json_conform.specs.Conformed.{IsSound, accepts, conformed, conformed_member};
 ghost use Rattle.oci_json_form.specs.Tables.{shape_of, presence_of, rows_of, absent_plain, absent_slot};
 
-use oci_json_form::{Absent, Form, Leaf, Presence, Row};
 use crate::normal::unless_no_items;
+use oci_json_form::{Absent, Form, Leaf, Presence, Row};
 use oci_json_kinds::{Detail, OciKind};
 use oci_json_schema::fault::refused;
 use oci_text_base::Result;

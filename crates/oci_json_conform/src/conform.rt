@@ -16,9 +16,9 @@ ghost use Rattle.oci_json_conform.specs.Conformed.{IsSound, IsNotConformed, acce
 ghost use Rattle.oci_json_form.specs.Tables.{shape_of, presence_of, name_of, rows_of};
 
 use crate::absent::conform_absent;
-use oci_json_form::{Form, Presence, Row};
 use crate::kept::is_normal;
 use crate::normal::{conform_leaf, unless_no_items};
+use oci_json_form::{Form, Presence, Row};
 use oci_json_schema::fault::refused;
 use oci_json_schema::owned::{into_items, into_members};
 use oci_text_base::Result;

@@ -13,13 +13,17 @@ ghost use Rattle.oci_json_conform.specs.Normal.{IsNormal, AreNormal, HoldNormal,
 ghost use Rattle.oci_json_form.specs.Tables.{shape_of, leaf_shape, presence_of, rows_of};
 
 use crate::conform::has_member;
-use oci_json_form::{Form, Leaf, Presence, Row};
-use oci_json_form::leaf::leaf_allows;
 use crate::normal::has_no_items;
+use crate::plain::is_plain;
+use oci_json_form::leaf::leaf_allows;
+use oci_json_form::{Form, Leaf, Presence, Row};
 use serde_json::{Map, Value};
 
-/// Whether the value is known to be its own normal form. A set of capabilities and a detail are not looked at: what holds one is
-/// not known to be one.
+/// How deep a text nests at most.
+const NESTING: usize = 127;
+
+/// Whether the value is known to be its own normal form. A set of capabilities is not looked at: what holds one is not known to
+/// be one.
 #[cycle(keeps)]
 pub fn is_normal(form: &Form, value: &Value) -> bool
     requires { IsSound (shape_of form.now) }
@@ -150,7 +154,8 @@ fn is_normal_leaf(leaf: &Leaf, value: &Value) -> bool
     ensures { IsTrue result → IsNormal (leaf_shape leaf.now) (view value.now) }
 {
     match leaf {
-        Leaf::Capabilities | Leaf::Detail => false,
+        Leaf::Capabilities => false,
+        Leaf::Detail => !value.is_null() && is_plain(value, NESTING),
         Leaf::Keys => match value.as_object() {
             Some(members) => are_empty_objects(members),
             None => false,

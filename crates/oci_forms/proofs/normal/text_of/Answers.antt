@@ -8,8 +8,7 @@ pub returns-clause-ok : goal.returns-clause-ok
 returns-clause-ok g c =
     let made = c.in_ok-normal.ensures.ok in
     let text = c.in_ok-to_string.ensures in
-    let shape = g.T.OciRecord.shape in
-    (
+    let shape = g.T.OciRecord.shape in (
       made.0,
       made.1,
       text.text (none_in shape made.0 (view c.in_ok-normal.normal) made.3 made.2) ∙ ap compact_text made.3,
