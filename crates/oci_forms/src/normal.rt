@@ -8,11 +8,11 @@ ghost use Rattle.oci_json_schema.specs.Means.{Means};
 ghost use Rattle.oci_json_schema.specs.Value.{value as json_of};
 ghost use Rattle.oci_json_schema.specs.Writable.{Writable};
 ghost use Rattle.oci_json_engines.specs.Engines.{AppendsSome, KeepsUnlessIo, IsCompactText, WritesDocument, ReadsBack, ReadsBackDocument, IsNotNormalized, IsNoJson};
-ghost use Rattle.oci_json_conform.specs.Conformed.{IsNotConformed};
+ghost use Rattle.oci_json_normal.specs.Conformed.{IsNotConformed};
 
 use crate::Tabled;
 use oci_json_conform::conform::conform;
-use oci_json_conform::kept::is_normal;
+use oci_json_normal::kept::is_normal;
 use oci_json_engines::{value_from_reader, write_text};
 use oci_json_form::check::conforms;
 use oci_text_base::Result;

@@ -21,7 +21,7 @@ use Rattle.oci_json_schema.specs.Value.{value, free_members}
 use Rattle.oci_json_schema.specs.WellFormed.{WellFormed, AreWellFormed, MemberIsWellFormed}
 use Rattle.oci_json_schema.specs.Writable.{Writable, AreWritable}
 use Rattle.oci_json_form.specs.Allows.{allows, each_allowed, each_member_allowed, items_allowed, members_allowed, member_allowed, either_allowed}
-use Rattle.oci_json_conform.specs.Conformed.{IsSound, IsNotConformed, is_kept, accepts, rows_accept, conformed}
+use Rattle.oci_json_normal.specs.Conformed.{IsSound, IsNotConformed, is_kept, accepts, rows_accept, conformed}
 use Rattle.oci_json_form.proofs.Decides.{first_of, later_of, meant, allowed}
 use Rattle.oci_json_conform.proofs.Conforms.{told, members_kept}
 

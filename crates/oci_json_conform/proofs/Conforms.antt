@@ -16,9 +16,10 @@ use Rattle.oci_json_schema.specs.Means.{Means, MeansRows, MeansEither, MeansMemb
 use Rattle.oci_json_schema.specs.Value.{value, capability_texts, each_value, each_entry_value, free_members, is_empty_array, member_value, with_member, with_rows}
 use Rattle.oci_json_schema.specs.Writable.{Writable, AreWritable}
 use Rattle.oci_json_form.specs.Allows.{allows, each_allowed, each_member_allowed, items_allowed, members_allowed, member_allowed, either_allowed, set_in, some_is}
-use Rattle.oci_json_conform.specs.Conformed.{is_kept, accepts, rows_accept, items_in, members_in, each_conformed, each_member_conformed, chosen, unless_absent, unless_no_items, conformed_member, conformed, conformed_rows}
+use Rattle.oci_json_normal.specs.Conformed.{is_kept, accepts, rows_accept, items_in, members_in, each_conformed, each_member_conformed, chosen, unless_absent, unless_no_items, conformed_member, conformed, conformed_rows}
 use Rattle.oci_json_form.proofs.Decides.{both, allowed, some_tells}
 use Rattle.oci_json_form.proofs.Texts.{same_told}
+use Rattle.oci_json_normal.proofs.NormalParts.{object_kept}
 
 -- ---- values that are written as they were read
 
@@ -37,14 +38,6 @@ truth_kept (number n) t e = cc
 truth_kept (string s) t e = cc
 truth_kept (array ds) t e = cc
 truth_kept (object ms) t e = cc
-
-pub object_kept : (d : Data) (ms : Members) → as_object d ≡ Some ms → d ≡ object ms
-object_kept null t e = cc
-object_kept (boolean b) t e = cc
-object_kept (number n) t e = cc
-object_kept (string s) t e = cc
-object_kept (array ds) t e = cc
-object_kept (object ms) t e = cc
 
 -- as a text, whatever plain tree has it
 text_kept : (d : Data) (t : List ℕ) (p : Plain) → as_str d ≡ Some t → text_of p ≡ t → d ≡ string (text_of p)

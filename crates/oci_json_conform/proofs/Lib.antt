@@ -1,6 +1,4 @@
 pub mod Accepted
 pub mod Conforms
 pub mod Moved
-pub mod NormalMembers
-pub mod NormalParts
 pub mod Parts

@@ -14,32 +14,19 @@ use Rattle.oci_json_schema.specs.Value.{value, with_member, member_value, with_r
 use Rattle.oci_json_schema.specs.WellFormed.{WellFormed, AreWellFormed, MemberIsWellFormed}
 use Rattle.oci_json_schema.specs.Writable.{Writable, AreWritable}
 use Rattle.oci_json_form.specs.Allows.{either_allowed}
-use Rattle.oci_json_conform.specs.Conformed.{accepts, rows_accept, row_accepts, chosen, conformed_member, conformed, conformed_rows, row_conformed, is_one_of}
+use Rattle.oci_json_normal.specs.Conformed.{accepts, rows_accept, row_accepts, chosen, conformed_member, conformed, conformed_rows, row_conformed, is_one_of}
 use Rattle.oci_json_form.specs.Tables.{shape_of, presence_of, name_of, rows_of, absent_slot}
 use Rattle.oci_json_form.specs.declared.form.Absent.{Absent}
 use Rattle.oci_json_form.specs.declared.form.Row.{Row}
 use Rattle.oci_json_form.proofs.Decides.{first_of, later_of, refuted}
+use Rattle.oci_json_normal.proofs.Listing.{or_right, listed_first, later_listed, rest_once}
 use Rattle.oci_json_form.proofs.Listed.{drop_at}
 
 -- ---- names
 
-pub or_right : (a b : Bool) → b ≡ true → (a || b) ≡ true
-or_right true b e = refl
-or_right false b e = e
-
 or_none : (a b : Bool) → a ≡ false → b ≡ false → (a || b) ≡ false
 or_none false b e h = h
 or_none true b e h = cc
-
-pub is_itself : (name : List ℕ) → bytes_eq name name ≡ true
-is_itself name = (bytes_eq-Decides name name).1 refl
-
-pub listed_first : (name : List ℕ) (ts : List (List ℕ)) → is_listed (name ∷ ts) name ≡ true
-listed_first name ts = rw (is_itself name) refl
-
-pub later_listed : (second : Option (List ℕ)) (ts : List (List ℕ)) (q : List ℕ) → is_listed ts q ≡ true → is_listed (with_second second ts) q ≡ true
-later_listed None ts q e = e
-later_listed (Some t) ts q e = or_right (bytes_eq q t) (is_listed ts q) e
 
 -- a name that stands among others is none that does not
 apart : (q name : List ℕ) (ts : List (List ℕ)) → is_listed ts name ≡ false → is_listed ts q ≡ true → bytes_eq q name ≡ false
@@ -57,10 +44,6 @@ one_apart q name (Some t) ts once is =
     or_none (bytes_eq q name) (bytes_eq q t)
     (apart q name (t ∷ ts) (refuted (is_listed (t ∷ ts) name) a) (or_right (bytes_eq q t) (is_listed ts q) is))
     (apart q t ts (refuted (is_listed ts t) (first_of (not (is_listed ts t)) (no_text_twice ts) b)) is)
-
-pub rest_once : (name : List ℕ) (second : Option (List ℕ)) (ts : List (List ℕ)) → no_text_twice (name ∷ with_second second ts) ≡ true → no_text_twice ts ≡ true
-rest_once name None ts once = later_of (not (is_listed ts name)) (no_text_twice ts) once
-rest_once name (Some t) ts once = later_of (not (is_listed ts t)) (no_text_twice ts) (later_of (not (is_listed (t ∷ ts) name)) (no_text_twice (t ∷ ts)) once)
 
 -- ---- rows that are done, and rows that are left
 

@@ -28,30 +28,12 @@ use Rattle.oci_json_schema.specs.Value.{value, is_empty_array}
 use Rattle.oci_json_schema.specs.Writable.{Writable}
 use Rattle.oci_json_schema.proofs.Writers.{inserted}
 use Rattle.oci_json_form.specs.Allows.{allows, each_allowed, each_member_allowed}
-use Rattle.oci_json_conform.specs.Conformed.{is_kept, accepts, rows_accept, conformed, conformed_rows, chosen, is_one_there, each_conformed, each_member_conformed}
+use Rattle.oci_json_normal.specs.Conformed.{is_kept, accepts, rows_accept, conformed, conformed_rows, chosen, is_one_there, each_conformed, each_member_conformed}
 use Rattle.oci_json_form.proofs.Decides.{meant}
-use Rattle.oci_json_conform.proofs.Conforms.{told, object_kept}
+use Rattle.oci_json_normal.proofs.NormalParts.{object_kept}
+use Rattle.oci_json_conform.proofs.Conforms.{told}
 
 -- ---- lists and nulls
-
-pub no_items_told : (d : Data) (vs : List Value) → Some (items_view vs) ≡ as_array d → (length vs == 0) ≡ is_empty_array d
-no_items_told null vs e = cc
-no_items_told (boolean b) vs e = cc
-no_items_told (number n) vs e = cc
-no_items_told (string s) vs e = cc
-no_items_told (object ms) vs e = cc
-no_items_told (array no_items) [] e = refl
-no_items_told (array no_items) (v ∷ vs) e = cc
-no_items_told (array (item d ds)) [] e = cc
-no_items_told (array (item d ds)) (v ∷ vs) e = eqb-suc-zero (length vs)
-
-pub no_list_told : (d : Data) → None ≡ as_array d → false ≡ is_empty_array d
-no_list_told null e = refl
-no_list_told (boolean b) e = refl
-no_list_told (number n) e = refl
-no_list_told (string s) e = refl
-no_list_told (object ms) e = refl
-no_list_told (array ds) e = cc
 
 pub is_gone : (d : Data) → is_some (as_null d) ≡ true → unless_null d ≡ None
 is_gone null e = refl
@@ -70,13 +52,6 @@ is_left (array ds) e = refl
 is_left (object ms) e = refl
 
 -- ---- what stands under a name
-
-some_viewed : (o : Option Value) → is_some o ≡ is_some (option_map view o)
-some_viewed None = refl
-some_viewed (Some v) = refl
-
-pub has_told : (name : List ℕ) (es : List Entry) → is_some (lookup (is_at (λ k. slice_cmp nat_cmp name (string_bytes k))) es) ≡ is_some (get_member name (members_view es))
-has_told name es = some_viewed (lookup (is_at (λ k. slice_cmp nat_cmp name (string_bytes k))) es) ∙ ap is_some (view-lookup name es)
 
 pub chosen_first : (a b : Option Data) → is_some b ≡ false → chosen a b ≡ a
 chosen_first a None e = refl

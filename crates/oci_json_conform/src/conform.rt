@@ -12,13 +12,13 @@ ghost use Rattle.oci_json_schema.specs.Value.{value as json_of, with_member};
 ghost use Rattle.oci_json_schema.specs.WellFormed.{WellFormed, AreWellFormed, MemberIsWellFormed};
 ghost use Rattle.oci_json_schema.specs.Writable.{Writable};
 ghost use Rattle.oci_json_form.specs.Allows.{each_allowed, each_member_allowed, member_allowed};
-ghost use Rattle.oci_json_conform.specs.Conformed.{IsSound, IsNotConformed, accepts, rows_accept, row_accepts, conformed, each_conformed, each_member_conformed, conformed_member, conformed_rows, row_conformed, chosen, is_one_of, is_one_there};
+ghost use Rattle.oci_json_normal.specs.Conformed.{IsSound, IsNotConformed, accepts, rows_accept, row_accepts, conformed, each_conformed, each_member_conformed, conformed_member, conformed_rows, row_conformed, chosen, is_one_of, is_one_there};
 ghost use Rattle.oci_json_form.specs.Tables.{shape_of, presence_of, name_of, rows_of};
 
 use crate::absent::conform_absent;
-use crate::kept::is_normal;
 use crate::normal::{conform_leaf, unless_no_items};
 use oci_json_form::{Form, Presence, Row};
+use oci_json_normal::kept::{has_member, is_normal};
 use oci_json_schema::fault::refused;
 use oci_json_schema::owned::{into_items, into_members};
 use oci_text_base::Result;
@@ -166,13 +166,6 @@ fn take_row(row: &Row, members: &mut Map<String, Value>) -> Result<Option<Value>
             }
         }
     }
-}
-
-/// Whether something stands under a name.
-pub fn has_member(members: &Map<String, Value>, name: &str) -> bool
-    ensures { result ≡ is_some (get_member name.now (members_view members.now.entries)) }
-{
-    members.contains_key(name)
 }
 
 /// Takes what stands under a name.

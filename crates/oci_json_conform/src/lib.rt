@@ -3,6 +3,4 @@
 
 pub mod absent;
 pub mod conform;
-pub mod kept;
 pub mod normal;
-pub mod plain;

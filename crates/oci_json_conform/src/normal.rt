@@ -8,11 +8,12 @@ ghost use Rattle.oci_process_texts.specs.Capability.{capability_table};
 ghost use Rattle.oci_json_schema.specs.Shape.{cap_set, key_set, detail};
 ghost use Rattle.oci_json_schema.specs.Means.{as_whole};
 ghost use Rattle.oci_json_schema.specs.Value.{is_empty_array};
-ghost use Rattle.oci_json_conform.specs.Conformed.{accepts, conformed, unless_no_items as without_empty};
+ghost use Rattle.oci_json_normal.specs.Conformed.{accepts, conformed, unless_no_items as without_empty};
 ghost use Rattle.oci_json_form.specs.Tables.{leaf_shape};
 
 use oci_json_form::Leaf;
 use oci_json_form::leaf::leaf_allows;
+use oci_json_normal::kept::has_no_items;
 use oci_json_kinds::{Detail, Keys, OciKind};
 use oci_json_schema::fault::refused;
 use oci_process_texts::Caps;
@@ -104,16 +105,5 @@ pub fn unless_no_items(value: Value) -> Option<Value>
         None
     } else {
         Some(value)
-    }
-}
-
-/// Whether the value is a list with no items.
-#[tactic(auto, using(crate::proofs::Parts::no_items_told, crate::proofs::Parts::no_list_told))]
-pub fn has_no_items(value: &Value) -> bool
-    ensures { result ≡ is_empty_array (view value.now) }
-{
-    match value.as_array() {
-        Some(items) => items.is_empty(),
-        None => false,
     }
 }

@@ -1,7 +1,7 @@
 use Rattle.std.proofs.Common.{◌≡◌, sym, subst, Ok}
 use Rattle.serde_json.specs.View.{view}
 use Rattle.oci_text_base.specs.declared.error.OciSpecError.{OciSpecError}
-use Rattle.oci_json_conform.specs.Normal.{IsNormal}
+use Rattle.oci_json_normal.specs.Normal.{IsNormal}
 use Rattle.oci_json_conform.proofs.Accepted.{answers_all}
 use Rattle.oci_forms.proofs.normal.conform_as.Goals as goal
 

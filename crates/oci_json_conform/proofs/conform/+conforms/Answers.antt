@@ -8,7 +8,7 @@ use Rattle.oci_json_schema.specs.Value.{value, with_member}
 use Rattle.oci_json_schema.proofs.Lists.{exits}
 use Rattle.oci_json_schema.proofs.Writers.{inserted}
 use Rattle.oci_json_form.specs.Allows.{each_allowed, each_member_allowed}
-use Rattle.oci_json_conform.specs.Conformed.{accepts, conformed, each_conformed, conformed_member, IsSound}
+use Rattle.oci_json_normal.specs.Conformed.{accepts, conformed, each_conformed, conformed_member, IsSound}
 use Rattle.oci_json_form.specs.Tables.{shape_of, rows_of, presence_of}
 use Rattle.oci_json_form.specs.declared.form.Form.{the_lemmas}
 use Rattle.oci_json_conform.proofs.Moved.{moved_more}

@@ -1,27 +1,68 @@
 -- Parts that are their own normal form.
-use Rattle.std.proofs.Common.{◌≡◌, refl, ap, ◌∙◌, sym, List, [], ◌∷◌, ℕ, true, false, Some, is_some, string_bytes, string_cmp, Less}
-use Rattle.std.specs.Prelude.{not, unwrap_or}
+use Rattle.std.proofs.Common.{◌≡◌, refl, ap, ◌∙◌, sym, List, [], ◌∷◌, length, ℕ, true, false, Option, Some, None, is_some, option_map, nat_cmp, string_bytes, string_cmp, Less}
+use Rattle.std.specs.Prelude.{not, unwrap_or, ◌==◌}
+use Rattle.std.specs.BTreeMap.{is_at}
+use Rattle.std.specs.Cmp.Lexicographic.{slice_cmp}
 use Rattle.std.specs.List.{AllByRecursion}
 use Rattle.std.specs.List.Sorted.{IsStrictlySortedBy}
-use Rattle.std.specs.Map.{keys_of}
-use Rattle.serde_json.specs.Data.{Data, null, object, Members, no_members, member}
-use Rattle.serde_json.specs.Find.{as_null, as_object}
+use Rattle.std.specs.Map.{keys_of, lookup}
+use Rattle.std.proofs.Math.Dec.{eqb-suc-zero}
+use Rattle.serde_json.specs.Data.{Data, null, boolean, number, string, array, object, Items, no_items, item, Members, no_members, member}
+use Rattle.serde_json.specs.Find.{as_null, as_array, as_object, get_member}
 use Rattle.serde_json.specs.Read.{read, max_depth}
 use Rattle.serde_json.specs.Written.{compact_text}
-use Rattle.serde_json.specs.View.{members_view}
-use Rattle.serde_json.proofs.Views.{Entry}
+use Rattle.serde_json.specs.View.{view, items_view, members_view}
+use Rattle.serde_json.specs.declared.value.Value.{Value}
+use Rattle.serde_json.proofs.Views.{Entry, view-lookup}
 use Rattle.oci_json_schema.specs.Means.{is_object, member_names}
 use Rattle.oci_json_schema.specs.Shape as shape
 use Rattle.oci_json_schema.specs.Shape.{Shape, Rows, key_set, detail}
-use Rattle.oci_json_schema.specs.Value.{with_text, sorted, empty_objects}
+use Rattle.oci_json_schema.specs.Value.{with_text, sorted, empty_objects, is_empty_array}
 use Rattle.oci_json.specs.Readable.{IsBefore, IsInOrder}
 use Rattle.oci_json.proofs.ReadAgain.{compact_read}
 use Rattle.oci_json_form.specs.Allows.{allows, each_member_allowed}
 use Rattle.oci_json_form.proofs.Decides.{both}
-use Rattle.oci_json_conform.specs.Conformed.{is_kept}
-use Rattle.oci_json_conform.specs.Normal.{IsNormal, AreNormalMembers, AreEmptyObjects}
-use Rattle.oci_json_conform.specs.Plain.{IsPlain}
-use Rattle.oci_json_conform.proofs.Conforms.{object_kept}
+use Rattle.oci_json_normal.specs.Conformed.{is_kept}
+use Rattle.oci_json_normal.specs.Normal.{IsNormal, AreNormalMembers, AreEmptyObjects}
+use Rattle.oci_json_normal.specs.Plain.{IsPlain}
+
+pub object_kept : (d : Data) (ms : Members) → as_object d ≡ Some ms → d ≡ object ms
+object_kept null t e = cc
+object_kept (boolean b) t e = cc
+object_kept (number n) t e = cc
+object_kept (string s) t e = cc
+object_kept (array ds) t e = cc
+object_kept (object ms) t e = cc
+
+-- ---- lists, and what stands under a name
+
+pub no_items_told : (d : Data) (vs : List Value) → Some (items_view vs) ≡ as_array d → (length vs == 0) ≡ is_empty_array d
+no_items_told null vs e = cc
+no_items_told (boolean b) vs e = cc
+no_items_told (number n) vs e = cc
+no_items_told (string s) vs e = cc
+no_items_told (object ms) vs e = cc
+no_items_told (array no_items) [] e = refl
+no_items_told (array no_items) (v ∷ vs) e = cc
+no_items_told (array (item d ds)) [] e = cc
+no_items_told (array (item d ds)) (v ∷ vs) e = eqb-suc-zero (length vs)
+
+pub no_list_told : (d : Data) → None ≡ as_array d → false ≡ is_empty_array d
+no_list_told null e = refl
+no_list_told (boolean b) e = refl
+no_list_told (number n) e = refl
+no_list_told (string s) e = refl
+no_list_told (object ms) e = refl
+no_list_told (array ds) e = cc
+
+some_viewed : (o : Option Value) → is_some o ≡ is_some (option_map view o)
+some_viewed None = refl
+some_viewed (Some v) = refl
+
+pub has_told : (name : List ℕ) (es : List Entry) → is_some (lookup (is_at (λ k. slice_cmp nat_cmp name (string_bytes k))) es) ≡ is_some (get_member name (members_view es))
+has_told name es = some_viewed (lookup (is_at (λ k. slice_cmp nat_cmp name (string_bytes k))) es) ∙ ap is_some (view-lookup name es)
+
+-- ---- maps
 
 all_before : (e : Entry) (es : List Entry) → AllByRecursion (λ y. string_cmp e.0 y ≡ Less) (keys_of es) → IsBefore (string_bytes e.0) (members_view es)
 all_before e [] h = tt

@@ -1,7 +1,7 @@
 use Rattle.std.proofs.Common.{ap, sym, ◌∙◌}
 use Rattle.oci_json_form.specs.Tables.{leaf_shape}
-use Rattle.oci_json_conform.proofs.NormalParts.{keys_normal, detail_normal}
-use Rattle.oci_json_conform.proofs.kept.is_normal_leaf.Goals as goal
+use Rattle.oci_json_normal.proofs.NormalParts.{keys_normal, detail_normal}
+use Rattle.oci_json_normal.proofs.kept.is_normal_leaf.Goals as goal
 
 pub returns-in-Some : goal.returns-in-Some
 returns-in-Some c = λ h. keys_normal _ _ _ (ap leaf_shape c.in-Keys.is) c.in-Some.ensures c.are_empty_objects.ensures.ordered (c.are_empty_objects.ensures.empty h)

@@ -5,7 +5,7 @@ use Rattle.serde_json.specs.Find.{get_member}
 use Rattle.oci_json_schema.specs.Shape.{Presence, required, defaulted, optional, nullable, unless_empty, Shape, Rows, no_rows, row}
 use Rattle.oci_json_schema.specs.Value.{value}
 use Rattle.oci_json_form.specs.Allows.{each_allowed, each_member_allowed, member_allowed}
-use Rattle.oci_json_conform.specs.Conformed.{accepts, rows_accept, conformed, each_conformed, each_member_conformed, conformed_member, conformed_rows}
+use Rattle.oci_json_normal.specs.Conformed.{accepts, rows_accept, conformed, each_conformed, each_member_conformed, conformed_member, conformed_rows}
 
 abbrev pub IsNormal : Shape → Data → Type 0
 IsNormal s d = (accepts s d ≡ true) × (conformed s d ≡ d)

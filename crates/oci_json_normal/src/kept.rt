@@ -1,19 +1,18 @@
 //! Whether a value is its own normal form, so that it need not be made anew.
-ghost use Rattle.std.specs.Prelude.{◌≡◌, IfSome, IsTrue};
+ghost use Rattle.std.specs.Prelude.{◌≡◌, IfSome, IsTrue, is_some};
 ghost use Rattle.serde_json.specs.Data.{number, object, no_members};
-ghost use Rattle.serde_json.specs.Find.{of_integer};
+ghost use Rattle.serde_json.specs.Find.{of_integer, get_member};
 ghost use Rattle.serde_json.specs.View.{view, items_view, members_view};
 ghost use Rattle.oci_text_base.specs.Names.{no_text_twice};
 ghost use Rattle.oci_json_schema.specs.Means.{as_whole};
 ghost use Rattle.oci_json_schema.specs.Shape.{names};
+ghost use Rattle.oci_json_schema.specs.Value.{is_empty_array};
 ghost use Rattle.oci_json_schema.specs.WellFormed.{WellFormed, AreWellFormed, MemberIsWellFormed};
 ghost use Rattle.oci_json.specs.Readable.{IsInOrder};
-ghost use Rattle.oci_json_conform.specs.Conformed.{IsSound};
-ghost use Rattle.oci_json_conform.specs.Normal.{IsNormal, AreNormal, HoldNormal, AreNormalMembers, is_always_written as is_written, IsNormalMember, IsOfRow, AreOfRows, HasAll, AreEmptyObjects};
+ghost use Rattle.oci_json_normal.specs.Conformed.{IsSound};
+ghost use Rattle.oci_json_normal.specs.Normal.{IsNormal, AreNormal, HoldNormal, AreNormalMembers, is_always_written as is_written, IsNormalMember, IsOfRow, AreOfRows, HasAll, AreEmptyObjects};
 ghost use Rattle.oci_json_form.specs.Tables.{shape_of, leaf_shape, presence_of, rows_of};
 
-use crate::conform::has_member;
-use crate::normal::has_no_items;
 use crate::plain::is_plain;
 use oci_json_form::leaf::leaf_allows;
 use oci_json_form::{Form, Leaf, Presence, Row};
@@ -207,6 +206,24 @@ fn is_empty_object(value: &Value) -> bool
 {
     match value.as_object() {
         Some(members) => members.is_empty(),
+        None => false,
+    }
+}
+
+/// Whether something stands under a name.
+pub fn has_member(members: &Map<String, Value>, name: &str) -> bool
+    ensures { result ≡ is_some (get_member name.now (members_view members.now.entries)) }
+{
+    members.contains_key(name)
+}
+
+/// Whether the value is a list with no items.
+#[tactic(auto, using(crate::proofs::NormalParts::no_items_told, crate::proofs::NormalParts::no_list_told))]
+pub fn has_no_items(value: &Value) -> bool
+    ensures { result ≡ is_empty_array (view value.now) }
+{
+    match value.as_array() {
+        Some(items) => items.is_empty(),
         None => false,
     }
 }

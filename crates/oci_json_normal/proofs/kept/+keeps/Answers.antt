@@ -1,11 +1,11 @@
 use Rattle.std.proofs.Common.{rules, subst}
-use Rattle.oci_json_conform.specs.Conformed.{IsSound}
+use Rattle.oci_json_normal.specs.Conformed.{IsSound}
 use Rattle.oci_json_form.specs.Tables.{rows_of}
 use Rattle.oci_json_form.specs.declared.form.Form.{the_lemmas}
-use Rattle.oci_json_conform.proofs.NormalMembers.{members_normal}
-use Rattle.oci_json_conform.proofs.NormalParts.{in_order, record_normal}
+use Rattle.oci_json_normal.proofs.NormalMembers.{members_normal}
+use Rattle.oci_json_normal.proofs.NormalParts.{in_order, record_normal}
 use Rattle.oci_json_form.proofs.Tables.{record_is}
-use Rattle.oci_json_conform.proofs.kept.+keeps.Goals as goal
+use Rattle.oci_json_normal.proofs.kept.+keeps.Goals as goal
 
 pub are_normal_members-returns-then-has_all : goal.are_normal_members-returns-then-has_all
 are_normal_members-returns-then-has_all t c =

@@ -3,7 +3,7 @@ ghost use Rattle.std.specs.Prelude.{◌≡◌, IsTrue, false};
 ghost use Rattle.serde_json.specs.Find.{is_float};
 ghost use Rattle.serde_json.specs.View.{number_view, view, items_view, members_view};
 ghost use Rattle.oci_json.specs.Readable.{IsHeld, IsInOrder};
-ghost use Rattle.oci_json_conform.specs.Plain.{IsPlain, ArePlain, HoldPlain};
+ghost use Rattle.oci_json_normal.specs.Plain.{IsPlain, ArePlain, HoldPlain};
 
 use serde_json::{Map, Number, Value};
 

@@ -1,9 +1,9 @@
 use Rattle.std.proofs.Common.{drop}
 use Rattle.serde_json.specs.View.{view, items_view, members_view}
 use Rattle.oci_json_schema.specs.WellFormed.{AreWellFormed}
-use Rattle.oci_json_conform.specs.Normal.{AreNormal, HoldNormal, IsOfRow, AreOfRows}
+use Rattle.oci_json_normal.specs.Normal.{AreNormal, HoldNormal, IsOfRow, AreOfRows}
 use Rattle.oci_json_form.specs.Tables.{shape_of, rows_of}
-use Rattle.oci_json_conform.proofs.kept.+keeps.Given as goal
+use Rattle.oci_json_normal.proofs.kept.+keeps.Given as goal
 
 abbrev pub invariant-are_normal-loop-item : goal.invariant-are_normal-loop-item
 invariant-are_normal-loop-item l = AreNormal (shape_of l.form) (items_view (drop l.item-index l.item-items)) → AreNormal (shape_of l.form) (items_view l.items.items)

@@ -1,7 +1,7 @@
 use Rattle.std.proofs.Common.{drop}
 use Rattle.serde_json.specs.View.{items_view, members_view}
-use Rattle.oci_json_conform.specs.Plain.{ArePlain, HoldPlain}
-use Rattle.oci_json_conform.proofs.plain.+plain.Given as goal
+use Rattle.oci_json_normal.specs.Plain.{ArePlain, HoldPlain}
+use Rattle.oci_json_normal.proofs.plain.+plain.Given as goal
 
 abbrev pub invariant-are_plain-loop-item : goal.invariant-are_plain-loop-item
 invariant-are_plain-loop-item l = ArePlain l.room (items_view (drop l.item-index l.item-items)) → ArePlain l.room (items_view l.items.items)

@@ -1,5 +1,5 @@
-use Rattle.oci_json_conform.proofs.NormalParts.{in_order}
-use Rattle.oci_json_conform.proofs.kept.are_empty_objects.Goals as goal
+use Rattle.oci_json_normal.proofs.NormalParts.{in_order}
+use Rattle.oci_json_normal.proofs.kept.are_empty_objects.Goals as goal
 
 pub returns-then-not-is_empty_object-clause-ordered : goal.returns-then-not-is_empty_object-clause-ordered
 returns-then-not-is_empty_object-clause-ordered c = in_order _ c.iter-member-items.ensures.ordered

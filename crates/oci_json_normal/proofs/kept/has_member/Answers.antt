@@ -1,6 +1,6 @@
 use Rattle.std.proofs.Common.{◌∙◌}
-use Rattle.oci_json_conform.proofs.Parts.{has_told}
-use Rattle.oci_json_conform.proofs.conform.has_member.Goals as goal
+use Rattle.oci_json_normal.proofs.NormalParts.{has_told}
+use Rattle.oci_json_normal.proofs.kept.has_member.Goals as goal
 
 pub returns : goal.returns
 returns c = c.contains_key.ensures ∙ has_told c.args.name.now c.args.members.now.entries

@@ -16,10 +16,10 @@ use Rattle.oci_json_schema.specs.Value.{value, with_member}
 use Rattle.oci_json.specs.Readable.{IsBefore, IsInOrder}
 use Rattle.oci_json.proofs.Trees.{before_rest, put_in_order}
 use Rattle.oci_json_form.specs.Allows.{member_allowed, either_allowed}
-use Rattle.oci_json_conform.specs.Conformed.{accepts, rows_accept, chosen, conformed, conformed_member, conformed_rows}
-use Rattle.oci_json_conform.specs.Normal.{AreNormalMembers, is_always_written, IsNormalMember, IsOfRow, AreOfRows, HasAll}
+use Rattle.oci_json_normal.specs.Conformed.{accepts, rows_accept, chosen, conformed, conformed_member, conformed_rows}
+use Rattle.oci_json_normal.specs.Normal.{AreNormalMembers, is_always_written, IsNormalMember, IsOfRow, AreOfRows, HasAll}
 use Rattle.oci_json_form.proofs.Decides.{both, first_of, later_of, refuted}
-use Rattle.oci_json_conform.proofs.Moved.{or_right, is_itself, listed_first, later_listed, rest_once}
+use Rattle.oci_json_normal.proofs.Listing.{or_right, is_itself, listed_first, later_listed, rest_once}
 
 -- ---- members in order are told by what stands under each name
 

@@ -1,0 +1,3 @@
+pub mod Conformed
+pub mod Normal
+pub mod Plain
