@@ -12,9 +12,9 @@ ghost use Rattle.oci_json_normal.specs.Conformed.{IsNotConformed};
 
 use crate::Tabled;
 use oci_json_conform::conform::conform;
-use oci_json_normal::kept::is_normal;
 use oci_json_engines::{value_from_reader, write_text};
 use oci_json_form::check::conforms;
+use oci_json_normal::kept::is_normal;
 use oci_text_base::Result;
 use serde_json::Value;
 use std::alloc::Global;
