@@ -53,7 +53,10 @@ fn refused(alloc: Global, fault: &OciSpecError) -> Result<String> {
 /// What is found by the record's table, with no document between: the compact text of the value's normal form, or the place
 /// that refuses the text. Faults are listed exactly where it is refused.
 pub fn by_table<T: Tabled>(alloc: Global, text: &str) -> Result<String> {
-    let value = Value::from_str(alloc, text)?;
+    let value = match Value::from_str(alloc, text) {
+        Ok(value) => value,
+        Err(fault) => return refused(alloc, &OciSpecError::from(fault)),
+    };
     let is_faulty = !faults_of::<T>(alloc, &value)?.is_empty();
     let answer = conform_as::<T>(value, alloc);
     if is_faulty != answer.is_err() {
