@@ -120,7 +120,7 @@ fn sha_fault(digits: usize, encoded: &str) -> Option<Fault<'_>>
 {
     if encoded.len() != digits {
         Some(Fault::Length(encoded.len(), digits))
-    } else if all_lower_hex(encoded) {
+    } else if are_lower_hex(encoded.as_bytes()) {
         None
     } else {
         Some(Fault::NotHex(encoded))
@@ -139,8 +139,9 @@ fn all_encoded(text: &str) -> bool
     text.as_bytes().iter().all(|b| is_encoded_byte(*b))
 }
 
-fn all_lower_hex(text: &str) -> bool
-    ensures { result ≡ list_all is_lower_hex text.now }
+/// Whether each byte is a lowercase hexadecimal digit.
+pub(crate) fn are_lower_hex(bytes: &[u8]) -> bool
+    ensures { result ≡ list_all is_lower_hex bytes.now }
 {
-    text.as_bytes().iter().all(|b| is_lower_hex(*b))
+    bytes.iter().all(|b| is_lower_hex(*b))
 }
