@@ -9,7 +9,7 @@ use oci_json_form::forms::TEXT;
 use oci_json_form::{Form, Presence, Row};
 
 /// What a runtime can do on Linux (runtime specification, "Linux Features Structure").
-pub const LINUX_FEATURE: Form = Form::Record(&[
+pub const LINUX_FEATURE: Form<'static> = Form::Record(&[
     row!(
         "namespaces",
         Presence::Nullable,
@@ -26,16 +26,16 @@ pub const LINUX_FEATURE: Form = Form::Record(&[
     row!("netDevices", Presence::Nullable, NET_DEVICES),
 ]);
 
-static LINUX_FEATURE_FORM: Form = LINUX_FEATURE;
+static LINUX_FEATURE_FORM: Form<'static> = LINUX_FEATURE;
 
 impl Tabled for LinuxFeature {
-    fn form() -> &'static Form {
+    fn form() -> &'static Form<'static> {
         &LINUX_FEATURE_FORM
     }
 }
 
 /// What a runtime can do (runtime specification, "Features Structure").
-pub const FEATURES: Form = Form::Record(&[
+pub const FEATURES: Form<'static> = Form::Record(&[
     row!("ociVersionMin", Presence::Required, TEXT),
     row!("ociVersionMax", Presence::Required, TEXT),
     row!("hooks", Presence::Nullable, Form::List(&TEXT)),
@@ -49,10 +49,10 @@ pub const FEATURES: Form = Form::Record(&[
     ),
 ]);
 
-static FEATURES_FORM: Form = FEATURES;
+static FEATURES_FORM: Form<'static> = FEATURES;
 
 impl Tabled for Features {
-    fn form() -> &'static Form {
+    fn form() -> &'static Form<'static> {
         &FEATURES_FORM
     }
 }

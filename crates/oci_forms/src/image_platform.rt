@@ -5,7 +5,7 @@ use oci_json_form::forms::{ARCH, OS, TEXT};
 use oci_json_form::{Form, Presence, Row};
 
 /// The machine that an image is for (image specification, "Image Index", `platform`).
-pub const PLATFORM: Form = Form::Record(&[
+pub const PLATFORM: Form<'static> = Form::Record(&[
     row!("architecture", Presence::Required, ARCH),
     row!("os", Presence::Required, OS),
     row!("os.version" | "os_version", Presence::Optional, TEXT),
@@ -18,10 +18,10 @@ pub const PLATFORM: Form = Form::Record(&[
     row!("features", Presence::Optional, Form::List(&TEXT)),
 ]);
 
-static PLATFORM_FORM: Form = PLATFORM;
+static PLATFORM_FORM: Form<'static> = PLATFORM;
 
 impl Tabled for Platform {
-    fn form() -> &'static Form {
+    fn form() -> &'static Form<'static> {
         &PLATFORM_FORM
     }
 }

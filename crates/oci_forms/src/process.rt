@@ -9,7 +9,7 @@ use oci_json_form::{Form, Presence, Row};
 use oci_process::Process;
 
 /// The program that a container runs, and what it runs with (runtime specification, "Configuration", "Process").
-pub const PROCESS: Form = Form::Record(&[
+pub const PROCESS: Form<'static> = Form::Record(&[
     row!("terminal", Presence::Optional, TRUTH),
     row!("consoleSize", Presence::Optional, CONSOLE_BOX),
     row!("user", Presence::Required, USER),
@@ -28,10 +28,10 @@ pub const PROCESS: Form = Form::Record(&[
     row!("execCPUAffinity", Presence::Optional, EXEC_CPU_AFFINITY),
 ]);
 
-static PROCESS_FORM: Form = PROCESS;
+static PROCESS_FORM: Form<'static> = PROCESS;
 
 impl Tabled for Process {
-    fn form() -> &'static Form {
+    fn form() -> &'static Form<'static> {
         &PROCESS_FORM
     }
 }

@@ -5,7 +5,7 @@ use oci_json_form::{Form, Presence, Row};
 use oci_reference::Reference;
 
 /// A reference to an image, in its parts.
-pub const REFERENCE: Form = Form::Record(&[
+pub const REFERENCE: Form<'static> = Form::Record(&[
     row!("registry", Presence::Required, TEXT),
     row!("mirror_registry", Presence::Optional, TEXT),
     row!("repository", Presence::Required, TEXT),
@@ -13,10 +13,10 @@ pub const REFERENCE: Form = Form::Record(&[
     row!("digest", Presence::Optional, TEXT),
 ]);
 
-static REFERENCE_FORM: Form = REFERENCE;
+static REFERENCE_FORM: Form<'static> = REFERENCE;
 
 impl Tabled for Reference {
-    fn form() -> &'static Form {
+    fn form() -> &'static Form<'static> {
         &REFERENCE_FORM
     }
 }

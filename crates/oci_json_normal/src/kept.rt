@@ -24,7 +24,7 @@ const NESTING: usize = 127;
 /// Whether the value is known to be its own normal form. A set of capabilities is not looked at: what holds one is not known to
 /// be one.
 #[cycle(keeps)]
-pub fn is_normal(form: &Form, value: &Value) -> bool
+pub fn is_normal(form: &Form<'_>, value: &Value) -> bool
     requires { IsSound (shape_of form.now) }
     ensures { IsTrue result → IsNormal (shape_of form.now) (view value.now) }
 {
@@ -46,7 +46,7 @@ pub fn is_normal(form: &Form, value: &Value) -> bool
 }
 
 #[cycle(keeps)]
-fn are_normal(form: &Form, items: &Vec<Value>) -> bool
+fn are_normal(form: &Form<'_>, items: &Vec<Value>) -> bool
     requires { IsSound (shape_of form.now) }
     ensures { IsTrue result → AreNormal (shape_of form.now) (items_view items.now.items) }
 {
@@ -59,7 +59,7 @@ fn are_normal(form: &Form, items: &Vec<Value>) -> bool
 }
 
 #[cycle(keeps)]
-fn hold_normal(form: &Form, members: &Map<String, Value>) -> bool
+fn hold_normal(form: &Form<'_>, members: &Map<String, Value>) -> bool
     requires { IsSound (shape_of form.now) }
     ensures { IsTrue result → HoldNormal (shape_of form.now) (members_view members.now.entries) }
 {
@@ -72,7 +72,7 @@ fn hold_normal(form: &Form, members: &Map<String, Value>) -> bool
 }
 
 #[cycle(keeps)]
-fn are_normal_members(rows: &[Row], members: &Map<String, Value>) -> bool
+fn are_normal_members(rows: &[Row<'_>], members: &Map<String, Value>) -> bool
     requires distinct { IsTrue (no_text_twice (names (rows_of rows.now))) }
     requires well { AreWellFormed (rows_of rows.now) }
     ensures { IsTrue result → AreNormalMembers (rows_of rows.now) (members_view members.now.entries) }
@@ -81,7 +81,7 @@ fn are_normal_members(rows: &[Row], members: &Map<String, Value>) -> bool
 }
 
 /// Whether all that is always written stands there.
-fn has_all(rows: &[Row], members: &Map<String, Value>) -> bool
+fn has_all(rows: &[Row<'_>], members: &Map<String, Value>) -> bool
     ensures { IsTrue result → HasAll (rows_of rows.now) (members_view members.now.entries) }
 {
     for row in rows {
@@ -106,7 +106,7 @@ fn is_always_written(presence: &Presence) -> bool
 
 /// Whether each member is listed and written as it stands.
 #[cycle(keeps)]
-fn are_of_rows(rows: &[Row], members: &Map<String, Value>) -> bool
+fn are_of_rows(rows: &[Row<'_>], members: &Map<String, Value>) -> bool
     requires well { AreWellFormed (rows_of rows.now) }
     ensures listed { IsTrue result → AreOfRows (rows_of rows.now) (members_view members.now.entries) }
     ensures ordered { IsInOrder (members_view members.now.entries) }
@@ -120,7 +120,7 @@ fn are_of_rows(rows: &[Row], members: &Map<String, Value>) -> bool
 }
 
 #[cycle(keeps)]
-fn is_of_row(rows: &[Row], name: &str, value: &Value) -> bool
+fn is_of_row(rows: &[Row<'_>], name: &str, value: &Value) -> bool
     requires well { AreWellFormed (rows_of rows.now) }
     ensures { IsTrue result → IsOfRow (rows_of rows.now) name.now (view value.now) }
 {
@@ -133,7 +133,7 @@ fn is_of_row(rows: &[Row], name: &str, value: &Value) -> bool
 }
 
 #[cycle(keeps)]
-fn is_normal_member(form: &Form, presence: &Presence, value: &Value) -> bool
+fn is_normal_member(form: &Form<'_>, presence: &Presence, value: &Value) -> bool
     requires { MemberIsWellFormed (presence_of presence.now) (shape_of form.now) (WellFormed (shape_of form.now)) }
     ensures { IsTrue result → IsNormalMember (presence_of presence.now) (shape_of form.now) (view value.now) }
 {
