@@ -112,7 +112,7 @@ pub fn perform(alloc: Global, kind: Kind, bytes: &[u8], run: Run<DocumentCall>) 
         Kind::Repositories => repeat_by_table::<RepositoryList>(alloc, bytes, run),
         Kind::Tags => repeat_by_table::<TagList>(alloc, bytes, run),
         Kind::Reference => repeat_by_table::<Reference>(alloc, bytes, run),
-        Kind::Spec => repeat::<Spec>(alloc, bytes, run),
+        Kind::Spec => repeat_by_table::<Spec>(alloc, bytes, run),
         Kind::State => repeat_by_table::<State>(alloc, bytes, run),
         Kind::ProcessState => repeat_by_table::<ContainerProcessState>(alloc, bytes, run),
         Kind::Features => repeat_by_table::<Features>(alloc, bytes, run),

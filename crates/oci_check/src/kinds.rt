@@ -1,8 +1,9 @@
 //! The forms of the kinds of documents.
-ghost use Rattle.std.specs.Prelude.{◌≡◌, IfSome};
+ghost use Rattle.std.specs.Prelude.{◌≡◌, IfOk};
 ghost use Rattle.oci_json_form.specs.Tables.{shape_of as form_shape};
 ghost use Rattle.oci_doc_run.specs.Kinds.{shape_of};
 
+use bumpalo::Bump;
 use oci_distribution::{ErrorResponse, RepositoryList, TagList};
 use oci_doc_run::Kind;
 use oci_features::Features;
@@ -13,25 +14,27 @@ use oci_image_manifest::{ArtifactManifest, ImageIndex, ImageManifest, OciLayout}
 use oci_json_form::Form;
 use oci_reference::Reference;
 use oci_runtime_lifecycle::{ContainerProcessState, State};
+use oci_runtime_spec::Spec;
+use std::alloc::AllocError;
 
-/// The form of a kind's documents; none of a container's configuration, whose table is no value yet.
-pub fn form_of(kind: Kind) -> Option<&'static Form<'static>>
-    ensures { IfSome result (λ f. form_shape f.now ≡ shape_of kind) }
+/// The form of a kind's documents. What of it is no constant is made in the room.
+pub fn form_of<'a>(kind: Kind, room: &'a Bump) -> Result<&'a Form<'a>, AllocError>
+    ensures { IfOk result (λ f. form_shape f.now ≡ shape_of kind) }
 {
     match kind {
-        Kind::Manifest => Some(ImageManifest::form()),
-        Kind::Index => Some(ImageIndex::form()),
-        Kind::Config => Some(ImageConfiguration::form()),
-        Kind::Artifact => Some(ArtifactManifest::form()),
-        Kind::Layout => Some(OciLayout::form()),
-        Kind::Descriptor => Some(Descriptor::form()),
-        Kind::Error => Some(ErrorResponse::form()),
-        Kind::Repositories => Some(RepositoryList::form()),
-        Kind::Tags => Some(TagList::form()),
-        Kind::Reference => Some(Reference::form()),
-        Kind::Spec => None,
-        Kind::State => Some(State::form()),
-        Kind::ProcessState => Some(ContainerProcessState::form()),
-        Kind::Features => Some(Features::form()),
+        Kind::Manifest => ImageManifest::table(room),
+        Kind::Index => ImageIndex::table(room),
+        Kind::Config => ImageConfiguration::table(room),
+        Kind::Artifact => ArtifactManifest::table(room),
+        Kind::Layout => OciLayout::table(room),
+        Kind::Descriptor => Descriptor::table(room),
+        Kind::Error => ErrorResponse::table(room),
+        Kind::Repositories => RepositoryList::table(room),
+        Kind::Tags => TagList::table(room),
+        Kind::Reference => Reference::table(room),
+        Kind::Spec => Spec::table(room),
+        Kind::State => State::table(room),
+        Kind::ProcessState => ContainerProcessState::table(room),
+        Kind::Features => Features::table(room),
     }
 }

@@ -7,19 +7,19 @@ mod kinds;
 mod report;
 
 use anyhow::Result;
+use bumpalo::Bump;
 use kinds::form_of;
 use oci_doc_run::Kind;
-use oci_json_form::Form;
 use report::judge;
 use std::env;
 use std::io::Read;
 use std::process::ExitCode;
 
 const USAGE: &str = "usage: ocicheck KIND < DOCUMENT
-KIND: manifest | index | config | artifact | layout | descriptor | error | repositories | tags | reference | state | process-state | features";
+KIND: manifest | index | config | artifact | layout | descriptor | error | repositories | tags | reference | spec | state | process-state | features";
 
-/// The form of the kind that the program's words ask for.
-fn asked<R: std::rt::Env + AllocGlobal>(rt: &R) -> Result<Option<&'static Form<'static>>> {
+/// The kind that the program's words ask for.
+fn asked<R: std::rt::Env + AllocGlobal>(rt: &R) -> Result<Option<Kind>> {
     let mut words = env::args(rt)?.skip(1);
     let Some(word) = words.next() else {
         return Ok(None);
@@ -27,19 +27,18 @@ fn asked<R: std::rt::Env + AllocGlobal>(rt: &R) -> Result<Option<&'static Form<'
     if words.next().is_some() {
         return Ok(None);
     }
-    match Kind::from_word(word.as_str()) {
-        Some(kind) => Ok(form_of(kind)),
-        None => Ok(None),
-    }
+    Ok(Kind::from_word(word.as_str()))
 }
 
 fn run(rt: &HostRuntime) -> Result<u8> {
-    let Some(form) = asked(rt)? else {
+    let Some(kind) = asked(rt)? else {
         eprintln!(rt; "{USAGE}")?;
         return Ok(2);
     };
     let mut bytes = Vec::new(rt.alloc());
     rt.stdin().read_to_end(&mut bytes)?;
+    let room = Bump::new(rt.alloc());
+    let form = form_of(kind, &room)?;
     let found = judge(form, bytes.as_slice(), rt.alloc())?;
     let lines = found.lines.as_str();
     print!(rt; "{lines}")?;

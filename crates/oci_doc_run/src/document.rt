@@ -9,7 +9,7 @@ ghost use Rattle.oci_doc_run.specs.Refusals.{TellsOfNormal, TellsOfPretty};
 use crate::kind::Kind;
 use crate::refusal::Refusal;
 use oci_forms::{Tabled, normalize};
-use oci_json::{OciRecord, from_reader, normalize as normalize_by_document, to_writer_pretty};
+use oci_json::{OciRecord, from_reader, to_writer_pretty};
 use oci_spec::distribution::{ErrorResponse, Reference, RepositoryList, TagList};
 use oci_spec::image::{
     ArtifactManifest, Descriptor, ImageConfiguration, ImageIndex, ImageManifest, OciLayout,
@@ -28,19 +28,6 @@ fn normal<T: Tabled, R: Read, W: Write>(
     ensures err { IfErr result (λ r. TellsOfNormal T.shape (R.remaining reader.old) (W.contents writer.old) (W.contents writer.new) r) }
 {
     normalize::<T, _, _>(alloc, &mut *reader, writer)?;
-    Ok(())
-}
-
-/// Reads a document whose record has no table, and writes its compact text.
-fn normal_by_document<T: OciRecord, R: Read, W: Write>(
-    alloc: Global,
-    reader: &mut R,
-    writer: &mut W,
-) -> Result<(), Refusal>
-    ensures ok { OnOk result (WritesDocument T.shape (R.remaining reader.old) (Appends (W.contents writer.old) (W.contents writer.new))) }
-    ensures err { IfErr result (λ r. TellsOfNormal T.shape (R.remaining reader.old) (W.contents writer.old) (W.contents writer.new) r) }
-{
-    normalize_by_document::<T, _, _>(alloc, &mut *reader, writer)?;
     Ok(())
 }
 
@@ -79,7 +66,7 @@ pub fn normal_of_kind<R: Read, W: Write>(
         Kind::Repositories => normal::<RepositoryList, _, _>(alloc, reader, writer),
         Kind::Tags => normal::<TagList, _, _>(alloc, reader, writer),
         Kind::Reference => normal::<Reference, _, _>(alloc, reader, writer),
-        Kind::Spec => normal_by_document::<Spec, _, _>(alloc, reader, writer),
+        Kind::Spec => normal::<Spec, _, _>(alloc, reader, writer),
         Kind::State => normal::<State, _, _>(alloc, reader, writer),
         Kind::ProcessState => normal::<ContainerProcessState, _, _>(alloc, reader, writer),
         Kind::Features => normal::<Features, _, _>(alloc, reader, writer),

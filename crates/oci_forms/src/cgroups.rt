@@ -1,5 +1,5 @@
 //! The forms of the records of `oci_cgroups`.
-use crate::Tabled;
+use crate::Formed;
 use crate::cgroups_devices::{LINUX_BLOCK_IO, LINUX_DEVICE_CGROUP};
 use crate::cgroups_network::{LINUX_NETWORK, LINUX_RDMA};
 use oci_cgroups::{LinuxCpu, LinuxHugepageLimit, LinuxMemory, LinuxPids, LinuxResources};
@@ -14,7 +14,7 @@ pub const LINUX_HUGEPAGE_LIMIT: Form<'static> = Form::Record(&[
 
 static LINUX_HUGEPAGE_LIMIT_FORM: Form<'static> = LINUX_HUGEPAGE_LIMIT;
 
-impl Tabled for LinuxHugepageLimit {
+impl Formed for LinuxHugepageLimit {
     fn form() -> &'static Form<'static> {
         &LINUX_HUGEPAGE_LIMIT_FORM
     }
@@ -29,7 +29,7 @@ pub const LINUX_PIDS: Form<'static> = Form::Record(&[row!(
 
 static LINUX_PIDS_FORM: Form<'static> = LINUX_PIDS;
 
-impl Tabled for LinuxPids {
+impl Formed for LinuxPids {
     fn form() -> &'static Form<'static> {
         &LINUX_PIDS_FORM
     }
@@ -50,7 +50,7 @@ pub const LINUX_MEMORY: Form<'static> = Form::Record(&[
 
 static LINUX_MEMORY_FORM: Form<'static> = LINUX_MEMORY;
 
-impl Tabled for LinuxMemory {
+impl Formed for LinuxMemory {
     fn form() -> &'static Form<'static> {
         &LINUX_MEMORY_FORM
     }
@@ -71,7 +71,7 @@ pub const LINUX_CPU: Form<'static> = Form::Record(&[
 
 static LINUX_CPU_FORM: Form<'static> = LINUX_CPU;
 
-impl Tabled for LinuxCpu {
+impl Formed for LinuxCpu {
     fn form() -> &'static Form<'static> {
         &LINUX_CPU_FORM
     }
@@ -100,7 +100,7 @@ pub const LINUX_RESOURCES: Form<'static> = Form::Record(&[
 
 static LINUX_RESOURCES_FORM: Form<'static> = LINUX_RESOURCES;
 
-impl Tabled for LinuxResources {
+impl Formed for LinuxResources {
     fn form() -> &'static Form<'static> {
         &LINUX_RESOURCES_FORM
     }

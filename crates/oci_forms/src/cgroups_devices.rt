@@ -1,5 +1,5 @@
 //! The forms of the records of `oci_cgroups_devices`.
-use crate::Tabled;
+use crate::Formed;
 use crate::names::LINUX_DEVICE_TYPE;
 use oci_cgroups_devices::{
     LinuxBlockIo, LinuxDeviceCgroup, LinuxThrottleDevice, LinuxWeightDevice,
@@ -18,7 +18,7 @@ pub const LINUX_DEVICE_CGROUP: Form<'static> = Form::Record(&[
 
 static LINUX_DEVICE_CGROUP_FORM: Form<'static> = LINUX_DEVICE_CGROUP;
 
-impl Tabled for LinuxDeviceCgroup {
+impl Formed for LinuxDeviceCgroup {
     fn form() -> &'static Form<'static> {
         &LINUX_DEVICE_CGROUP_FORM
     }
@@ -34,7 +34,7 @@ pub const LINUX_WEIGHT_DEVICE: Form<'static> = Form::Record(&[
 
 static LINUX_WEIGHT_DEVICE_FORM: Form<'static> = LINUX_WEIGHT_DEVICE;
 
-impl Tabled for LinuxWeightDevice {
+impl Formed for LinuxWeightDevice {
     fn form() -> &'static Form<'static> {
         &LINUX_WEIGHT_DEVICE_FORM
     }
@@ -49,7 +49,7 @@ pub const LINUX_THROTTLE_DEVICE: Form<'static> = Form::Record(&[
 
 static LINUX_THROTTLE_DEVICE_FORM: Form<'static> = LINUX_THROTTLE_DEVICE;
 
-impl Tabled for LinuxThrottleDevice {
+impl Formed for LinuxThrottleDevice {
     fn form() -> &'static Form<'static> {
         &LINUX_THROTTLE_DEVICE_FORM
     }
@@ -88,7 +88,7 @@ pub const LINUX_BLOCK_IO: Form<'static> = Form::Record(&[
 
 static LINUX_BLOCK_IO_FORM: Form<'static> = LINUX_BLOCK_IO;
 
-impl Tabled for LinuxBlockIo {
+impl Formed for LinuxBlockIo {
     fn form() -> &'static Form<'static> {
         &LINUX_BLOCK_IO_FORM
     }

@@ -1,5 +1,5 @@
 //! The forms of the records of `oci_cgroups_network`.
-use crate::Tabled;
+use crate::Formed;
 use oci_cgroups_network::{LinuxInterfacePriority, LinuxNetwork, LinuxRdma};
 use oci_json_form::forms::{TEXT, U32};
 use oci_json_form::{Absent, Form, Presence, Row};
@@ -12,7 +12,7 @@ pub const LINUX_INTERFACE_PRIORITY: Form<'static> = Form::Record(&[
 
 static LINUX_INTERFACE_PRIORITY_FORM: Form<'static> = LINUX_INTERFACE_PRIORITY;
 
-impl Tabled for LinuxInterfacePriority {
+impl Formed for LinuxInterfacePriority {
     fn form() -> &'static Form<'static> {
         &LINUX_INTERFACE_PRIORITY_FORM
     }
@@ -30,7 +30,7 @@ pub const LINUX_NETWORK: Form<'static> = Form::Record(&[
 
 static LINUX_NETWORK_FORM: Form<'static> = LINUX_NETWORK;
 
-impl Tabled for LinuxNetwork {
+impl Formed for LinuxNetwork {
     fn form() -> &'static Form<'static> {
         &LINUX_NETWORK_FORM
     }
@@ -44,7 +44,7 @@ pub const LINUX_RDMA: Form<'static> = Form::Record(&[
 
 static LINUX_RDMA_FORM: Form<'static> = LINUX_RDMA;
 
-impl Tabled for LinuxRdma {
+impl Formed for LinuxRdma {
     fn form() -> &'static Form<'static> {
         &LINUX_RDMA_FORM
     }

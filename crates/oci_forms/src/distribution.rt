@@ -1,5 +1,5 @@
 //! The forms of the records of `oci_distribution`.
-use crate::Tabled;
+use crate::Formed;
 use crate::names::ERROR_CODE;
 use oci_distribution::{ErrorInfo, ErrorResponse, RepositoryList, TagList};
 use oci_json_form::forms::{DETAIL, TEXT};
@@ -14,7 +14,7 @@ pub const ERROR_INFO: Form<'static> = Form::Record(&[
 
 static ERROR_INFO_FORM: Form<'static> = ERROR_INFO;
 
-impl Tabled for ErrorInfo {
+impl Formed for ErrorInfo {
     fn form() -> &'static Form<'static> {
         &ERROR_INFO_FORM
     }
@@ -29,7 +29,7 @@ pub const ERROR_RESPONSE: Form<'static> = Form::Record(&[row!(
 
 static ERROR_RESPONSE_FORM: Form<'static> = ERROR_RESPONSE;
 
-impl Tabled for ErrorResponse {
+impl Formed for ErrorResponse {
     fn form() -> &'static Form<'static> {
         &ERROR_RESPONSE_FORM
     }
@@ -44,7 +44,7 @@ pub const REPOSITORY_LIST: Form<'static> = Form::Record(&[row!(
 
 static REPOSITORY_LIST_FORM: Form<'static> = REPOSITORY_LIST;
 
-impl Tabled for RepositoryList {
+impl Formed for RepositoryList {
     fn form() -> &'static Form<'static> {
         &REPOSITORY_LIST_FORM
     }
@@ -58,7 +58,7 @@ pub const TAG_LIST: Form<'static> = Form::Record(&[
 
 static TAG_LIST_FORM: Form<'static> = TAG_LIST;
 
-impl Tabled for TagList {
+impl Formed for TagList {
     fn form() -> &'static Form<'static> {
         &TAG_LIST_FORM
     }

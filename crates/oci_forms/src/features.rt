@@ -1,5 +1,5 @@
 //! The forms of the records of `oci_features`.
-use crate::Tabled;
+use crate::Formed;
 use crate::features_linux::{
     APPARMOR, CGROUP, INTEL_RDT, MEMORY_POLICY, MOUNT_EXTENSIONS, NET_DEVICES, SECCOMP, SELINUX,
 };
@@ -28,7 +28,7 @@ pub const LINUX_FEATURE: Form<'static> = Form::Record(&[
 
 static LINUX_FEATURE_FORM: Form<'static> = LINUX_FEATURE;
 
-impl Tabled for LinuxFeature {
+impl Formed for LinuxFeature {
     fn form() -> &'static Form<'static> {
         &LINUX_FEATURE_FORM
     }
@@ -51,7 +51,7 @@ pub const FEATURES: Form<'static> = Form::Record(&[
 
 static FEATURES_FORM: Form<'static> = FEATURES;
 
-impl Tabled for Features {
+impl Formed for Features {
     fn form() -> &'static Form<'static> {
         &FEATURES_FORM
     }

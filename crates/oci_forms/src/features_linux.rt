@@ -1,5 +1,5 @@
 //! The forms of the records of `oci_features_linux`.
-use crate::Tabled;
+use crate::Formed;
 use crate::names::{LINUX_SECCOMP_ACTION, S_ARCH};
 use oci_features_linux::{
     Apparmor, Cgroup, IDMap, IntelRdt, MemoryPolicy, MountExtensions, NetDevices, Seccomp, Selinux,
@@ -18,7 +18,7 @@ pub const CGROUP: Form<'static> = Form::Record(&[
 
 static CGROUP_FORM: Form<'static> = CGROUP;
 
-impl Tabled for Cgroup {
+impl Formed for Cgroup {
     fn form() -> &'static Form<'static> {
         &CGROUP_FORM
     }
@@ -40,7 +40,7 @@ pub const SECCOMP: Form<'static> = Form::Record(&[
 
 static SECCOMP_FORM: Form<'static> = SECCOMP;
 
-impl Tabled for Seccomp {
+impl Formed for Seccomp {
     fn form() -> &'static Form<'static> {
         &SECCOMP_FORM
     }
@@ -51,7 +51,7 @@ pub const APPARMOR: Form<'static> = Form::Record(&[row!("enabled", Presence::Nul
 
 static APPARMOR_FORM: Form<'static> = APPARMOR;
 
-impl Tabled for Apparmor {
+impl Formed for Apparmor {
     fn form() -> &'static Form<'static> {
         &APPARMOR_FORM
     }
@@ -62,7 +62,7 @@ pub const SELINUX: Form<'static> = Form::Record(&[row!("enabled", Presence::Null
 
 static SELINUX_FORM: Form<'static> = SELINUX;
 
-impl Tabled for Selinux {
+impl Formed for Selinux {
     fn form() -> &'static Form<'static> {
         &SELINUX_FORM
     }
@@ -73,7 +73,7 @@ pub const ID_MAP: Form<'static> = Form::Record(&[row!("enabled", Presence::Nulla
 
 static ID_MAP_FORM: Form<'static> = ID_MAP;
 
-impl Tabled for IDMap {
+impl Formed for IDMap {
     fn form() -> &'static Form<'static> {
         &ID_MAP_FORM
     }
@@ -84,7 +84,7 @@ pub const NET_DEVICES: Form<'static> = Form::Record(&[row!("enabled", Presence::
 
 static NET_DEVICES_FORM: Form<'static> = NET_DEVICES;
 
-impl Tabled for NetDevices {
+impl Formed for NetDevices {
     fn form() -> &'static Form<'static> {
         &NET_DEVICES_FORM
     }
@@ -99,7 +99,7 @@ pub const INTEL_RDT: Form<'static> = Form::Record(&[
 
 static INTEL_RDT_FORM: Form<'static> = INTEL_RDT;
 
-impl Tabled for IntelRdt {
+impl Formed for IntelRdt {
     fn form() -> &'static Form<'static> {
         &INTEL_RDT_FORM
     }
@@ -113,7 +113,7 @@ pub const MEMORY_POLICY: Form<'static> = Form::Record(&[
 
 static MEMORY_POLICY_FORM: Form<'static> = MEMORY_POLICY;
 
-impl Tabled for MemoryPolicy {
+impl Formed for MemoryPolicy {
     fn form() -> &'static Form<'static> {
         &MEMORY_POLICY_FORM
     }
@@ -128,7 +128,7 @@ pub const MOUNT_EXTENSIONS: Form<'static> = Form::Record(&[row!(
 
 static MOUNT_EXTENSIONS_FORM: Form<'static> = MOUNT_EXTENSIONS;
 
-impl Tabled for MountExtensions {
+impl Formed for MountExtensions {
     fn form() -> &'static Form<'static> {
         &MOUNT_EXTENSIONS_FORM
     }

@@ -1,5 +1,5 @@
 //! The forms of the records of `oci_image_config`.
-use crate::Tabled;
+use crate::Formed;
 use oci_image_config::{Config, History, ImageConfiguration, RootFs};
 use oci_json_form::forms::{ARCH, KEYS, OS, TEXT, TRUTH};
 use oci_json_form::{Form, Presence, Row};
@@ -15,7 +15,7 @@ pub const HISTORY: Form<'static> = Form::Record(&[
 
 static HISTORY_FORM: Form<'static> = HISTORY;
 
-impl Tabled for History {
+impl Formed for History {
     fn form() -> &'static Form<'static> {
         &HISTORY_FORM
     }
@@ -29,7 +29,7 @@ pub const ROOT_FS: Form<'static> = Form::Record(&[
 
 static ROOT_FS_FORM: Form<'static> = ROOT_FS;
 
-impl Tabled for RootFs {
+impl Formed for RootFs {
     fn form() -> &'static Form<'static> {
         &ROOT_FS_FORM
     }
@@ -50,7 +50,7 @@ pub const CONFIG: Form<'static> = Form::Record(&[
 
 static CONFIG_FORM: Form<'static> = CONFIG;
 
-impl Tabled for Config {
+impl Formed for Config {
     fn form() -> &'static Form<'static> {
         &CONFIG_FORM
     }
@@ -72,7 +72,7 @@ pub const IMAGE_CONFIGURATION: Form<'static> = Form::Record(&[
 
 static IMAGE_CONFIGURATION_FORM: Form<'static> = IMAGE_CONFIGURATION;
 
-impl Tabled for ImageConfiguration {
+impl Formed for ImageConfiguration {
     fn form() -> &'static Form<'static> {
         &IMAGE_CONFIGURATION_FORM
     }

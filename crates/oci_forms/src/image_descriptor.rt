@@ -1,5 +1,5 @@
 //! The forms of the records of `oci_image_descriptor`.
-use crate::Tabled;
+use crate::Formed;
 use crate::image_platform::PLATFORM;
 use oci_image_descriptor::Descriptor;
 use oci_json_form::forms::{DIGEST, MEDIA_TYPE, TEXT, U64};
@@ -19,7 +19,7 @@ pub const DESCRIPTOR: Form<'static> = Form::Record(&[
 
 static DESCRIPTOR_FORM: Form<'static> = DESCRIPTOR;
 
-impl Tabled for Descriptor {
+impl Formed for Descriptor {
     fn form() -> &'static Form<'static> {
         &DESCRIPTOR_FORM
     }

@@ -1,5 +1,5 @@
 //! The forms of the records of `oci_image_manifest`.
-use crate::Tabled;
+use crate::Formed;
 use crate::image_descriptor::DESCRIPTOR;
 use oci_image_manifest::{ArtifactManifest, ImageIndex, ImageManifest, OciLayout};
 use oci_json_form::forms::{MEDIA_TYPE, TEXT, U32};
@@ -18,7 +18,7 @@ pub const IMAGE_MANIFEST: Form<'static> = Form::Record(&[
 
 static IMAGE_MANIFEST_FORM: Form<'static> = IMAGE_MANIFEST;
 
-impl Tabled for ImageManifest {
+impl Formed for ImageManifest {
     fn form() -> &'static Form<'static> {
         &IMAGE_MANIFEST_FORM
     }
@@ -35,7 +35,7 @@ pub const ARTIFACT_MANIFEST: Form<'static> = Form::Record(&[
 
 static ARTIFACT_MANIFEST_FORM: Form<'static> = ARTIFACT_MANIFEST;
 
-impl Tabled for ArtifactManifest {
+impl Formed for ArtifactManifest {
     fn form() -> &'static Form<'static> {
         &ARTIFACT_MANIFEST_FORM
     }
@@ -53,7 +53,7 @@ pub const IMAGE_INDEX: Form<'static> = Form::Record(&[
 
 static IMAGE_INDEX_FORM: Form<'static> = IMAGE_INDEX;
 
-impl Tabled for ImageIndex {
+impl Formed for ImageIndex {
     fn form() -> &'static Form<'static> {
         &IMAGE_INDEX_FORM
     }
@@ -68,7 +68,7 @@ pub const OCI_LAYOUT: Form<'static> = Form::Record(&[row!(
 
 static OCI_LAYOUT_FORM: Form<'static> = OCI_LAYOUT;
 
-impl Tabled for OciLayout {
+impl Formed for OciLayout {
     fn form() -> &'static Form<'static> {
         &OCI_LAYOUT_FORM
     }

@@ -1,5 +1,5 @@
 //! The forms of the records of `oci_image_platform`.
-use crate::Tabled;
+use crate::Formed;
 use oci_image_platform::Platform;
 use oci_json_form::forms::{ARCH, OS, TEXT};
 use oci_json_form::{Form, Presence, Row};
@@ -20,7 +20,7 @@ pub const PLATFORM: Form<'static> = Form::Record(&[
 
 static PLATFORM_FORM: Form<'static> = PLATFORM;
 
-impl Tabled for Platform {
+impl Formed for Platform {
     fn form() -> &'static Form<'static> {
         &PLATFORM_FORM
     }

@@ -1,5 +1,5 @@
-//! The forms of all records but `Linux` and `Spec`, each record's table as a value, and what is done by them: all faults of a
-//! document, and its normal form.
+//! The forms of all records, each record's table as a value, and what is done by them: all faults of a document, and its normal
+//! form.
 #![tactic(auto)]
 
 /// A listed member of a table: its name, with a second one behind a bar where it has one, how it is asked for, and its form.
@@ -22,8 +22,10 @@ pub mod image_config;
 pub mod image_descriptor;
 pub mod image_manifest;
 pub mod image_platform;
+mod linux;
 pub mod linux_namespaces;
 pub mod linux_policies;
+mod made;
 pub mod names;
 pub mod normal;
 pub mod platforms;
@@ -33,7 +35,8 @@ pub mod process_parts;
 pub mod reference;
 pub mod runtime_lifecycle;
 pub mod runtime_mounts;
+mod runtime_spec;
 pub mod tabled;
 
 pub use normal::{conform_as, normalize};
-pub use tabled::{Tabled, faults_of};
+pub use tabled::{Formed, Tabled, faults_of};

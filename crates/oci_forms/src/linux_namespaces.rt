@@ -1,5 +1,5 @@
 //! The forms of the records of `oci_linux_namespaces`.
-use crate::Tabled;
+use crate::Formed;
 use crate::names::{LINUX_DEVICE_TYPE, LINUX_NAMESPACE_TYPE};
 use oci_json_form::forms::{I64, TEXT, U32};
 use oci_json_form::{Absent, Form, Presence, Row};
@@ -16,7 +16,7 @@ pub const LINUX_ID_MAPPING: Form<'static> = Form::Record(&[
 
 static LINUX_ID_MAPPING_FORM: Form<'static> = LINUX_ID_MAPPING;
 
-impl Tabled for LinuxIdMapping {
+impl Formed for LinuxIdMapping {
     fn form() -> &'static Form<'static> {
         &LINUX_ID_MAPPING_FORM
     }
@@ -27,7 +27,7 @@ pub const LINUX_NET_DEVICE: Form<'static> = Form::Record(&[row!("name", Presence
 
 static LINUX_NET_DEVICE_FORM: Form<'static> = LINUX_NET_DEVICE;
 
-impl Tabled for LinuxNetDevice {
+impl Formed for LinuxNetDevice {
     fn form() -> &'static Form<'static> {
         &LINUX_NET_DEVICE_FORM
     }
@@ -41,7 +41,7 @@ pub const LINUX_NAMESPACE: Form<'static> = Form::Record(&[
 
 static LINUX_NAMESPACE_FORM: Form<'static> = LINUX_NAMESPACE;
 
-impl Tabled for LinuxNamespace {
+impl Formed for LinuxNamespace {
     fn form() -> &'static Form<'static> {
         &LINUX_NAMESPACE_FORM
     }
@@ -60,7 +60,7 @@ pub const LINUX_DEVICE: Form<'static> = Form::Record(&[
 
 static LINUX_DEVICE_FORM: Form<'static> = LINUX_DEVICE;
 
-impl Tabled for LinuxDevice {
+impl Formed for LinuxDevice {
     fn form() -> &'static Form<'static> {
         &LINUX_DEVICE_FORM
     }
@@ -74,7 +74,7 @@ pub const LINUX_TIME_OFFSET: Form<'static> = Form::Record(&[
 
 static LINUX_TIME_OFFSET_FORM: Form<'static> = LINUX_TIME_OFFSET;
 
-impl Tabled for LinuxTimeOffset {
+impl Formed for LinuxTimeOffset {
     fn form() -> &'static Form<'static> {
         &LINUX_TIME_OFFSET_FORM
     }

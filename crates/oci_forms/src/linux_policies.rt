@@ -1,5 +1,5 @@
 //! The forms of the records of `oci_linux_policies`.
-use crate::Tabled;
+use crate::Formed;
 use crate::names::{
     LINUX_PERSONALITY_DOMAIN, LINUX_SECCOMP_ACTION, LINUX_SECCOMP_FILTER_FLAG,
     LINUX_SECCOMP_OPERATOR, MEMORY_POLICY_FLAG_TYPE, MEMORY_POLICY_MODE_TYPE, S_ARCH,
@@ -20,7 +20,7 @@ pub const LINUX_SECCOMP_ARG: Form<'static> = Form::Record(&[
 
 static LINUX_SECCOMP_ARG_FORM: Form<'static> = LINUX_SECCOMP_ARG;
 
-impl Tabled for LinuxSeccompArg {
+impl Formed for LinuxSeccompArg {
     fn form() -> &'static Form<'static> {
         &LINUX_SECCOMP_ARG_FORM
     }
@@ -36,7 +36,7 @@ pub const LINUX_SYSCALL: Form<'static> = Form::Record(&[
 
 static LINUX_SYSCALL_FORM: Form<'static> = LINUX_SYSCALL;
 
-impl Tabled for LinuxSyscall {
+impl Formed for LinuxSyscall {
     fn form() -> &'static Form<'static> {
         &LINUX_SYSCALL_FORM
     }
@@ -59,7 +59,7 @@ pub const LINUX_SECCOMP: Form<'static> = Form::Record(&[
 
 static LINUX_SECCOMP_FORM: Form<'static> = LINUX_SECCOMP;
 
-impl Tabled for LinuxSeccomp {
+impl Formed for LinuxSeccomp {
     fn form() -> &'static Form<'static> {
         &LINUX_SECCOMP_FORM
     }
@@ -78,7 +78,7 @@ pub const LINUX_INTEL_RDT: Form<'static> = Form::Record(&[
 
 static LINUX_INTEL_RDT_FORM: Form<'static> = LINUX_INTEL_RDT;
 
-impl Tabled for LinuxIntelRdt {
+impl Formed for LinuxIntelRdt {
     fn form() -> &'static Form<'static> {
         &LINUX_INTEL_RDT_FORM
     }
@@ -92,7 +92,7 @@ pub const LINUX_PERSONALITY: Form<'static> = Form::Record(&[
 
 static LINUX_PERSONALITY_FORM: Form<'static> = LINUX_PERSONALITY;
 
-impl Tabled for LinuxPersonality {
+impl Formed for LinuxPersonality {
     fn form() -> &'static Form<'static> {
         &LINUX_PERSONALITY_FORM
     }
@@ -111,7 +111,7 @@ pub const LINUX_MEMORY_POLICY: Form<'static> = Form::Record(&[
 
 static LINUX_MEMORY_POLICY_FORM: Form<'static> = LINUX_MEMORY_POLICY;
 
-impl Tabled for LinuxMemoryPolicy {
+impl Formed for LinuxMemoryPolicy {
     fn form() -> &'static Form<'static> {
         &LINUX_MEMORY_POLICY_FORM
     }

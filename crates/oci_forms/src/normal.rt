@@ -11,6 +11,7 @@ ghost use Rattle.oci_json_engines.specs.Engines.{AppendsSome, KeepsUnlessIo, IsC
 ghost use Rattle.oci_json_normal.specs.Conformed.{IsNotConformed};
 
 use crate::Tabled;
+use bumpalo::Bump;
 use oci_json_conform::conform::conform;
 use oci_json_engines::{value_from_reader, write_text};
 use oci_json_form::check::conforms;
@@ -28,7 +29,8 @@ pub fn conform_as<T: Tabled>(value: Value, alloc: Global) -> Result<Value>
     ensures err { IfErr result (λ e. IsSchema e → IsNotConformed T.shape (view value)) }
     ensures kind { IfErr result IsMemoryOrSchema }
 {
-    let form = T::form();
+    let room = Bump::new(alloc);
+    let form = T::table(&room)?;
     if is_normal(form, &value) {
         return Ok(value);
     }

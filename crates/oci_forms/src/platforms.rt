@@ -1,5 +1,5 @@
 //! The forms of the records of `oci_platforms`.
-use crate::Tabled;
+use crate::Formed;
 use crate::names::ZOS_NAMESPACE_TYPE;
 use oci_json_form::forms::TEXT;
 use oci_json_form::{Form, Presence, Row};
@@ -21,7 +21,7 @@ pub const SOLARIS_ANET: Form<'static> = Form::Record(&[
 
 static SOLARIS_ANET_FORM: Form<'static> = SOLARIS_ANET;
 
-impl Tabled for SolarisAnet {
+impl Formed for SolarisAnet {
     fn form() -> &'static Form<'static> {
         &SOLARIS_ANET_FORM
     }
@@ -36,7 +36,7 @@ pub const SOLARIS_CAPPED_CPU: Form<'static> = Form::Record(&[row!(
 
 static SOLARIS_CAPPED_CPU_FORM: Form<'static> = SOLARIS_CAPPED_CPU;
 
-impl Tabled for SolarisCappedCPU {
+impl Formed for SolarisCappedCPU {
     fn form() -> &'static Form<'static> {
         &SOLARIS_CAPPED_CPU_FORM
     }
@@ -50,7 +50,7 @@ pub const SOLARIS_CAPPED_MEMORY: Form<'static> = Form::Record(&[
 
 static SOLARIS_CAPPED_MEMORY_FORM: Form<'static> = SOLARIS_CAPPED_MEMORY;
 
-impl Tabled for SolarisCappedMemory {
+impl Formed for SolarisCappedMemory {
     fn form() -> &'static Form<'static> {
         &SOLARIS_CAPPED_MEMORY_FORM
     }
@@ -68,7 +68,7 @@ pub const SOLARIS: Form<'static> = Form::Record(&[
 
 static SOLARIS_FORM: Form<'static> = SOLARIS;
 
-impl Tabled for Solaris {
+impl Formed for Solaris {
     fn form() -> &'static Form<'static> {
         &SOLARIS_FORM
     }
@@ -82,7 +82,7 @@ pub const VM_HYPERVISOR: Form<'static> = Form::Record(&[
 
 static VM_HYPERVISOR_FORM: Form<'static> = VM_HYPERVISOR;
 
-impl Tabled for VMHypervisor {
+impl Formed for VMHypervisor {
     fn form() -> &'static Form<'static> {
         &VM_HYPERVISOR_FORM
     }
@@ -97,7 +97,7 @@ pub const VM_KERNEL: Form<'static> = Form::Record(&[
 
 static VM_KERNEL_FORM: Form<'static> = VM_KERNEL;
 
-impl Tabled for VMKernel {
+impl Formed for VMKernel {
     fn form() -> &'static Form<'static> {
         &VM_KERNEL_FORM
     }
@@ -111,7 +111,7 @@ pub const VM_IMAGE: Form<'static> = Form::Record(&[
 
 static VM_IMAGE_FORM: Form<'static> = VM_IMAGE;
 
-impl Tabled for VMImage {
+impl Formed for VMImage {
     fn form() -> &'static Form<'static> {
         &VM_IMAGE_FORM
     }
@@ -126,7 +126,7 @@ pub const VM: Form<'static> = Form::Record(&[
 
 static VM_FORM: Form<'static> = VM;
 
-impl Tabled for VM {
+impl Formed for VM {
     fn form() -> &'static Form<'static> {
         &VM_FORM
     }
@@ -140,7 +140,7 @@ pub const ZOS_NAMESPACE: Form<'static> = Form::Record(&[
 
 static ZOS_NAMESPACE_FORM: Form<'static> = ZOS_NAMESPACE;
 
-impl Tabled for ZOSNamespace {
+impl Formed for ZOSNamespace {
     fn form() -> &'static Form<'static> {
         &ZOS_NAMESPACE_FORM
     }
@@ -155,7 +155,7 @@ pub const ZOS: Form<'static> = Form::Record(&[row!(
 
 static ZOS_FORM: Form<'static> = ZOS;
 
-impl Tabled for ZOS {
+impl Formed for ZOS {
     fn form() -> &'static Form<'static> {
         &ZOS_FORM
     }

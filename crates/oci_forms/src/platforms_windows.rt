@@ -1,5 +1,5 @@
 //! The forms of the records of `oci_platforms_windows`.
-use crate::Tabled;
+use crate::Formed;
 use oci_json_form::forms::{FREE_VALUES, TEXT, TRUTH, U16, U64};
 use oci_json_form::{Form, Presence, Row};
 use oci_platforms_windows::{
@@ -15,7 +15,7 @@ pub const WINDOWS_DEVICE: Form<'static> = Form::Record(&[
 
 static WINDOWS_DEVICE_FORM: Form<'static> = WINDOWS_DEVICE;
 
-impl Tabled for WindowsDevice {
+impl Formed for WindowsDevice {
     fn form() -> &'static Form<'static> {
         &WINDOWS_DEVICE_FORM
     }
@@ -30,7 +30,7 @@ pub const WINDOWS_MEMORY_RESOURCES: Form<'static> = Form::Record(&[row!(
 
 static WINDOWS_MEMORY_RESOURCES_FORM: Form<'static> = WINDOWS_MEMORY_RESOURCES;
 
-impl Tabled for WindowsMemoryResources {
+impl Formed for WindowsMemoryResources {
     fn form() -> &'static Form<'static> {
         &WINDOWS_MEMORY_RESOURCES_FORM
     }
@@ -45,7 +45,7 @@ pub const WINDOWS_CPU_RESOURCES: Form<'static> = Form::Record(&[
 
 static WINDOWS_CPU_RESOURCES_FORM: Form<'static> = WINDOWS_CPU_RESOURCES;
 
-impl Tabled for WindowsCPUResources {
+impl Formed for WindowsCPUResources {
     fn form() -> &'static Form<'static> {
         &WINDOWS_CPU_RESOURCES_FORM
     }
@@ -60,7 +60,7 @@ pub const WINDOWS_STORAGE_RESOURCES: Form<'static> = Form::Record(&[
 
 static WINDOWS_STORAGE_RESOURCES_FORM: Form<'static> = WINDOWS_STORAGE_RESOURCES;
 
-impl Tabled for WindowsStorageResources {
+impl Formed for WindowsStorageResources {
     fn form() -> &'static Form<'static> {
         &WINDOWS_STORAGE_RESOURCES_FORM
     }
@@ -75,7 +75,7 @@ pub const WINDOWS_RESOURCES: Form<'static> = Form::Record(&[
 
 static WINDOWS_RESOURCES_FORM: Form<'static> = WINDOWS_RESOURCES;
 
-impl Tabled for WindowsResources {
+impl Formed for WindowsResources {
     fn form() -> &'static Form<'static> {
         &WINDOWS_RESOURCES_FORM
     }
@@ -90,7 +90,7 @@ pub const WINDOWS_HYPER_V: Form<'static> = Form::Record(&[row!(
 
 static WINDOWS_HYPER_V_FORM: Form<'static> = WINDOWS_HYPER_V;
 
-impl Tabled for WindowsHyperV {
+impl Formed for WindowsHyperV {
     fn form() -> &'static Form<'static> {
         &WINDOWS_HYPER_V_FORM
     }
@@ -107,7 +107,7 @@ pub const WINDOWS_NETWORK: Form<'static> = Form::Record(&[
 
 static WINDOWS_NETWORK_FORM: Form<'static> = WINDOWS_NETWORK;
 
-impl Tabled for WindowsNetwork {
+impl Formed for WindowsNetwork {
     fn form() -> &'static Form<'static> {
         &WINDOWS_NETWORK_FORM
     }
@@ -127,7 +127,7 @@ pub const WINDOWS: Form<'static> = Form::Record(&[
 
 static WINDOWS_FORM: Form<'static> = WINDOWS;
 
-impl Tabled for Windows {
+impl Formed for Windows {
     fn form() -> &'static Form<'static> {
         &WINDOWS_FORM
     }

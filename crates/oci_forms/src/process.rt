@@ -1,5 +1,5 @@
 //! The forms of the records of `oci_process`.
-use crate::Tabled;
+use crate::Formed;
 use crate::process_parts::{
     CONSOLE_BOX, EXEC_CPU_AFFINITY, LINUX_CAPABILITIES, LINUX_IO_PRIORITY, POSIX_RLIMIT, SCHEDULER,
     USER,
@@ -30,7 +30,7 @@ pub const PROCESS: Form<'static> = Form::Record(&[
 
 static PROCESS_FORM: Form<'static> = PROCESS;
 
-impl Tabled for Process {
+impl Formed for Process {
     fn form() -> &'static Form<'static> {
         &PROCESS_FORM
     }

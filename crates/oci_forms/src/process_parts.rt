@@ -1,5 +1,5 @@
 //! The forms of the records of `oci_process_parts`.
-use crate::Tabled;
+use crate::Formed;
 use crate::names::{
     IO_PRIORITY_CLASS, LINUX_SCHEDULER_FLAG, LINUX_SCHEDULER_POLICY, POSIX_RLIMIT_TYPE,
 };
@@ -17,7 +17,7 @@ pub const CONSOLE_BOX: Form<'static> = Form::Record(&[
 
 static CONSOLE_BOX_FORM: Form<'static> = CONSOLE_BOX;
 
-impl Tabled for Box {
+impl Formed for Box {
     fn form() -> &'static Form<'static> {
         &CONSOLE_BOX_FORM
     }
@@ -32,7 +32,7 @@ pub const POSIX_RLIMIT: Form<'static> = Form::Record(&[
 
 static POSIX_RLIMIT_FORM: Form<'static> = POSIX_RLIMIT;
 
-impl Tabled for PosixRlimit {
+impl Formed for PosixRlimit {
     fn form() -> &'static Form<'static> {
         &POSIX_RLIMIT_FORM
     }
@@ -49,7 +49,7 @@ pub const USER: Form<'static> = Form::Record(&[
 
 static USER_FORM: Form<'static> = USER;
 
-impl Tabled for User {
+impl Formed for User {
     fn form() -> &'static Form<'static> {
         &USER_FORM
     }
@@ -66,7 +66,7 @@ pub const LINUX_CAPABILITIES: Form<'static> = Form::Record(&[
 
 static LINUX_CAPABILITIES_FORM: Form<'static> = LINUX_CAPABILITIES;
 
-impl Tabled for LinuxCapabilities {
+impl Formed for LinuxCapabilities {
     fn form() -> &'static Form<'static> {
         &LINUX_CAPABILITIES_FORM
     }
@@ -84,7 +84,7 @@ pub const LINUX_IO_PRIORITY: Form<'static> = Form::Record(&[
 
 static LINUX_IO_PRIORITY_FORM: Form<'static> = LINUX_IO_PRIORITY;
 
-impl Tabled for LinuxIOPriority {
+impl Formed for LinuxIOPriority {
     fn form() -> &'static Form<'static> {
         &LINUX_IO_PRIORITY_FORM
     }
@@ -107,7 +107,7 @@ pub const SCHEDULER: Form<'static> = Form::Record(&[
 
 static SCHEDULER_FORM: Form<'static> = SCHEDULER;
 
-impl Tabled for Scheduler {
+impl Formed for Scheduler {
     fn form() -> &'static Form<'static> {
         &SCHEDULER_FORM
     }
@@ -121,7 +121,7 @@ pub const EXEC_CPU_AFFINITY: Form<'static> = Form::Record(&[
 
 static EXEC_CPU_AFFINITY_FORM: Form<'static> = EXEC_CPU_AFFINITY;
 
-impl Tabled for ExecCPUAffinity {
+impl Formed for ExecCPUAffinity {
     fn form() -> &'static Form<'static> {
         &EXEC_CPU_AFFINITY_FORM
     }

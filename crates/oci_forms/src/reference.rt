@@ -1,5 +1,5 @@
 //! The form of references as documents.
-use crate::Tabled;
+use crate::Formed;
 use oci_json_form::forms::TEXT;
 use oci_json_form::{Form, Presence, Row};
 use oci_reference::Reference;
@@ -15,7 +15,7 @@ pub const REFERENCE: Form<'static> = Form::Record(&[
 
 static REFERENCE_FORM: Form<'static> = REFERENCE;
 
-impl Tabled for Reference {
+impl Formed for Reference {
     fn form() -> &'static Form<'static> {
         &REFERENCE_FORM
     }

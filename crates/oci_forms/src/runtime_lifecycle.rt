@@ -1,5 +1,5 @@
 //! The forms of the records of `oci_runtime_lifecycle`.
-use crate::Tabled;
+use crate::Formed;
 use crate::names::CONTAINER_STATE;
 use oci_json_form::forms::{I32, I64, TEXT};
 use oci_json_form::{Absent, Form, Presence, Row};
@@ -15,7 +15,7 @@ pub const HOOK: Form<'static> = Form::Record(&[
 
 static HOOK_FORM: Form<'static> = HOOK;
 
-impl Tabled for Hook {
+impl Formed for Hook {
     fn form() -> &'static Form<'static> {
         &HOOK_FORM
     }
@@ -33,7 +33,7 @@ pub const HOOKS: Form<'static> = Form::Record(&[
 
 static HOOKS_FORM: Form<'static> = HOOKS;
 
-impl Tabled for Hooks {
+impl Formed for Hooks {
     fn form() -> &'static Form<'static> {
         &HOOKS_FORM
     }
@@ -55,7 +55,7 @@ pub const STATE: Form<'static> = Form::Record(&[
 
 static STATE_FORM: Form<'static> = STATE;
 
-impl Tabled for State {
+impl Formed for State {
     fn form() -> &'static Form<'static> {
         &STATE_FORM
     }
@@ -87,7 +87,7 @@ pub const CONTAINER_PROCESS_STATE: Form<'static> = Form::Record(&[
 
 static CONTAINER_PROCESS_STATE_FORM: Form<'static> = CONTAINER_PROCESS_STATE;
 
-impl Tabled for ContainerProcessState {
+impl Formed for ContainerProcessState {
     fn form() -> &'static Form<'static> {
         &CONTAINER_PROCESS_STATE_FORM
     }

@@ -1,5 +1,5 @@
 //! The forms of the records of `oci_runtime_mounts`.
-use crate::Tabled;
+use crate::Formed;
 use crate::linux_namespaces::LINUX_ID_MAPPING;
 use oci_json_form::forms::{TEXT, TRUTH};
 use oci_json_form::{Absent, Form, Presence, Row};
@@ -13,7 +13,7 @@ pub const ROOT: Form<'static> = Form::Record(&[
 
 static ROOT_FORM: Form<'static> = ROOT;
 
-impl Tabled for Root {
+impl Formed for Root {
     fn form() -> &'static Form<'static> {
         &ROOT_FORM
     }
@@ -39,7 +39,7 @@ pub const MOUNT: Form<'static> = Form::Record(&[
 
 static MOUNT_FORM: Form<'static> = MOUNT;
 
-impl Tabled for Mount {
+impl Formed for Mount {
     fn form() -> &'static Form<'static> {
         &MOUNT_FORM
     }

@@ -14,7 +14,7 @@
 mod found;
 mod rows;
 
-use rows::{documents, rows};
+use rows::rows;
 use std::rt::Files;
 
 fn image<R: Files + Print + AllocGlobal>(rt: &R) {
@@ -54,7 +54,7 @@ fn control_groups<R: Files + Print + AllocGlobal>(rt: &R) {
 }
 
 fn linux<R: Files + Print + AllocGlobal>(rt: &R) {
-    documents::<oci_linux::Linux, R>(rt, "Linux");
+    rows::<oci_linux::Linux, R>(rt, "Linux");
     rows::<oci_linux::LinuxIdMapping, R>(rt, "LinuxIdMapping");
     rows::<oci_linux::LinuxNetDevice, R>(rt, "LinuxNetDevice");
     rows::<oci_linux::LinuxNamespace, R>(rt, "LinuxNamespace");
@@ -115,7 +115,7 @@ fn features<R: Files + Print + AllocGlobal>(rt: &R) {
 }
 
 fn containers<R: Files + Print + AllocGlobal>(rt: &R) {
-    documents::<oci_runtime::Spec, R>(rt, "Spec");
+    rows::<oci_runtime::Spec, R>(rt, "Spec");
     rows::<oci_runtime::Root, R>(rt, "Root");
     rows::<oci_runtime::Mount, R>(rt, "Mount");
     rows::<oci_runtime::Hooks, R>(rt, "Hooks");

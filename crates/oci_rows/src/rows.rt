@@ -9,16 +9,11 @@ use std::rt::Files;
 
 /// Checks the rows of a record, by its table too, and prints each that differs, and how many there are.
 pub fn rows<T: Tabled, R: Files + Print + AllocGlobal>(rt: &R, record: &str) {
-    documents::<T, R>(rt, record);
-    if let Err(fault) = check_table::<T, R>(rt, record) {
-        let _ = println!(rt; "{record}, by its table: {fault}");
-    }
-}
-
-/// The same of a record that has no table.
-pub fn documents<T: OciRecord, R: Files + Print + AllocGlobal>(rt: &R, record: &str) {
     if let Err(fault) = check_rows::<T, R>(rt, record) {
         let _ = println!(rt; "{record}: {fault}");
+    }
+    if let Err(fault) = check_table::<T, R>(rt, record) {
+        let _ = println!(rt; "{record}, by its table: {fault}");
     }
 }
 

@@ -7,5 +7,5 @@ use Rattle.oci_forms.proofs.normal.conform_as.Goals as goal
 
 pub returns-then-is_normal-clause-ok : goal.returns-then-is_normal-clause-ok
 returns-then-is_normal-clause-ok g c =
-    let h = subst (λ s. IsNormal s (view c.args.value)) c.form-form.ensures (c.is_normal.ensures c.if-is_normal.true) in
+    let h = subst (λ s. IsNormal s (view c.args.value)) c.in_ok-form.ensures (c.is_normal.ensures c.if-is_normal.true) in
     answers_all {E = OciSpecError} (Ok c.args.value) g.T.OciRecord.shape (view c.args.value) g.met.T.OciRecord.well_formed (h.0, sym h.1)

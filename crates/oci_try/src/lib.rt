@@ -1,0 +1,25 @@
+//! The forms of all records, each record's table as a value, and what is done by them: all faults of a document, and its normal
+//! form.
+#![tactic(auto)]
+
+/// A listed member of a table: its name, with a second one behind a bar where it has one, how it is asked for, and its form.
+macro_rules! row {
+    ($name:literal | $second:literal, $presence:expr, $form:expr) => {
+        Row { name: $name, second: Some($second), presence: $presence, form: &$form }
+    };
+    ($name:literal, $presence:expr, $form:expr) => {
+        Row { name: $name, second: None, presence: $presence, form: &$form }
+    };
+}
+
+pub mod cgroups;
+pub mod cgroups_devices;
+pub mod cgroups_network;
+mod linux;
+pub mod linux_namespaces;
+pub mod linux_policies;
+mod made;
+pub mod names;
+pub mod tabled;
+
+pub use tabled::{Formed, Tabled, faults_of};

@@ -1,0 +1,67 @@
+//! Parts of tables that are made where they are used.
+ghost use Rattle.std.specs.Prelude.{◌≡◌, IfOk};
+ghost use Rattle.oci_json_schema.specs.Shape.{text as text_shape, list as list_shape, map as map_shape, rows as rows_shape};
+ghost use Rattle.oci_json_form.specs.Tables.{shape_of, rows_of};
+
+use crate::Tabled;
+use bumpalo::Bump;
+use oci_json_form::forms::TEXT;
+use oci_json_form::{Form, Row};
+use std::alloc::AllocError;
+
+static TEXT_FORM: Form<'static> = TEXT;
+
+/// A text.
+pub fn text<'a>() -> &'a Form<'a>
+    ensures { shape_of result.now ≡ text_shape }
+{
+    &TEXT_FORM
+}
+
+/// A list of texts.
+pub fn texts<'a>(room: &'a Bump) -> Result<&'a Form<'a>, AllocError>
+    ensures { IfOk result (λ f. shape_of f.now ≡ list_shape text_shape) }
+{
+    list(room, text())
+}
+
+/// An object of texts.
+pub fn map_of_texts<'a>(room: &'a Bump) -> Result<&'a Form<'a>, AllocError>
+    ensures { IfOk result (λ f. shape_of f.now ≡ map_shape text_shape) }
+{
+    map(room, text())
+}
+
+/// A list of a record's documents.
+pub fn list_of<'a, T: Tabled>(room: &'a Bump) -> Result<&'a Form<'a>, AllocError>
+    ensures { IfOk result (λ f. shape_of f.now ≡ list_shape T.shape) }
+{
+    list(room, T::table(room)?)
+}
+
+/// An object of a record's documents.
+pub fn map_of<'a, T: Tabled>(room: &'a Bump) -> Result<&'a Form<'a>, AllocError>
+    ensures { IfOk result (λ f. shape_of f.now ≡ map_shape T.shape) }
+{
+    map(room, T::table(room)?)
+}
+
+/// An object with these members.
+pub fn record<'a>(room: &'a Bump, rows: &[Row<'a>]) -> Result<&'a Form<'a>, AllocError>
+    ensures { IfOk result (λ f. shape_of f.now ≡ rows_shape (rows_of rows.now)) }
+{
+    let rows = room.try_alloc_slice_copy(rows)?;
+    Ok(room.try_alloc(Form::Record(rows))?)
+}
+
+fn list<'a>(room: &'a Bump, item: &'a Form<'a>) -> Result<&'a Form<'a>, AllocError>
+    ensures { IfOk result (λ f. shape_of f.now ≡ list_shape (shape_of item.now)) }
+{
+    Ok(room.try_alloc(Form::List(item))?)
+}
+
+fn map<'a>(room: &'a Bump, member: &'a Form<'a>) -> Result<&'a Form<'a>, AllocError>
+    ensures { IfOk result (λ f. shape_of f.now ≡ map_shape (shape_of member.now)) }
+{
+    Ok(room.try_alloc(Form::Map(member))?)
+}
