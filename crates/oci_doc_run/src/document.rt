@@ -2,13 +2,13 @@
 ghost use Rattle.std.specs.Prelude.{OnOk, IfErr};
 ghost use Rattle.std.specs.Io.KnownBytes.{Appends};
 ghost use Rattle.oci_spec.specs.Engines.{WritesDocument};
+ghost use Rattle.oci_forms.specs.Pretty.{WritesPretty};
 ghost use Rattle.oci_doc_run.specs.Kinds.{shape_of};
-ghost use Rattle.oci_doc_run.specs.Outputs.{WritesPretty};
 ghost use Rattle.oci_doc_run.specs.Refusals.{TellsOfNormal, TellsOfPretty};
 
 use crate::kind::Kind;
 use crate::refusal::Refusal;
-use oci_forms::{Tabled, normalize};
+use oci_forms::{Tabled, normalize, normalize_pretty};
 use oci_json::{OciRecord, from_reader, normalize as normalize_by_document, to_writer_pretty};
 use oci_spec::distribution::{ErrorResponse, Reference, RepositoryList, TagList};
 use oci_spec::image::{
@@ -44,8 +44,21 @@ fn normal_by_document<T: OciRecord, R: Read, W: Write>(
     Ok(())
 }
 
-/// Reads a document, and writes its pretty text.
-fn pretty<T: OciRecord, R: Read, W: Write>(
+/// Reads a document, and writes its pretty text, by its record's table.
+fn pretty<T: Tabled, R: Read, W: Write>(
+    alloc: Global,
+    reader: &mut R,
+    writer: &mut W,
+) -> Result<(), Refusal>
+    ensures ok { OnOk result (WritesPretty T.shape (R.remaining reader.old) (Appends (W.contents writer.old) (W.contents writer.new))) }
+    ensures err { IfErr result (λ r. TellsOfPretty T.shape (R.remaining reader.old) (W.contents writer.old) (W.contents writer.new) r) }
+{
+    normalize_pretty::<T, _, _>(alloc, &mut *reader, writer)?;
+    Ok(())
+}
+
+/// Reads a document whose record has no table, and writes its pretty text.
+fn pretty_by_document<T: OciRecord, R: Read, W: Write>(
     alloc: Global,
     reader: &mut R,
     writer: &mut W,
@@ -107,7 +120,7 @@ pub fn pretty_of_kind<R: Read, W: Write>(
         Kind::Repositories => pretty::<RepositoryList, _, _>(alloc, reader, writer),
         Kind::Tags => pretty::<TagList, _, _>(alloc, reader, writer),
         Kind::Reference => pretty::<Reference, _, _>(alloc, reader, writer),
-        Kind::Spec => pretty::<Spec, _, _>(alloc, reader, writer),
+        Kind::Spec => pretty_by_document::<Spec, _, _>(alloc, reader, writer),
         Kind::State => pretty::<State, _, _>(alloc, reader, writer),
         Kind::ProcessState => pretty::<ContainerProcessState, _, _>(alloc, reader, writer),
         Kind::Features => pretty::<Features, _, _>(alloc, reader, writer),

@@ -7,7 +7,7 @@ use oci_json_form::forms::{I64, TEXT, TRUTH, U64};
 use oci_json_form::{Absent, Form, Presence, Row};
 
 /// How much of the huge pages of one size a container may use (runtime specification, "Linux Container Configuration", "Huge page limits").
-pub const LINUX_HUGEPAGE_LIMIT: Form = Form::Record(&[
+pub const LINUX_HUGEPAGE_LIMIT: Form = Form::Record("LinuxHugepageLimit", &[
     row!("pageSize", Presence::Defaulted(Absent::Text("")), TEXT),
     row!("limit", Presence::Defaulted(Absent::Whole(0)), I64),
 ]);
@@ -21,7 +21,7 @@ impl Tabled for LinuxHugepageLimit {
 }
 
 /// How many tasks a container may have (runtime specification, "Linux Container Configuration", "PIDs").
-pub const LINUX_PIDS: Form = Form::Record(&[row!(
+pub const LINUX_PIDS: Form = Form::Record("LinuxPids", &[row!(
     "limit",
     Presence::Defaulted(Absent::Whole(0)),
     I64
@@ -36,7 +36,7 @@ impl Tabled for LinuxPids {
 }
 
 /// How much memory a container may use (runtime specification, "Linux Container Configuration", "Memory").
-pub const LINUX_MEMORY: Form = Form::Record(&[
+pub const LINUX_MEMORY: Form = Form::Record("LinuxMemory", &[
     row!("limit", Presence::Optional, I64),
     row!("reservation", Presence::Optional, I64),
     row!("swap", Presence::Optional, I64),
@@ -57,7 +57,7 @@ impl Tabled for LinuxMemory {
 }
 
 /// How much time on which processors a container may use (runtime specification, "Linux Container Configuration", "CPU").
-pub const LINUX_CPU: Form = Form::Record(&[
+pub const LINUX_CPU: Form = Form::Record("LinuxCpu", &[
     row!("shares", Presence::Optional, U64),
     row!("quota", Presence::Optional, I64),
     row!("idle", Presence::Optional, I64),
@@ -78,7 +78,7 @@ impl Tabled for LinuxCpu {
 }
 
 /// What a container may use of its host (runtime specification, "Linux Container Configuration", "Control groups").
-pub const LINUX_RESOURCES: Form = Form::Record(&[
+pub const LINUX_RESOURCES: Form = Form::Record("LinuxResources", &[
     row!(
         "devices",
         Presence::Optional,

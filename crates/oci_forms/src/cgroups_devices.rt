@@ -8,7 +8,7 @@ use oci_json_form::forms::{I64, TEXT, TRUTH, U16, U64};
 use oci_json_form::{Absent, Form, Presence, Row};
 
 /// A rule for which devices a container may use, and how (runtime specification, "Linux Container Configuration", "Allowed Device list").
-pub const LINUX_DEVICE_CGROUP: Form = Form::Record(&[
+pub const LINUX_DEVICE_CGROUP: Form = Form::Record("LinuxDeviceCgroup", &[
     row!("allow", Presence::Defaulted(Absent::Truth(false)), TRUTH),
     row!("type", Presence::Optional, LINUX_DEVICE_TYPE),
     row!("major", Presence::Optional, I64),
@@ -25,7 +25,7 @@ impl Tabled for LinuxDeviceCgroup {
 }
 
 /// The share that a container has of one device's input and output (runtime specification, "Linux Container Configuration", "Block IO").
-pub const LINUX_WEIGHT_DEVICE: Form = Form::Record(&[
+pub const LINUX_WEIGHT_DEVICE: Form = Form::Record("LinuxWeightDevice", &[
     row!("major", Presence::Defaulted(Absent::Whole(0)), I64),
     row!("minor", Presence::Defaulted(Absent::Whole(0)), I64),
     row!("weight", Presence::Optional, U16),
@@ -41,7 +41,7 @@ impl Tabled for LinuxWeightDevice {
 }
 
 /// The most that a container may read from or write to one device (runtime specification, "Linux Container Configuration", "Block IO").
-pub const LINUX_THROTTLE_DEVICE: Form = Form::Record(&[
+pub const LINUX_THROTTLE_DEVICE: Form = Form::Record("LinuxThrottleDevice", &[
     row!("major", Presence::Defaulted(Absent::Whole(0)), I64),
     row!("minor", Presence::Defaulted(Absent::Whole(0)), I64),
     row!("rate", Presence::Defaulted(Absent::Whole(0)), U64),
@@ -56,7 +56,7 @@ impl Tabled for LinuxThrottleDevice {
 }
 
 /// What a container may read from and write to block devices (runtime specification, "Linux Container Configuration", "Block IO").
-pub const LINUX_BLOCK_IO: Form = Form::Record(&[
+pub const LINUX_BLOCK_IO: Form = Form::Record("LinuxBlockIo", &[
     row!("weight", Presence::Optional, U16),
     row!("leafWeight", Presence::Optional, U16),
     row!(

@@ -5,7 +5,7 @@ use oci_json_form::forms::{TEXT, U32};
 use oci_json_form::{Absent, Form, Presence, Row};
 
 /// The priority of a container's traffic on one network interface (runtime specification, "Linux Container Configuration", "Network").
-pub const LINUX_INTERFACE_PRIORITY: Form = Form::Record(&[
+pub const LINUX_INTERFACE_PRIORITY: Form = Form::Record("LinuxInterfacePriority", &[
     row!("name", Presence::Defaulted(Absent::Text("")), TEXT),
     row!("priority", Presence::Defaulted(Absent::Whole(0)), U32),
 ]);
@@ -19,7 +19,7 @@ impl Tabled for LinuxInterfacePriority {
 }
 
 /// How a container's network traffic is marked and ranked (runtime specification, "Linux Container Configuration", "Network").
-pub const LINUX_NETWORK: Form = Form::Record(&[
+pub const LINUX_NETWORK: Form = Form::Record("LinuxNetwork", &[
     row!("classID", Presence::Optional, U32),
     row!(
         "priorities",
@@ -37,7 +37,7 @@ impl Tabled for LinuxNetwork {
 }
 
 /// What a container may use of one device for remote direct memory access (runtime specification, "Linux Container Configuration", "RDMA").
-pub const LINUX_RDMA: Form = Form::Record(&[
+pub const LINUX_RDMA: Form = Form::Record("LinuxRdma", &[
     row!("hcaHandles", Presence::Optional, U32),
     row!("hcaObjects", Presence::Optional, U32),
 ]);

@@ -6,7 +6,7 @@ use oci_json_form::forms::{DETAIL, TEXT};
 use oci_json_form::{Form, Presence, Row};
 
 /// One error of a registry's reply (distribution specification, "Error Codes").
-pub const ERROR_INFO: Form = Form::Record(&[
+pub const ERROR_INFO: Form = Form::Record("ErrorInfo", &[
     row!("code", Presence::Required, ERROR_CODE),
     row!("message", Presence::Optional, TEXT),
     row!("detail", Presence::Optional, DETAIL),
@@ -21,7 +21,7 @@ impl Tabled for ErrorInfo {
 }
 
 /// A registry's reply to a request that failed (distribution specification, "Error Codes").
-pub const ERROR_RESPONSE: Form = Form::Record(&[row!(
+pub const ERROR_RESPONSE: Form = Form::Record("ErrorResponse", &[row!(
     "errors",
     Presence::Required,
     Form::List(&ERROR_INFO)
@@ -36,7 +36,7 @@ impl Tabled for ErrorResponse {
 }
 
 /// The repositories of a registry (distribution specification, "Listing Repositories").
-pub const REPOSITORY_LIST: Form = Form::Record(&[row!(
+pub const REPOSITORY_LIST: Form = Form::Record("RepositoryList", &[row!(
     "repositories",
     Presence::Required,
     Form::List(&TEXT)
@@ -51,7 +51,7 @@ impl Tabled for RepositoryList {
 }
 
 /// The tags of a repository (distribution specification, "Listing Tags").
-pub const TAG_LIST: Form = Form::Record(&[
+pub const TAG_LIST: Form = Form::Record("TagList", &[
     row!("name", Presence::Required, TEXT),
     row!("tags", Presence::Required, Form::List(&TEXT)),
 ]);

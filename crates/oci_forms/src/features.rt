@@ -9,7 +9,7 @@ use oci_json_form::forms::TEXT;
 use oci_json_form::{Form, Presence, Row};
 
 /// What a runtime can do on Linux (runtime specification, "Linux Features Structure").
-pub const LINUX_FEATURE: Form = Form::Record(&[
+pub const LINUX_FEATURE: Form = Form::Record("LinuxFeature", &[
     row!(
         "namespaces",
         Presence::Nullable,
@@ -35,7 +35,7 @@ impl Tabled for LinuxFeature {
 }
 
 /// What a runtime can do (runtime specification, "Features Structure").
-pub const FEATURES: Form = Form::Record(&[
+pub const FEATURES: Form = Form::Record("Features", &[
     row!("ociVersionMin", Presence::Required, TEXT),
     row!("ociVersionMax", Presence::Required, TEXT),
     row!("hooks", Presence::Nullable, Form::List(&TEXT)),

@@ -8,7 +8,7 @@ use oci_json_form::forms::{TEXT, TRUTH};
 use oci_json_form::{Form, Presence, Row};
 
 /// What a runtime can do with control groups, whatever its host has (runtime specification, "Linux Features Structure", `cgroup`).
-pub const CGROUP: Form = Form::Record(&[
+pub const CGROUP: Form = Form::Record("Cgroup", &[
     row!("v1", Presence::Nullable, TRUTH),
     row!("v2", Presence::Nullable, TRUTH),
     row!("systemd", Presence::Nullable, TRUTH),
@@ -25,7 +25,7 @@ impl Tabled for Cgroup {
 }
 
 /// What a runtime knows of filters of system calls (runtime specification, "Linux Features Structure", `seccomp`).
-pub const SECCOMP: Form = Form::Record(&[
+pub const SECCOMP: Form = Form::Record("Seccomp", &[
     row!("enabled", Presence::Nullable, TRUTH),
     row!(
         "actions",
@@ -47,7 +47,7 @@ impl Tabled for Seccomp {
 }
 
 /// Whether a runtime has AppArmor, whatever its host has (runtime specification, "Linux Features Structure", `apparmor`).
-pub const APPARMOR: Form = Form::Record(&[row!("enabled", Presence::Nullable, TRUTH)]);
+pub const APPARMOR: Form = Form::Record("Apparmor", &[row!("enabled", Presence::Nullable, TRUTH)]);
 
 static APPARMOR_FORM: Form = APPARMOR;
 
@@ -58,7 +58,7 @@ impl Tabled for Apparmor {
 }
 
 /// Whether a runtime has SELinux, whatever its host has (runtime specification, "Linux Features Structure", `selinux`).
-pub const SELINUX: Form = Form::Record(&[row!("enabled", Presence::Nullable, TRUTH)]);
+pub const SELINUX: Form = Form::Record("Selinux", &[row!("enabled", Presence::Nullable, TRUTH)]);
 
 static SELINUX_FORM: Form = SELINUX;
 
@@ -69,7 +69,7 @@ impl Tabled for Selinux {
 }
 
 /// Whether a runtime has mounts with mapped IDs, whatever its host has (runtime specification, "Linux Features Structure", `mountExtensions`, `idmap`).
-pub const ID_MAP: Form = Form::Record(&[row!("enabled", Presence::Nullable, TRUTH)]);
+pub const ID_MAP: Form = Form::Record("IDMap", &[row!("enabled", Presence::Nullable, TRUTH)]);
 
 static ID_MAP_FORM: Form = ID_MAP;
 
@@ -80,7 +80,7 @@ impl Tabled for IDMap {
 }
 
 /// Whether a runtime can move network devices into a container, whatever its host can (runtime specification, "Linux Features Structure", `netDevices`).
-pub const NET_DEVICES: Form = Form::Record(&[row!("enabled", Presence::Nullable, TRUTH)]);
+pub const NET_DEVICES: Form = Form::Record("NetDevices", &[row!("enabled", Presence::Nullable, TRUTH)]);
 
 static NET_DEVICES_FORM: Form = NET_DEVICES;
 
@@ -91,7 +91,7 @@ impl Tabled for NetDevices {
 }
 
 /// What a runtime can do with Intel's Resource Director Technology, whatever its host has (runtime specification, "Linux Features Structure", `intelRdt`).
-pub const INTEL_RDT: Form = Form::Record(&[
+pub const INTEL_RDT: Form = Form::Record("IntelRdt", &[
     row!("enabled", Presence::Optional, TRUTH),
     row!("schemata", Presence::Optional, TRUTH),
     row!("monitoring", Presence::Optional, TRUTH),
@@ -106,7 +106,7 @@ impl Tabled for IntelRdt {
 }
 
 /// What a runtime knows of memory policies (runtime specification, "Linux Features Structure", `memoryPolicy`).
-pub const MEMORY_POLICY: Form = Form::Record(&[
+pub const MEMORY_POLICY: Form = Form::Record("MemoryPolicy", &[
     row!("modes", Presence::Nullable, Form::List(&TEXT)),
     row!("flags", Presence::Nullable, Form::List(&TEXT)),
 ]);
@@ -120,7 +120,7 @@ impl Tabled for MemoryPolicy {
 }
 
 /// What a runtime can do with mounts beyond the usual (runtime specification, "Linux Features Structure", `mountExtensions`).
-pub const MOUNT_EXTENSIONS: Form = Form::Record(&[row!("idmap", Presence::Nullable, ID_MAP)]);
+pub const MOUNT_EXTENSIONS: Form = Form::Record("MountExtensions", &[row!("idmap", Presence::Nullable, ID_MAP)]);
 
 static MOUNT_EXTENSIONS_FORM: Form = MOUNT_EXTENSIONS;
 

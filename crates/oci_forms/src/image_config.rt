@@ -5,7 +5,7 @@ use oci_json_form::forms::{ARCH, KEYS, OS, TEXT, TRUTH};
 use oci_json_form::{Form, Presence, Row};
 
 /// How one layer of an image came about (image specification, "Image Configuration", `history`).
-pub const HISTORY: Form = Form::Record(&[
+pub const HISTORY: Form = Form::Record("History", &[
     row!("created", Presence::Optional, TEXT),
     row!("author", Presence::Optional, TEXT),
     row!("created_by", Presence::Optional, TEXT),
@@ -22,7 +22,7 @@ impl Tabled for History {
 }
 
 /// The layers that make up an image's file system (image specification, "Image Configuration", `rootfs`).
-pub const ROOT_FS: Form = Form::Record(&[
+pub const ROOT_FS: Form = Form::Record("RootFs", &[
     row!("type", Presence::Required, TEXT),
     row!("diff_ids", Presence::Required, Form::List(&TEXT)),
 ]);
@@ -36,7 +36,7 @@ impl Tabled for RootFs {
 }
 
 /// What a container of an image runs with (image specification, "Image Configuration", `config`).
-pub const CONFIG: Form = Form::Record(&[
+pub const CONFIG: Form = Form::Record("Config", &[
     row!("User", Presence::Optional, TEXT),
     row!("ExposedPorts", Presence::Optional, KEYS),
     row!("Env", Presence::Optional, Form::List(&TEXT)),
@@ -57,7 +57,7 @@ impl Tabled for Config {
 }
 
 /// An image's configuration: its machine, its layers and what a container runs with (image specification, "Image Configuration").
-pub const IMAGE_CONFIGURATION: Form = Form::Record(&[
+pub const IMAGE_CONFIGURATION: Form = Form::Record("ImageConfiguration", &[
     row!("created", Presence::Optional, TEXT),
     row!("author", Presence::Optional, TEXT),
     row!("architecture", Presence::Required, ARCH),

@@ -6,7 +6,7 @@ use oci_json_form::forms::{DIGEST, MEDIA_TYPE, TEXT, U64};
 use oci_json_form::{Form, Presence, Row};
 
 /// What a document points to: its media type, its digest and its size (image specification, "Content Descriptors").
-pub const DESCRIPTOR: Form = Form::Record(&[
+pub const DESCRIPTOR: Form = Form::Record("Descriptor", &[
     row!("mediaType", Presence::Required, MEDIA_TYPE),
     row!("digest", Presence::Required, DIGEST),
     row!("size", Presence::Required, U64),

@@ -6,7 +6,7 @@ use oci_json_form::forms::{MEDIA_TYPE, TEXT, U32};
 use oci_json_form::{Form, Presence, Row};
 
 /// A configuration and layers for one image on one machine (image specification, "Image Manifest").
-pub const IMAGE_MANIFEST: Form = Form::Record(&[
+pub const IMAGE_MANIFEST: Form = Form::Record("ImageManifest", &[
     row!("schemaVersion", Presence::Required, U32),
     row!("mediaType", Presence::Optional, MEDIA_TYPE),
     row!("artifactType", Presence::Optional, MEDIA_TYPE),
@@ -25,7 +25,7 @@ impl Tabled for ImageManifest {
 }
 
 /// Content of any type and what it is related to (image specification 1.1.0-rc2, "Artifact Manifest").
-pub const ARTIFACT_MANIFEST: Form = Form::Record(&[
+pub const ARTIFACT_MANIFEST: Form = Form::Record("ArtifactManifest", &[
     row!("mediaType", Presence::Required, MEDIA_TYPE),
     row!("artifactType", Presence::Required, MEDIA_TYPE),
     row!("blobs", Presence::Required, Form::List(&DESCRIPTOR)),
@@ -42,7 +42,7 @@ impl Tabled for ArtifactManifest {
 }
 
 /// Manifests of one image for several machines (image specification, "Image Index").
-pub const IMAGE_INDEX: Form = Form::Record(&[
+pub const IMAGE_INDEX: Form = Form::Record("ImageIndex", &[
     row!("schemaVersion", Presence::Required, U32),
     row!("mediaType", Presence::Optional, MEDIA_TYPE),
     row!("artifactType", Presence::Optional, MEDIA_TYPE),
@@ -60,7 +60,7 @@ impl Tabled for ImageIndex {
 }
 
 /// The file `oci-layout` of an image's folder (image specification, "Image Layout", "oci-layout file").
-pub const OCI_LAYOUT: Form = Form::Record(&[row!("imageLayoutVersion", Presence::Required, TEXT)]);
+pub const OCI_LAYOUT: Form = Form::Record("OciLayout", &[row!("imageLayoutVersion", Presence::Required, TEXT)]);
 
 static OCI_LAYOUT_FORM: Form = OCI_LAYOUT;
 

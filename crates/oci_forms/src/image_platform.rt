@@ -5,7 +5,7 @@ use oci_json_form::forms::{ARCH, OS, TEXT};
 use oci_json_form::{Form, Presence, Row};
 
 /// The machine that an image is for (image specification, "Image Index", `platform`).
-pub const PLATFORM: Form = Form::Record(&[
+pub const PLATFORM: Form = Form::Record("Platform", &[
     row!("architecture", Presence::Required, ARCH),
     row!("os", Presence::Required, OS),
     row!("os.version" | "os_version", Presence::Optional, TEXT),

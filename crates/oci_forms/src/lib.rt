@@ -28,6 +28,7 @@ pub mod names;
 pub mod normal;
 pub mod platforms;
 pub mod platforms_windows;
+pub mod pretty;
 pub mod process;
 pub mod process_parts;
 pub mod reference;
@@ -36,4 +37,5 @@ pub mod runtime_mounts;
 pub mod tabled;
 
 pub use normal::{conform_as, normalize};
+pub use pretty::normalize_pretty;
 pub use tabled::{Tabled, faults_of};

@@ -8,7 +8,7 @@ use oci_linux_namespaces::{
 };
 
 /// A run of user or group IDs of a container, and the IDs of the host that they stand for (runtime specification, "Linux Container Configuration", "User namespace mappings").
-pub const LINUX_ID_MAPPING: Form = Form::Record(&[
+pub const LINUX_ID_MAPPING: Form = Form::Record("LinuxIdMapping", &[
     row!("hostID", Presence::Defaulted(Absent::Whole(0)), U32),
     row!("containerID", Presence::Defaulted(Absent::Whole(0)), U32),
     row!("size", Presence::Defaulted(Absent::Whole(0)), U32),
@@ -23,7 +23,7 @@ impl Tabled for LinuxIdMapping {
 }
 
 /// What becomes of a network device that is moved into a container (runtime specification, "Linux Container Configuration", `netDevices`).
-pub const LINUX_NET_DEVICE: Form = Form::Record(&[row!("name", Presence::Nullable, TEXT)]);
+pub const LINUX_NET_DEVICE: Form = Form::Record("LinuxNetDevice", &[row!("name", Presence::Nullable, TEXT)]);
 
 static LINUX_NET_DEVICE_FORM: Form = LINUX_NET_DEVICE;
 
@@ -34,7 +34,7 @@ impl Tabled for LinuxNetDevice {
 }
 
 /// A namespace that a container has of its own or joins (runtime specification, "Linux Container Configuration", "Namespaces").
-pub const LINUX_NAMESPACE: Form = Form::Record(&[
+pub const LINUX_NAMESPACE: Form = Form::Record("LinuxNamespace", &[
     row!("type", Presence::Required, LINUX_NAMESPACE_TYPE),
     row!("path", Presence::Optional, TEXT),
 ]);
@@ -48,7 +48,7 @@ impl Tabled for LinuxNamespace {
 }
 
 /// A device file that a container has (runtime specification, "Linux Container Configuration", "Devices").
-pub const LINUX_DEVICE: Form = Form::Record(&[
+pub const LINUX_DEVICE: Form = Form::Record("LinuxDevice", &[
     row!("path", Presence::Defaulted(Absent::Text("")), TEXT),
     row!("type", Presence::Required, LINUX_DEVICE_TYPE),
     row!("major", Presence::Defaulted(Absent::Whole(0)), I64),
@@ -67,7 +67,7 @@ impl Tabled for LinuxDevice {
 }
 
 /// By how much a clock of a container's time namespace differs (runtime specification, "Linux Container Configuration", "Offset for Time Namespace").
-pub const LINUX_TIME_OFFSET: Form = Form::Record(&[
+pub const LINUX_TIME_OFFSET: Form = Form::Record("LinuxTimeOffset", &[
     row!("secs", Presence::Optional, I64),
     row!("nanosecs", Presence::Optional, U32),
 ]);

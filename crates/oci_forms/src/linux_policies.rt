@@ -11,7 +11,7 @@ use oci_linux_policies::{
 };
 
 /// A condition on one argument of a system call (runtime specification, "Linux Container Configuration", "Seccomp", `args`).
-pub const LINUX_SECCOMP_ARG: Form = Form::Record(&[
+pub const LINUX_SECCOMP_ARG: Form = Form::Record("LinuxSeccompArg", &[
     row!("index", Presence::Required, USIZE),
     row!("value", Presence::Required, U64),
     row!("valueTwo", Presence::Optional, U64),
@@ -27,7 +27,7 @@ impl Tabled for LinuxSeccompArg {
 }
 
 /// A rule for system calls (runtime specification, "Linux Container Configuration", "Seccomp", `syscalls`).
-pub const LINUX_SYSCALL: Form = Form::Record(&[
+pub const LINUX_SYSCALL: Form = Form::Record("LinuxSyscall", &[
     row!("names", Presence::Required, Form::List(&TEXT)),
     row!("action", Presence::Required, LINUX_SECCOMP_ACTION),
     row!("errnoRet", Presence::Optional, U32),
@@ -43,7 +43,7 @@ impl Tabled for LinuxSyscall {
 }
 
 /// What a container's system calls are answered with (runtime specification, "Linux Container Configuration", "Seccomp").
-pub const LINUX_SECCOMP: Form = Form::Record(&[
+pub const LINUX_SECCOMP: Form = Form::Record("LinuxSeccomp", &[
     row!("defaultAction", Presence::Required, LINUX_SECCOMP_ACTION),
     row!("defaultErrnoRet", Presence::Optional, U32),
     row!("architectures", Presence::Optional, Form::List(&S_ARCH)),
@@ -66,7 +66,7 @@ impl Tabled for LinuxSeccomp {
 }
 
 /// A container's share of the processor's caches and memory bandwidth (runtime specification, "Linux Container Configuration", "IntelRdt").
-pub const LINUX_INTEL_RDT: Form = Form::Record(&[
+pub const LINUX_INTEL_RDT: Form = Form::Record("LinuxIntelRdt", &[
     row!("closID", Presence::Optional, TEXT),
     row!("schemata", Presence::UnlessEmpty, Form::List(&TEXT)),
     row!("l3CacheSchema", Presence::Optional, TEXT),
@@ -85,7 +85,7 @@ impl Tabled for LinuxIntelRdt {
 }
 
 /// The execution domain of a container (runtime specification, "Linux Container Configuration", "Personality").
-pub const LINUX_PERSONALITY: Form = Form::Record(&[
+pub const LINUX_PERSONALITY: Form = Form::Record("LinuxPersonality", &[
     row!("domain", Presence::Required, LINUX_PERSONALITY_DOMAIN),
     row!("flags", Presence::Optional, Form::List(&TEXT)),
 ]);
@@ -99,7 +99,7 @@ impl Tabled for LinuxPersonality {
 }
 
 /// From which memory nodes a container's memory comes (runtime specification, "Linux Container Configuration", `memoryPolicy`).
-pub const LINUX_MEMORY_POLICY: Form = Form::Record(&[
+pub const LINUX_MEMORY_POLICY: Form = Form::Record("LinuxMemoryPolicy", &[
     row!("mode", Presence::Required, MEMORY_POLICY_MODE_TYPE),
     row!("nodes", Presence::Optional, TEXT),
     row!(

@@ -9,7 +9,7 @@ use oci_platforms::{
 };
 
 /// A network interface that is made for a Solaris container (runtime specification, "Solaris Application Container Configuration", "Automatic Network (anet)").
-pub const SOLARIS_ANET: Form = Form::Record(&[
+pub const SOLARIS_ANET: Form = Form::Record("SolarisAnet", &[
     row!("linkname", Presence::Optional, TEXT),
     row!("lowerLink", Presence::Optional, TEXT),
     row!("allowedAddress", Presence::Optional, TEXT),
@@ -28,7 +28,7 @@ impl Tabled for SolarisAnet {
 }
 
 /// How much processor time a Solaris container may use (runtime specification, "Solaris Application Container Configuration", "CappedCPU").
-pub const SOLARIS_CAPPED_CPU: Form = Form::Record(&[row!("ncpus", Presence::Optional, TEXT)]);
+pub const SOLARIS_CAPPED_CPU: Form = Form::Record("SolarisCappedCPU", &[row!("ncpus", Presence::Optional, TEXT)]);
 
 static SOLARIS_CAPPED_CPU_FORM: Form = SOLARIS_CAPPED_CPU;
 
@@ -39,7 +39,7 @@ impl Tabled for SolarisCappedCPU {
 }
 
 /// How much memory a Solaris container may use (runtime specification, "Solaris Application Container Configuration", "CappedMemory").
-pub const SOLARIS_CAPPED_MEMORY: Form = Form::Record(&[
+pub const SOLARIS_CAPPED_MEMORY: Form = Form::Record("SolarisCappedMemory", &[
     row!("physical", Presence::Optional, TEXT),
     row!("swap", Presence::Optional, TEXT),
 ]);
@@ -53,7 +53,7 @@ impl Tabled for SolarisCappedMemory {
 }
 
 /// What only a Solaris container has (runtime specification, "Solaris Application Container Configuration").
-pub const SOLARIS: Form = Form::Record(&[
+pub const SOLARIS: Form = Form::Record("Solaris", &[
     row!("milestone", Presence::Optional, TEXT),
     row!("limitpriv", Presence::Optional, TEXT),
     row!("maxShmMemory", Presence::Optional, TEXT),
@@ -71,7 +71,7 @@ impl Tabled for Solaris {
 }
 
 /// The hypervisor of a virtual machine (runtime specification, "Virtual-machine-specific Container Configuration", "Hypervisor Object").
-pub const VM_HYPERVISOR: Form = Form::Record(&[
+pub const VM_HYPERVISOR: Form = Form::Record("VMHypervisor", &[
     row!("path", Presence::Required, TEXT),
     row!("parameters", Presence::Optional, Form::List(&TEXT)),
 ]);
@@ -85,7 +85,7 @@ impl Tabled for VMHypervisor {
 }
 
 /// The kernel of a virtual machine (runtime specification, "Virtual-machine-specific Container Configuration", "Kernel Object").
-pub const VM_KERNEL: Form = Form::Record(&[
+pub const VM_KERNEL: Form = Form::Record("VMKernel", &[
     row!("path", Presence::Required, TEXT),
     row!("parameters", Presence::Optional, Form::List(&TEXT)),
     row!("initrd", Presence::Optional, TEXT),
@@ -100,7 +100,7 @@ impl Tabled for VMKernel {
 }
 
 /// The image that a virtual machine's root is in (runtime specification, "Virtual-machine-specific Container Configuration", "Image Object").
-pub const VM_IMAGE: Form = Form::Record(&[
+pub const VM_IMAGE: Form = Form::Record("VMImage", &[
     row!("path", Presence::Required, TEXT),
     row!("format", Presence::Required, TEXT),
 ]);
@@ -114,7 +114,7 @@ impl Tabled for VMImage {
 }
 
 /// The virtual machine that a container runs in (runtime specification, "Virtual-machine-specific Container Configuration").
-pub const VM: Form = Form::Record(&[
+pub const VM: Form = Form::Record("VM", &[
     row!("hypervisor", Presence::Optional, VM_HYPERVISOR),
     row!("kernel", Presence::Required, VM_KERNEL),
     row!("image", Presence::Optional, VM_IMAGE),
@@ -129,7 +129,7 @@ impl Tabled for VM {
 }
 
 /// A namespace that a z/OS container has of its own or joins (runtime specification, `config-zos.md`, "Namespaces").
-pub const ZOS_NAMESPACE: Form = Form::Record(&[
+pub const ZOS_NAMESPACE: Form = Form::Record("ZOSNamespace", &[
     row!("type", Presence::Required, ZOS_NAMESPACE_TYPE),
     row!("path", Presence::Optional, TEXT),
 ]);
@@ -143,7 +143,7 @@ impl Tabled for ZOSNamespace {
 }
 
 /// What only a z/OS container has (runtime specification, `config-zos.md`).
-pub const ZOS: Form = Form::Record(&[row!(
+pub const ZOS: Form = Form::Record("ZOS", &[row!(
     "namespaces",
     Presence::Optional,
     Form::List(&ZOS_NAMESPACE)

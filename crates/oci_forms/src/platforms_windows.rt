@@ -8,7 +8,7 @@ use oci_platforms_windows::{
 };
 
 /// A device of the host that a Windows container has (runtime specification, "Windows-specific Container Configuration", "Devices").
-pub const WINDOWS_DEVICE: Form = Form::Record(&[
+pub const WINDOWS_DEVICE: Form = Form::Record("WindowsDevice", &[
     row!("id", Presence::Required, TEXT),
     row!("idType", Presence::Required, TEXT),
 ]);
@@ -22,7 +22,7 @@ impl Tabled for WindowsDevice {
 }
 
 /// How much memory a Windows container may use (runtime specification, "Windows-specific Container Configuration", "Memory").
-pub const WINDOWS_MEMORY_RESOURCES: Form = Form::Record(&[row!("limit", Presence::Optional, U64)]);
+pub const WINDOWS_MEMORY_RESOURCES: Form = Form::Record("WindowsMemoryResources", &[row!("limit", Presence::Optional, U64)]);
 
 static WINDOWS_MEMORY_RESOURCES_FORM: Form = WINDOWS_MEMORY_RESOURCES;
 
@@ -33,7 +33,7 @@ impl Tabled for WindowsMemoryResources {
 }
 
 /// How much processor time a Windows container may use (runtime specification, "Windows-specific Container Configuration", "CPU").
-pub const WINDOWS_CPU_RESOURCES: Form = Form::Record(&[
+pub const WINDOWS_CPU_RESOURCES: Form = Form::Record("WindowsCPUResources", &[
     row!("count", Presence::Optional, U64),
     row!("shares", Presence::Optional, U16),
     row!("maximum", Presence::Optional, U16),
@@ -48,7 +48,7 @@ impl Tabled for WindowsCPUResources {
 }
 
 /// How a Windows container may use its system drive (runtime specification, "Windows-specific Container Configuration", "Storage").
-pub const WINDOWS_STORAGE_RESOURCES: Form = Form::Record(&[
+pub const WINDOWS_STORAGE_RESOURCES: Form = Form::Record("WindowsStorageResources", &[
     row!("iops", Presence::Optional, U64),
     row!("bps", Presence::Optional, U64),
     row!("sandboxSize", Presence::Optional, U64),
@@ -63,7 +63,7 @@ impl Tabled for WindowsStorageResources {
 }
 
 /// What a Windows container may use of its host (runtime specification, "Windows-specific Container Configuration", "Resources").
-pub const WINDOWS_RESOURCES: Form = Form::Record(&[
+pub const WINDOWS_RESOURCES: Form = Form::Record("WindowsResources", &[
     row!("memory", Presence::Optional, WINDOWS_MEMORY_RESOURCES),
     row!("cpu", Presence::Optional, WINDOWS_CPU_RESOURCES),
     row!("storage", Presence::Optional, WINDOWS_STORAGE_RESOURCES),
@@ -78,7 +78,7 @@ impl Tabled for WindowsResources {
 }
 
 /// What a Windows container that Hyper-V keeps apart has (runtime specification, "Windows-specific Container Configuration", "HyperV").
-pub const WINDOWS_HYPER_V: Form = Form::Record(&[row!("utilityVmPath", Presence::Optional, TEXT)]);
+pub const WINDOWS_HYPER_V: Form = Form::Record("WindowsHyperV", &[row!("utilityVmPath", Presence::Optional, TEXT)]);
 
 static WINDOWS_HYPER_V_FORM: Form = WINDOWS_HYPER_V;
 
@@ -89,7 +89,7 @@ impl Tabled for WindowsHyperV {
 }
 
 /// The network of a Windows container (runtime specification, "Windows-specific Container Configuration", "Network").
-pub const WINDOWS_NETWORK: Form = Form::Record(&[
+pub const WINDOWS_NETWORK: Form = Form::Record("WindowsNetwork", &[
     row!("endpointList", Presence::Optional, Form::List(&TEXT)),
     row!("allowUnqualifiedDNSQuery", Presence::Optional, TRUTH),
     row!("DNSSearchList", Presence::Optional, Form::List(&TEXT)),
@@ -106,7 +106,7 @@ impl Tabled for WindowsNetwork {
 }
 
 /// What only a Windows container has (runtime specification, "Windows-specific Container Configuration").
-pub const WINDOWS: Form = Form::Record(&[
+pub const WINDOWS: Form = Form::Record("Windows", &[
     row!("layerFolders", Presence::Optional, Form::List(&TEXT)),
     row!("devices", Presence::Optional, Form::List(&WINDOWS_DEVICE)),
     row!("resources", Presence::Optional, WINDOWS_RESOURCES),

@@ -9,7 +9,7 @@ use oci_json_form::{Form, Presence, Row};
 use oci_process::Process;
 
 /// The program that a container runs, and what it runs with (runtime specification, "Configuration", "Process").
-pub const PROCESS: Form = Form::Record(&[
+pub const PROCESS: Form = Form::Record("Process", &[
     row!("terminal", Presence::Optional, TRUTH),
     row!("consoleSize", Presence::Optional, CONSOLE_BOX),
     row!("user", Presence::Required, USER),

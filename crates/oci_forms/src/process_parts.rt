@@ -10,7 +10,7 @@ use oci_process_parts::{
 };
 
 /// The size of a process's terminal (runtime specification, "Configuration", "Process", `consoleSize`).
-pub const CONSOLE_BOX: Form = Form::Record(&[
+pub const CONSOLE_BOX: Form = Form::Record("Box", &[
     row!("height", Presence::Defaulted(Absent::Whole(0)), U64),
     row!("width", Presence::Defaulted(Absent::Whole(0)), U64),
 ]);
@@ -24,7 +24,7 @@ impl Tabled for Box {
 }
 
 /// A limit on what a process may use (runtime specification, "Configuration", "POSIX process", `rlimits`).
-pub const POSIX_RLIMIT: Form = Form::Record(&[
+pub const POSIX_RLIMIT: Form = Form::Record("PosixRlimit", &[
     row!("type", Presence::Required, POSIX_RLIMIT_TYPE),
     row!("hard", Presence::Defaulted(Absent::Whole(0)), U64),
     row!("soft", Presence::Defaulted(Absent::Whole(0)), U64),
@@ -39,7 +39,7 @@ impl Tabled for PosixRlimit {
 }
 
 /// The user that a process runs as (runtime specification, "Configuration", "User").
-pub const USER: Form = Form::Record(&[
+pub const USER: Form = Form::Record("User", &[
     row!("uid", Presence::Defaulted(Absent::Whole(0)), U32),
     row!("gid", Presence::Defaulted(Absent::Whole(0)), U32),
     row!("umask", Presence::Optional, U32),
@@ -56,7 +56,7 @@ impl Tabled for User {
 }
 
 /// The five sets of capabilities of a process (runtime specification, "Configuration", "Linux Process", `capabilities`).
-pub const LINUX_CAPABILITIES: Form = Form::Record(&[
+pub const LINUX_CAPABILITIES: Form = Form::Record("LinuxCapabilities", &[
     row!("bounding", Presence::Optional, CAPABILITIES),
     row!("effective", Presence::Optional, CAPABILITIES),
     row!("inheritable", Presence::Optional, CAPABILITIES),
@@ -73,7 +73,7 @@ impl Tabled for LinuxCapabilities {
 }
 
 /// How soon a process's input and output is served (runtime specification, "Configuration", "Linux Process", `ioPriority`).
-pub const LINUX_IO_PRIORITY: Form = Form::Record(&[
+pub const LINUX_IO_PRIORITY: Form = Form::Record("LinuxIOPriority", &[
     row!(
         "class",
         Presence::Defaulted(Absent::Variant("IOPRIO_CLASS_BE")),
@@ -91,7 +91,7 @@ impl Tabled for LinuxIOPriority {
 }
 
 /// When a process may run (runtime specification, "Configuration", "Linux Process", `scheduler`).
-pub const SCHEDULER: Form = Form::Record(&[
+pub const SCHEDULER: Form = Form::Record("Scheduler", &[
     row!("policy", Presence::Required, LINUX_SCHEDULER_POLICY),
     row!("nice", Presence::Optional, I32),
     row!("priority", Presence::Optional, I32),
@@ -114,7 +114,7 @@ impl Tabled for Scheduler {
 }
 
 /// The processors on which a program runs that is started in a running container (runtime specification, "Configuration", "Linux Process", `execCPUAffinity`).
-pub const EXEC_CPU_AFFINITY: Form = Form::Record(&[
+pub const EXEC_CPU_AFFINITY: Form = Form::Record("ExecCPUAffinity", &[
     row!("initial", Presence::Optional, PROCESSORS),
     row!("final", Presence::Optional, PROCESSORS),
 ]);

@@ -5,7 +5,7 @@ use oci_json_form::{Form, Presence, Row};
 use oci_reference::Reference;
 
 /// A reference to an image, in its parts.
-pub const REFERENCE: Form = Form::Record(&[
+pub const REFERENCE: Form = Form::Record("Reference", &[
     row!("registry", Presence::Required, TEXT),
     row!("mirror_registry", Presence::Optional, TEXT),
     row!("repository", Presence::Required, TEXT),

@@ -6,7 +6,7 @@ use oci_json_form::{Absent, Form, Presence, Row};
 use oci_runtime_lifecycle::{ContainerProcessState, Hook, Hooks, State};
 
 /// A program that is run at a turn of a container's life (runtime specification, "Configuration", "POSIX-platform Hooks").
-pub const HOOK: Form = Form::Record(&[
+pub const HOOK: Form = Form::Record("Hook", &[
     row!("path", Presence::Required, TEXT),
     row!("args", Presence::Optional, Form::List(&TEXT)),
     row!("env", Presence::Optional, Form::List(&TEXT)),
@@ -22,7 +22,7 @@ impl Tabled for Hook {
 }
 
 /// The programs that are run at the turns of a container's life, each list in its order (runtime specification, "Configuration", "POSIX-platform Hooks").
-pub const HOOKS: Form = Form::Record(&[
+pub const HOOKS: Form = Form::Record("Hooks", &[
     row!("prestart", Presence::Optional, Form::List(&HOOK)),
     row!("createRuntime", Presence::Optional, Form::List(&HOOK)),
     row!("createContainer", Presence::Optional, Form::List(&HOOK)),
@@ -40,7 +40,7 @@ impl Tabled for Hooks {
 }
 
 /// The state of a container (runtime specification, "Runtime and Lifecycle", "State").
-pub const STATE: Form = Form::Record(&[
+pub const STATE: Form = Form::Record("State", &[
     row!("ociVersion", Presence::Defaulted(Absent::Text("")), TEXT),
     row!("id", Presence::Defaulted(Absent::Text("")), TEXT),
     row!(
@@ -62,7 +62,7 @@ impl Tabled for State {
 }
 
 /// What a program that listens to a container's system calls is told (runtime specification, "Linux Container Configuration", "The Container Process State").
-pub const CONTAINER_PROCESS_STATE: Form = Form::Record(&[
+pub const CONTAINER_PROCESS_STATE: Form = Form::Record("ContainerProcessState", &[
     row!("ociVersion", Presence::Defaulted(Absent::Text("")), TEXT),
     row!(
         "fds",

@@ -6,7 +6,7 @@ use oci_json_form::{Absent, Form, Presence, Row};
 use oci_runtime_mounts::{Mount, Root};
 
 /// The root of a container's file system (runtime specification, "Configuration", "Root").
-pub const ROOT: Form = Form::Record(&[
+pub const ROOT: Form = Form::Record("Root", &[
     row!("path", Presence::Defaulted(Absent::Text("")), TEXT),
     row!("readonly", Presence::Optional, TRUTH),
 ]);
@@ -20,7 +20,7 @@ impl Tabled for Root {
 }
 
 /// A mount that a container has beside its root (runtime specification, "Configuration", "Mounts").
-pub const MOUNT: Form = Form::Record(&[
+pub const MOUNT: Form = Form::Record("Mount", &[
     row!("destination", Presence::Required, TEXT),
     row!("type", Presence::Optional, TEXT),
     row!("source", Presence::Optional, TEXT),

@@ -71,7 +71,7 @@ fn absent_record(form: &Form, given: &[Option<Absent>], alloc: Global) -> Result
     ensures kind { IfErr result IsMemoryOrSchema }
 {
     match form {
-        Form::Record(rows) => Ok(Value::Object(absent_rows(rows, given, alloc)?)),
+        Form::Record(_, rows) => Ok(Value::Object(absent_rows(rows, given, alloc)?)),
         _ => unreachable!(),
     }
 }

@@ -57,7 +57,7 @@ impl fmt::Display for Form {
         match self {
             Form::Leaf(leaf) => write!(f, "{leaf}"),
             Form::List(_) => f.write_str("a list"),
-            Form::Map(_) | Form::Record(_) => f.write_str("an object"),
+            Form::Map(_) | Form::Record(_, _) => f.write_str("an object"),
         }
     }
 }

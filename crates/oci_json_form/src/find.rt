@@ -58,7 +58,7 @@ fn add(
             Some(members) => add_members(inner, members, at, found, alloc),
             None => push(at, Wanted::Value(form), found, alloc),
         },
-        Form::Record(rows) => {
+        Form::Record(_, rows) => {
             if value.is_object() {
                 add_rows(rows, value, at, found, alloc)
             } else {

@@ -73,8 +73,8 @@ pub enum Form {
     List(&'static Form),
     /// An object of such values.
     Map(&'static Form),
-    /// An object with these members, in the order in which they are looked at; others are ignored.
-    Record(&'static [Row]),
+    /// A record of this name: an object with these members, in the order in which they are looked at; others are ignored.
+    Record(&'static str, &'static [Row]),
 }
 
 /// A listed member.

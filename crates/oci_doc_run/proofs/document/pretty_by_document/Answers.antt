@@ -1,6 +1,6 @@
 use Rattle.std.proofs.lemmas.Result.{err_from_is_err_and}
 use Rattle.oci_doc_run.proofs.Refused.{pretty_refused}
-use Rattle.oci_doc_run.proofs.document.pretty.Goals as goal
+use Rattle.oci_doc_run.proofs.document.pretty_by_document.Goals as goal
 
 pub returns-in_err-to_writer_pretty-clause-err : goal.returns-in_err-to_writer_pretty-clause-err
 returns-in_err-to_writer_pretty-clause-err g c =
