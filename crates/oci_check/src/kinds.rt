@@ -15,7 +15,7 @@ use oci_reference::Reference;
 use oci_runtime_lifecycle::{ContainerProcessState, State};
 
 /// The form of a kind's documents; none of a container's configuration, whose table is no value yet.
-pub fn form_of(kind: Kind) -> Option<&'static Form>
+pub fn form_of(kind: Kind) -> Option<&'static Form<'static>>
     ensures { IfSome result (λ f. form_shape f.now ≡ shape_of kind) }
 {
     match kind {

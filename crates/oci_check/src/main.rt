@@ -19,7 +19,7 @@ const USAGE: &str = "usage: ocicheck KIND < DOCUMENT
 KIND: manifest | index | config | artifact | layout | descriptor | error | repositories | tags | reference | state | process-state | features";
 
 /// The form of the kind that the program's words ask for.
-fn asked<R: std::rt::Env + AllocGlobal>(rt: &R) -> Result<Option<&'static Form>> {
+fn asked<R: std::rt::Env + AllocGlobal>(rt: &R) -> Result<Option<&'static Form<'static>>> {
     let mut words = env::args(rt)?.skip(1);
     let Some(word) = words.next() else {
         return Ok(None);

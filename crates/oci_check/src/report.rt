@@ -22,7 +22,7 @@ pub struct Report {
 
 /// What the form refuses in the bytes; it refuses nothing exactly where they are a document.
 #[tactic(auto, using(crate::proofs::Bytes::read_tells, crate::proofs::Bytes::no_json_tells))]
-pub fn judge(form: &'static Form, bytes: &[u8], alloc: Global) -> Result<Report>
+pub fn judge(form: &'static Form<'static>, bytes: &[u8], alloc: Global) -> Result<Report>
     ensures { IfOk result (λ r. (r.sound ≡ true) ↔ ((p : Plain) × MeansBytes (shape_of form.now) bytes.now p)) }
 {
     match Value::from_slice(alloc, bytes) {
@@ -46,7 +46,7 @@ pub fn judge(form: &'static Form, bytes: &[u8], alloc: Global) -> Result<Report>
 }
 
 /// A line for each fault.
-fn lines_of(found: &Vec<Fault>, alloc: Global) -> std::result::Result<String, AllocError> {
+fn lines_of(found: &Vec<Fault<'_>>, alloc: Global) -> std::result::Result<String, AllocError> {
     let mut lines = String::new(alloc);
     for fault in found {
         let pointer = fault.pointer.as_str();

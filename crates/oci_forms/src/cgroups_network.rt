@@ -5,47 +5,56 @@ use oci_json_form::forms::{TEXT, U32};
 use oci_json_form::{Absent, Form, Presence, Row};
 
 /// The priority of a container's traffic on one network interface (runtime specification, "Linux Container Configuration", "Network").
-pub const LINUX_INTERFACE_PRIORITY: Form = Form::Record("LinuxInterfacePriority", &[
-    row!("name", Presence::Defaulted(Absent::Text("")), TEXT),
-    row!("priority", Presence::Defaulted(Absent::Whole(0)), U32),
-]);
+pub const LINUX_INTERFACE_PRIORITY: Form<'static> = Form::Record(
+    "LinuxInterfacePriority",
+    &[
+        row!("name", Presence::Defaulted(Absent::Text("")), TEXT),
+        row!("priority", Presence::Defaulted(Absent::Whole(0)), U32),
+    ],
+);
 
-static LINUX_INTERFACE_PRIORITY_FORM: Form = LINUX_INTERFACE_PRIORITY;
+static LINUX_INTERFACE_PRIORITY_FORM: Form<'static> = LINUX_INTERFACE_PRIORITY;
 
 impl Tabled for LinuxInterfacePriority {
-    fn form() -> &'static Form {
+    fn form() -> &'static Form<'static> {
         &LINUX_INTERFACE_PRIORITY_FORM
     }
 }
 
 /// How a container's network traffic is marked and ranked (runtime specification, "Linux Container Configuration", "Network").
-pub const LINUX_NETWORK: Form = Form::Record("LinuxNetwork", &[
-    row!("classID", Presence::Optional, U32),
-    row!(
-        "priorities",
-        Presence::Optional,
-        Form::List(&LINUX_INTERFACE_PRIORITY)
-    ),
-]);
+pub const LINUX_NETWORK: Form<'static> = Form::Record(
+    "LinuxNetwork",
+    &[
+        row!("classID", Presence::Optional, U32),
+        row!(
+            "priorities",
+            Presence::Optional,
+            Form::List(&LINUX_INTERFACE_PRIORITY)
+        ),
+    ],
+);
 
-static LINUX_NETWORK_FORM: Form = LINUX_NETWORK;
+static LINUX_NETWORK_FORM: Form<'static> = LINUX_NETWORK;
 
 impl Tabled for LinuxNetwork {
-    fn form() -> &'static Form {
+    fn form() -> &'static Form<'static> {
         &LINUX_NETWORK_FORM
     }
 }
 
 /// What a container may use of one device for remote direct memory access (runtime specification, "Linux Container Configuration", "RDMA").
-pub const LINUX_RDMA: Form = Form::Record("LinuxRdma", &[
-    row!("hcaHandles", Presence::Optional, U32),
-    row!("hcaObjects", Presence::Optional, U32),
-]);
+pub const LINUX_RDMA: Form<'static> = Form::Record(
+    "LinuxRdma",
+    &[
+        row!("hcaHandles", Presence::Optional, U32),
+        row!("hcaObjects", Presence::Optional, U32),
+    ],
+);
 
-static LINUX_RDMA_FORM: Form = LINUX_RDMA;
+static LINUX_RDMA_FORM: Form<'static> = LINUX_RDMA;
 
 impl Tabled for LinuxRdma {
-    fn form() -> &'static Form {
+    fn form() -> &'static Form<'static> {
         &LINUX_RDMA_FORM
     }
 }

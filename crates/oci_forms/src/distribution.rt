@@ -6,60 +6,64 @@ use oci_json_form::forms::{DETAIL, TEXT};
 use oci_json_form::{Form, Presence, Row};
 
 /// One error of a registry's reply (distribution specification, "Error Codes").
-pub const ERROR_INFO: Form = Form::Record("ErrorInfo", &[
-    row!("code", Presence::Required, ERROR_CODE),
-    row!("message", Presence::Optional, TEXT),
-    row!("detail", Presence::Optional, DETAIL),
-]);
+pub const ERROR_INFO: Form<'static> = Form::Record(
+    "ErrorInfo",
+    &[
+        row!("code", Presence::Required, ERROR_CODE),
+        row!("message", Presence::Optional, TEXT),
+        row!("detail", Presence::Optional, DETAIL),
+    ],
+);
 
-static ERROR_INFO_FORM: Form = ERROR_INFO;
+static ERROR_INFO_FORM: Form<'static> = ERROR_INFO;
 
 impl Tabled for ErrorInfo {
-    fn form() -> &'static Form {
+    fn form() -> &'static Form<'static> {
         &ERROR_INFO_FORM
     }
 }
 
 /// A registry's reply to a request that failed (distribution specification, "Error Codes").
-pub const ERROR_RESPONSE: Form = Form::Record("ErrorResponse", &[row!(
-    "errors",
-    Presence::Required,
-    Form::List(&ERROR_INFO)
-)]);
+pub const ERROR_RESPONSE: Form<'static> = Form::Record(
+    "ErrorResponse",
+    &[row!("errors", Presence::Required, Form::List(&ERROR_INFO))],
+);
 
-static ERROR_RESPONSE_FORM: Form = ERROR_RESPONSE;
+static ERROR_RESPONSE_FORM: Form<'static> = ERROR_RESPONSE;
 
 impl Tabled for ErrorResponse {
-    fn form() -> &'static Form {
+    fn form() -> &'static Form<'static> {
         &ERROR_RESPONSE_FORM
     }
 }
 
 /// The repositories of a registry (distribution specification, "Listing Repositories").
-pub const REPOSITORY_LIST: Form = Form::Record("RepositoryList", &[row!(
-    "repositories",
-    Presence::Required,
-    Form::List(&TEXT)
-)]);
+pub const REPOSITORY_LIST: Form<'static> = Form::Record(
+    "RepositoryList",
+    &[row!("repositories", Presence::Required, Form::List(&TEXT))],
+);
 
-static REPOSITORY_LIST_FORM: Form = REPOSITORY_LIST;
+static REPOSITORY_LIST_FORM: Form<'static> = REPOSITORY_LIST;
 
 impl Tabled for RepositoryList {
-    fn form() -> &'static Form {
+    fn form() -> &'static Form<'static> {
         &REPOSITORY_LIST_FORM
     }
 }
 
 /// The tags of a repository (distribution specification, "Listing Tags").
-pub const TAG_LIST: Form = Form::Record("TagList", &[
-    row!("name", Presence::Required, TEXT),
-    row!("tags", Presence::Required, Form::List(&TEXT)),
-]);
+pub const TAG_LIST: Form<'static> = Form::Record(
+    "TagList",
+    &[
+        row!("name", Presence::Required, TEXT),
+        row!("tags", Presence::Required, Form::List(&TEXT)),
+    ],
+);
 
-static TAG_LIST_FORM: Form = TAG_LIST;
+static TAG_LIST_FORM: Form<'static> = TAG_LIST;
 
 impl Tabled for TagList {
-    fn form() -> &'static Form {
+    fn form() -> &'static Form<'static> {
         &TAG_LIST_FORM
     }
 }

@@ -8,124 +8,151 @@ use oci_json_form::forms::{TEXT, TRUTH};
 use oci_json_form::{Form, Presence, Row};
 
 /// What a runtime can do with control groups, whatever its host has (runtime specification, "Linux Features Structure", `cgroup`).
-pub const CGROUP: Form = Form::Record("Cgroup", &[
-    row!("v1", Presence::Nullable, TRUTH),
-    row!("v2", Presence::Nullable, TRUTH),
-    row!("systemd", Presence::Nullable, TRUTH),
-    row!("systemdUser", Presence::Nullable, TRUTH),
-    row!("rdma", Presence::Nullable, TRUTH),
-]);
+pub const CGROUP: Form<'static> = Form::Record(
+    "Cgroup",
+    &[
+        row!("v1", Presence::Nullable, TRUTH),
+        row!("v2", Presence::Nullable, TRUTH),
+        row!("systemd", Presence::Nullable, TRUTH),
+        row!("systemdUser", Presence::Nullable, TRUTH),
+        row!("rdma", Presence::Nullable, TRUTH),
+    ],
+);
 
-static CGROUP_FORM: Form = CGROUP;
+static CGROUP_FORM: Form<'static> = CGROUP;
 
 impl Tabled for Cgroup {
-    fn form() -> &'static Form {
+    fn form() -> &'static Form<'static> {
         &CGROUP_FORM
     }
 }
 
 /// What a runtime knows of filters of system calls (runtime specification, "Linux Features Structure", `seccomp`).
-pub const SECCOMP: Form = Form::Record("Seccomp", &[
-    row!("enabled", Presence::Nullable, TRUTH),
-    row!(
-        "actions",
-        Presence::Nullable,
-        Form::List(&LINUX_SECCOMP_ACTION)
-    ),
-    row!("operators", Presence::Nullable, Form::List(&TEXT)),
-    row!("archs", Presence::Nullable, Form::List(&S_ARCH)),
-    row!("knownFlags", Presence::Nullable, Form::List(&TEXT)),
-    row!("supportedFlags", Presence::Nullable, Form::List(&TEXT)),
-]);
+pub const SECCOMP: Form<'static> = Form::Record(
+    "Seccomp",
+    &[
+        row!("enabled", Presence::Nullable, TRUTH),
+        row!(
+            "actions",
+            Presence::Nullable,
+            Form::List(&LINUX_SECCOMP_ACTION)
+        ),
+        row!("operators", Presence::Nullable, Form::List(&TEXT)),
+        row!("archs", Presence::Nullable, Form::List(&S_ARCH)),
+        row!("knownFlags", Presence::Nullable, Form::List(&TEXT)),
+        row!("supportedFlags", Presence::Nullable, Form::List(&TEXT)),
+    ],
+);
 
-static SECCOMP_FORM: Form = SECCOMP;
+static SECCOMP_FORM: Form<'static> = SECCOMP;
 
 impl Tabled for Seccomp {
-    fn form() -> &'static Form {
+    fn form() -> &'static Form<'static> {
         &SECCOMP_FORM
     }
 }
 
 /// Whether a runtime has AppArmor, whatever its host has (runtime specification, "Linux Features Structure", `apparmor`).
-pub const APPARMOR: Form = Form::Record("Apparmor", &[row!("enabled", Presence::Nullable, TRUTH)]);
+pub const APPARMOR: Form<'static> = Form::Record(
+    "Apparmor",
+    &[row!("enabled", Presence::Nullable, TRUTH)],
+);
 
-static APPARMOR_FORM: Form = APPARMOR;
+static APPARMOR_FORM: Form<'static> = APPARMOR;
 
 impl Tabled for Apparmor {
-    fn form() -> &'static Form {
+    fn form() -> &'static Form<'static> {
         &APPARMOR_FORM
     }
 }
 
 /// Whether a runtime has SELinux, whatever its host has (runtime specification, "Linux Features Structure", `selinux`).
-pub const SELINUX: Form = Form::Record("Selinux", &[row!("enabled", Presence::Nullable, TRUTH)]);
+pub const SELINUX: Form<'static> = Form::Record(
+    "Selinux",
+    &[row!("enabled", Presence::Nullable, TRUTH)],
+);
 
-static SELINUX_FORM: Form = SELINUX;
+static SELINUX_FORM: Form<'static> = SELINUX;
 
 impl Tabled for Selinux {
-    fn form() -> &'static Form {
+    fn form() -> &'static Form<'static> {
         &SELINUX_FORM
     }
 }
 
 /// Whether a runtime has mounts with mapped IDs, whatever its host has (runtime specification, "Linux Features Structure", `mountExtensions`, `idmap`).
-pub const ID_MAP: Form = Form::Record("IDMap", &[row!("enabled", Presence::Nullable, TRUTH)]);
+pub const ID_MAP: Form<'static> = Form::Record(
+    "IDMap",
+    &[row!("enabled", Presence::Nullable, TRUTH)],
+);
 
-static ID_MAP_FORM: Form = ID_MAP;
+static ID_MAP_FORM: Form<'static> = ID_MAP;
 
 impl Tabled for IDMap {
-    fn form() -> &'static Form {
+    fn form() -> &'static Form<'static> {
         &ID_MAP_FORM
     }
 }
 
 /// Whether a runtime can move network devices into a container, whatever its host can (runtime specification, "Linux Features Structure", `netDevices`).
-pub const NET_DEVICES: Form = Form::Record("NetDevices", &[row!("enabled", Presence::Nullable, TRUTH)]);
+pub const NET_DEVICES: Form<'static> = Form::Record(
+    "NetDevices",
+    &[row!("enabled", Presence::Nullable, TRUTH)],
+);
 
-static NET_DEVICES_FORM: Form = NET_DEVICES;
+static NET_DEVICES_FORM: Form<'static> = NET_DEVICES;
 
 impl Tabled for NetDevices {
-    fn form() -> &'static Form {
+    fn form() -> &'static Form<'static> {
         &NET_DEVICES_FORM
     }
 }
 
 /// What a runtime can do with Intel's Resource Director Technology, whatever its host has (runtime specification, "Linux Features Structure", `intelRdt`).
-pub const INTEL_RDT: Form = Form::Record("IntelRdt", &[
-    row!("enabled", Presence::Optional, TRUTH),
-    row!("schemata", Presence::Optional, TRUTH),
-    row!("monitoring", Presence::Optional, TRUTH),
-]);
+pub const INTEL_RDT: Form<'static> = Form::Record(
+    "IntelRdt",
+    &[
+        row!("enabled", Presence::Optional, TRUTH),
+        row!("schemata", Presence::Optional, TRUTH),
+        row!("monitoring", Presence::Optional, TRUTH),
+    ],
+);
 
-static INTEL_RDT_FORM: Form = INTEL_RDT;
+static INTEL_RDT_FORM: Form<'static> = INTEL_RDT;
 
 impl Tabled for IntelRdt {
-    fn form() -> &'static Form {
+    fn form() -> &'static Form<'static> {
         &INTEL_RDT_FORM
     }
 }
 
 /// What a runtime knows of memory policies (runtime specification, "Linux Features Structure", `memoryPolicy`).
-pub const MEMORY_POLICY: Form = Form::Record("MemoryPolicy", &[
-    row!("modes", Presence::Nullable, Form::List(&TEXT)),
-    row!("flags", Presence::Nullable, Form::List(&TEXT)),
-]);
+pub const MEMORY_POLICY: Form<'static> = Form::Record(
+    "MemoryPolicy",
+    &[
+        row!("modes", Presence::Nullable, Form::List(&TEXT)),
+        row!("flags", Presence::Nullable, Form::List(&TEXT)),
+    ],
+);
 
-static MEMORY_POLICY_FORM: Form = MEMORY_POLICY;
+static MEMORY_POLICY_FORM: Form<'static> = MEMORY_POLICY;
 
 impl Tabled for MemoryPolicy {
-    fn form() -> &'static Form {
+    fn form() -> &'static Form<'static> {
         &MEMORY_POLICY_FORM
     }
 }
 
 /// What a runtime can do with mounts beyond the usual (runtime specification, "Linux Features Structure", `mountExtensions`).
-pub const MOUNT_EXTENSIONS: Form = Form::Record("MountExtensions", &[row!("idmap", Presence::Nullable, ID_MAP)]);
+pub const MOUNT_EXTENSIONS: Form<'static> = Form::Record(
+    "MountExtensions",
+    &[row!("idmap", Presence::Nullable, ID_MAP)],
+);
 
-static MOUNT_EXTENSIONS_FORM: Form = MOUNT_EXTENSIONS;
+static MOUNT_EXTENSIONS_FORM: Form<'static> = MOUNT_EXTENSIONS;
 
 impl Tabled for MountExtensions {
-    fn form() -> &'static Form {
+    fn form() -> &'static Form<'static> {
         &MOUNT_EXTENSIONS_FORM
     }
 }

@@ -8,74 +8,89 @@ use oci_linux_namespaces::{
 };
 
 /// A run of user or group IDs of a container, and the IDs of the host that they stand for (runtime specification, "Linux Container Configuration", "User namespace mappings").
-pub const LINUX_ID_MAPPING: Form = Form::Record("LinuxIdMapping", &[
-    row!("hostID", Presence::Defaulted(Absent::Whole(0)), U32),
-    row!("containerID", Presence::Defaulted(Absent::Whole(0)), U32),
-    row!("size", Presence::Defaulted(Absent::Whole(0)), U32),
-]);
+pub const LINUX_ID_MAPPING: Form<'static> = Form::Record(
+    "LinuxIdMapping",
+    &[
+        row!("hostID", Presence::Defaulted(Absent::Whole(0)), U32),
+        row!("containerID", Presence::Defaulted(Absent::Whole(0)), U32),
+        row!("size", Presence::Defaulted(Absent::Whole(0)), U32),
+    ],
+);
 
-static LINUX_ID_MAPPING_FORM: Form = LINUX_ID_MAPPING;
+static LINUX_ID_MAPPING_FORM: Form<'static> = LINUX_ID_MAPPING;
 
 impl Tabled for LinuxIdMapping {
-    fn form() -> &'static Form {
+    fn form() -> &'static Form<'static> {
         &LINUX_ID_MAPPING_FORM
     }
 }
 
 /// What becomes of a network device that is moved into a container (runtime specification, "Linux Container Configuration", `netDevices`).
-pub const LINUX_NET_DEVICE: Form = Form::Record("LinuxNetDevice", &[row!("name", Presence::Nullable, TEXT)]);
+pub const LINUX_NET_DEVICE: Form<'static> = Form::Record(
+    "LinuxNetDevice",
+    &[row!("name", Presence::Nullable, TEXT)],
+);
 
-static LINUX_NET_DEVICE_FORM: Form = LINUX_NET_DEVICE;
+static LINUX_NET_DEVICE_FORM: Form<'static> = LINUX_NET_DEVICE;
 
 impl Tabled for LinuxNetDevice {
-    fn form() -> &'static Form {
+    fn form() -> &'static Form<'static> {
         &LINUX_NET_DEVICE_FORM
     }
 }
 
 /// A namespace that a container has of its own or joins (runtime specification, "Linux Container Configuration", "Namespaces").
-pub const LINUX_NAMESPACE: Form = Form::Record("LinuxNamespace", &[
-    row!("type", Presence::Required, LINUX_NAMESPACE_TYPE),
-    row!("path", Presence::Optional, TEXT),
-]);
+pub const LINUX_NAMESPACE: Form<'static> = Form::Record(
+    "LinuxNamespace",
+    &[
+        row!("type", Presence::Required, LINUX_NAMESPACE_TYPE),
+        row!("path", Presence::Optional, TEXT),
+    ],
+);
 
-static LINUX_NAMESPACE_FORM: Form = LINUX_NAMESPACE;
+static LINUX_NAMESPACE_FORM: Form<'static> = LINUX_NAMESPACE;
 
 impl Tabled for LinuxNamespace {
-    fn form() -> &'static Form {
+    fn form() -> &'static Form<'static> {
         &LINUX_NAMESPACE_FORM
     }
 }
 
 /// A device file that a container has (runtime specification, "Linux Container Configuration", "Devices").
-pub const LINUX_DEVICE: Form = Form::Record("LinuxDevice", &[
-    row!("path", Presence::Defaulted(Absent::Text("")), TEXT),
-    row!("type", Presence::Required, LINUX_DEVICE_TYPE),
-    row!("major", Presence::Defaulted(Absent::Whole(0)), I64),
-    row!("minor", Presence::Defaulted(Absent::Whole(0)), I64),
-    row!("fileMode", Presence::Optional, U32),
-    row!("uid", Presence::Optional, U32),
-    row!("gid", Presence::Optional, U32),
-]);
+pub const LINUX_DEVICE: Form<'static> = Form::Record(
+    "LinuxDevice",
+    &[
+        row!("path", Presence::Defaulted(Absent::Text("")), TEXT),
+        row!("type", Presence::Required, LINUX_DEVICE_TYPE),
+        row!("major", Presence::Defaulted(Absent::Whole(0)), I64),
+        row!("minor", Presence::Defaulted(Absent::Whole(0)), I64),
+        row!("fileMode", Presence::Optional, U32),
+        row!("uid", Presence::Optional, U32),
+        row!("gid", Presence::Optional, U32),
+    ],
+);
 
-static LINUX_DEVICE_FORM: Form = LINUX_DEVICE;
+static LINUX_DEVICE_FORM: Form<'static> = LINUX_DEVICE;
 
 impl Tabled for LinuxDevice {
-    fn form() -> &'static Form {
+    fn form() -> &'static Form<'static> {
         &LINUX_DEVICE_FORM
     }
 }
 
 /// By how much a clock of a container's time namespace differs (runtime specification, "Linux Container Configuration", "Offset for Time Namespace").
-pub const LINUX_TIME_OFFSET: Form = Form::Record("LinuxTimeOffset", &[
-    row!("secs", Presence::Optional, I64),
-    row!("nanosecs", Presence::Optional, U32),
-]);
+pub const LINUX_TIME_OFFSET: Form<'static> = Form::Record(
+    "LinuxTimeOffset",
+    &[
+        row!("secs", Presence::Optional, I64),
+        row!("nanosecs", Presence::Optional, U32),
+    ],
+);
 
-static LINUX_TIME_OFFSET_FORM: Form = LINUX_TIME_OFFSET;
+static LINUX_TIME_OFFSET_FORM: Form<'static> = LINUX_TIME_OFFSET;
 
 impl Tabled for LinuxTimeOffset {
-    fn form() -> &'static Form {
+    fn form() -> &'static Form<'static> {
         &LINUX_TIME_OFFSET_FORM
     }
 }

@@ -2,12 +2,12 @@
 use oci_json_form::{Form, Leaf};
 
 /// `ContainerState`.
-pub const CONTAINER_STATE: Form = Form::Leaf(Leaf::Named(&[
+pub const CONTAINER_STATE: Form<'static> = Form::Leaf(Leaf::Named(&[
     "creating", "created", "running", "stopped",
 ]));
 
 /// `ErrorCode`.
-pub const ERROR_CODE: Form = Form::Leaf(Leaf::Named(&[
+pub const ERROR_CODE: Form<'static> = Form::Leaf(Leaf::Named(&[
     "BLOB_UNKNOWN",
     "BLOB_UPLOAD_INVALID",
     "BLOB_UPLOAD_UNKNOWN",
@@ -25,25 +25,25 @@ pub const ERROR_CODE: Form = Form::Leaf(Leaf::Named(&[
 ]));
 
 /// `IOPriorityClass`.
-pub const IO_PRIORITY_CLASS: Form = Form::Leaf(Leaf::Named(&[
+pub const IO_PRIORITY_CLASS: Form<'static> = Form::Leaf(Leaf::Named(&[
     "IOPRIO_CLASS_RT",
     "IOPRIO_CLASS_BE",
     "IOPRIO_CLASS_IDLE",
 ]));
 
 /// `LinuxDeviceType`.
-pub const LINUX_DEVICE_TYPE: Form = Form::Leaf(Leaf::Named(&["a", "b", "c", "u", "p"]));
+pub const LINUX_DEVICE_TYPE: Form<'static> = Form::Leaf(Leaf::Named(&["a", "b", "c", "u", "p"]));
 
 /// `LinuxNamespaceType`.
-pub const LINUX_NAMESPACE_TYPE: Form = Form::Leaf(Leaf::Named(&[
+pub const LINUX_NAMESPACE_TYPE: Form<'static> = Form::Leaf(Leaf::Named(&[
     "mount", "cgroup", "uts", "ipc", "user", "pid", "network", "time",
 ]));
 
 /// `LinuxPersonalityDomain`.
-pub const LINUX_PERSONALITY_DOMAIN: Form = Form::Leaf(Leaf::Named(&["LINUX", "LINUX32"]));
+pub const LINUX_PERSONALITY_DOMAIN: Form<'static> = Form::Leaf(Leaf::Named(&["LINUX", "LINUX32"]));
 
 /// `LinuxSchedulerFlag`.
-pub const LINUX_SCHEDULER_FLAG: Form = Form::Leaf(Leaf::Named(&[
+pub const LINUX_SCHEDULER_FLAG: Form<'static> = Form::Leaf(Leaf::Named(&[
     "SCHED_RESET_ON_FORK",
     "SCHED_FLAG_RECLAIM",
     "SCHED_FLAG_D_L_OVERRUN",
@@ -54,7 +54,7 @@ pub const LINUX_SCHEDULER_FLAG: Form = Form::Leaf(Leaf::Named(&[
 ]));
 
 /// `LinuxSchedulerPolicy`.
-pub const LINUX_SCHEDULER_POLICY: Form = Form::Leaf(Leaf::Named(&[
+pub const LINUX_SCHEDULER_POLICY: Form<'static> = Form::Leaf(Leaf::Named(&[
     "SCHED_OTHER",
     "SCHED_FIFO",
     "SCHED_RR",
@@ -65,7 +65,7 @@ pub const LINUX_SCHEDULER_POLICY: Form = Form::Leaf(Leaf::Named(&[
 ]));
 
 /// `LinuxSeccompAction`.
-pub const LINUX_SECCOMP_ACTION: Form = Form::Leaf(Leaf::Named(&[
+pub const LINUX_SECCOMP_ACTION: Form<'static> = Form::Leaf(Leaf::Named(&[
     "SCMP_ACT_KILL",
     "SCMP_ACT_KILL_THREAD",
     "SCMP_ACT_KILL_PROCESS",
@@ -78,7 +78,7 @@ pub const LINUX_SECCOMP_ACTION: Form = Form::Leaf(Leaf::Named(&[
 ]));
 
 /// `LinuxSeccompFilterFlag`.
-pub const LINUX_SECCOMP_FILTER_FLAG: Form = Form::Leaf(Leaf::Named(&[
+pub const LINUX_SECCOMP_FILTER_FLAG: Form<'static> = Form::Leaf(Leaf::Named(&[
     "SECCOMP_FILTER_FLAG_LOG",
     "SECCOMP_FILTER_FLAG_TSYNC",
     "SECCOMP_FILTER_FLAG_SPEC_ALLOW",
@@ -86,7 +86,7 @@ pub const LINUX_SECCOMP_FILTER_FLAG: Form = Form::Leaf(Leaf::Named(&[
 ]));
 
 /// `LinuxSeccompOperator`.
-pub const LINUX_SECCOMP_OPERATOR: Form = Form::Leaf(Leaf::Named(&[
+pub const LINUX_SECCOMP_OPERATOR: Form<'static> = Form::Leaf(Leaf::Named(&[
     "SCMP_CMP_NE",
     "SCMP_CMP_LT",
     "SCMP_CMP_LE",
@@ -97,14 +97,14 @@ pub const LINUX_SECCOMP_OPERATOR: Form = Form::Leaf(Leaf::Named(&[
 ]));
 
 /// `MemoryPolicyFlagType`.
-pub const MEMORY_POLICY_FLAG_TYPE: Form = Form::Leaf(Leaf::Named(&[
+pub const MEMORY_POLICY_FLAG_TYPE: Form<'static> = Form::Leaf(Leaf::Named(&[
     "MPOL_F_NUMA_BALANCING",
     "MPOL_F_RELATIVE_NODES",
     "MPOL_F_STATIC_NODES",
 ]));
 
 /// `MemoryPolicyModeType`.
-pub const MEMORY_POLICY_MODE_TYPE: Form = Form::Leaf(Leaf::Named(&[
+pub const MEMORY_POLICY_MODE_TYPE: Form<'static> = Form::Leaf(Leaf::Named(&[
     "MPOL_DEFAULT",
     "MPOL_BIND",
     "MPOL_INTERLEAVE",
@@ -115,7 +115,7 @@ pub const MEMORY_POLICY_MODE_TYPE: Form = Form::Leaf(Leaf::Named(&[
 ]));
 
 /// `PosixRlimitType`.
-pub const POSIX_RLIMIT_TYPE: Form = Form::Leaf(Leaf::Named(&[
+pub const POSIX_RLIMIT_TYPE: Form<'static> = Form::Leaf(Leaf::Named(&[
     "RLIMIT_CPU",
     "RLIMIT_FSIZE",
     "RLIMIT_DATA",
@@ -135,7 +135,7 @@ pub const POSIX_RLIMIT_TYPE: Form = Form::Leaf(Leaf::Named(&[
 ]));
 
 /// `SArch`.
-pub const S_ARCH: Form = Form::Leaf(Leaf::Named(&[
+pub const S_ARCH: Form<'static> = Form::Leaf(Leaf::Named(&[
     "SCMP_ARCH_NATIVE",
     "SCMP_ARCH_X86",
     "SCMP_ARCH_X86_64",
@@ -163,4 +163,6 @@ pub const S_ARCH: Form = Form::Leaf(Leaf::Named(&[
 ]));
 
 /// `ZOSNamespaceType`.
-pub const ZOS_NAMESPACE_TYPE: Form = Form::Leaf(Leaf::Named(&["pid", "mount", "ipc", "uts"]));
+pub const ZOS_NAMESPACE_TYPE: Form<'static> = Form::Leaf(Leaf::Named(&[
+    "pid", "mount", "ipc", "uts",
+]));

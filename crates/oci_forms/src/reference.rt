@@ -5,18 +5,21 @@ use oci_json_form::{Form, Presence, Row};
 use oci_reference::Reference;
 
 /// A reference to an image, in its parts.
-pub const REFERENCE: Form = Form::Record("Reference", &[
-    row!("registry", Presence::Required, TEXT),
-    row!("mirror_registry", Presence::Optional, TEXT),
-    row!("repository", Presence::Required, TEXT),
-    row!("tag", Presence::Optional, TEXT),
-    row!("digest", Presence::Optional, TEXT),
-]);
+pub const REFERENCE: Form<'static> = Form::Record(
+    "Reference",
+    &[
+        row!("registry", Presence::Required, TEXT),
+        row!("mirror_registry", Presence::Optional, TEXT),
+        row!("repository", Presence::Required, TEXT),
+        row!("tag", Presence::Optional, TEXT),
+        row!("digest", Presence::Optional, TEXT),
+    ],
+);
 
-static REFERENCE_FORM: Form = REFERENCE;
+static REFERENCE_FORM: Form<'static> = REFERENCE;
 
 impl Tabled for Reference {
-    fn form() -> &'static Form {
+    fn form() -> &'static Form<'static> {
         &REFERENCE_FORM
     }
 }

@@ -15,13 +15,13 @@ use std::alloc::{AllocError, Global};
 /// A record whose table is a value.
 pub trait Tabled: OciRecord {
     /// The form of its documents, which stands for the record's own shape.
-    fn form() -> &'static Form
+    fn form() -> &'static Form<'static>
         ensures { shape_of result.now ≡ Self.shape };
 }
 
 /// All that a record's table refuses in the value, in the order of the table. None is listed exactly where the value is
 /// such a document.
-pub fn faults_of<T: Tabled>(alloc: Global, value: &Value) -> Result<Vec<Fault>, AllocError>
+pub fn faults_of<T: Tabled>(alloc: Global, value: &Value) -> Result<Vec<Fault<'static>>, AllocError>
     ensures all { IfOk result (λ v. map told v.items ≡ all_faults T.shape [] (view value.now)) }
     ensures none { IfOk result (λ v. (v.items ≡ []) ↔ ((p : Plain) × Means T.shape (view value.now) p)) }
 {

@@ -21,7 +21,7 @@ use serde_json::{Map, Number, Value};
 use std::alloc::Global;
 
 /// What is written for a member where nothing stands; `SerDe(Schema)` where it has to be there.
-pub fn conform_absent(form: &Form, presence: &Presence, alloc: Global) -> Result<Option<Value>>
+pub fn conform_absent(form: &Form<'_>, presence: &Presence, alloc: Global) -> Result<Option<Value>>
     requires { MemberIsWellFormed (presence_of presence.now) (shape_of form.now) (WellFormed (shape_of form.now)) }
     ensures ok { IfOk result (λ o. (member_allowed (presence_of presence.now) (accepts (shape_of form.now)) None ≡ true)
         × (option_map view o ≡ conformed_member (presence_of presence.now) (json_of (shape_of form.now)) (conformed (shape_of form.now)) None)) }
@@ -38,7 +38,7 @@ pub fn conform_absent(form: &Form, presence: &Presence, alloc: Global) -> Result
 }
 
 /// The value of what is meant where a member is absent.
-fn absent_value(form: &Form, absent: &Absent, alloc: Global) -> Result<Value>
+fn absent_value(form: &Form<'_>, absent: &Absent, alloc: Global) -> Result<Value>
     requires sound { IsSound (shape_of form.now) }
     requires fits { Fits (shape_of form.now) (absent_plain absent.now) }
     requires writable { Writable (shape_of form.now) (absent_plain absent.now) }
@@ -62,7 +62,7 @@ fn absent_value(form: &Form, absent: &Absent, alloc: Global) -> Result<Value>
 }
 
 /// The value of the record that is meant where a member is absent.
-fn absent_record(form: &Form, given: &[Option<Absent>], alloc: Global) -> Result<Value>
+fn absent_record(form: &Form<'_>, given: &[Option<Absent>], alloc: Global) -> Result<Value>
     requires well { WellFormed (shape_of form.now) }
     requires fits { Fits (shape_of form.now) (document (slots (map absent_slot given.now))) }
     requires writable { Writable (shape_of form.now) (document (slots (map absent_slot given.now))) }
@@ -76,7 +76,11 @@ fn absent_record(form: &Form, given: &[Option<Absent>], alloc: Global) -> Result
     }
 }
 
-fn absent_rows(rows: &[Row], given: &[Option<Absent>], alloc: Global) -> Result<Map<String, Value>>
+fn absent_rows(
+    rows: &[Row<'_>],
+    given: &[Option<Absent>],
+    alloc: Global,
+) -> Result<Map<String, Value>>
     requires well { AreWellFormed (rows_of rows.now) }
     requires fits { FitsRows (rows_of rows.now) (slots (map absent_slot given.now)) }
     requires writable { AreWritable (rows_of rows.now) (slots (map absent_slot given.now)) }
@@ -92,7 +96,7 @@ fn absent_rows(rows: &[Row], given: &[Option<Absent>], alloc: Global) -> Result<
 }
 
 fn absent_row(
-    row: &Row,
+    row: &Row<'_>,
     given: &Option<Absent>,
     made: &mut Map<String, Value>,
     alloc: Global,
@@ -117,7 +121,7 @@ fn absent_row(
 
 /// What is written for a member that is this or nothing.
 fn absent_member(
-    form: &Form,
+    form: &Form<'_>,
     presence: &Presence,
     given: &Option<Absent>,
     alloc: Global,

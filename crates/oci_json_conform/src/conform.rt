@@ -29,7 +29,7 @@ use std::alloc::Global;
 /// not writable. No document is made, texts are moved and not copied, and a part that is known to be its own normal form is
 /// answered as it is. The value is consumed also where it is refused. The refusal names the innermost record and its first
 /// refused member in the order of the table, as the reading of a document does.
-pub fn conform(form: &Form, value: Value, alloc: Global) -> Result<Value>
+pub fn conform(form: &Form<'_>, value: Value, alloc: Global) -> Result<Value>
     requires { WellFormed (shape_of form.now) }
     ensures ok { IfOk result (λ v. (p : Plain) × Means (shape_of form.now) (view value) p × Writable (shape_of form.now) p × (view v ≡ json_of (shape_of form.now) p)) }
     ensures err { IfErr result (λ e. IsSchema e → IsNotConformed (shape_of form.now) (view value)) }
@@ -40,7 +40,7 @@ pub fn conform(form: &Form, value: Value, alloc: Global) -> Result<Value>
 
 /// The same, as a computation.
 #[cycle(conforms)]
-fn conform_value(form: &Form, value: Value, alloc: Global) -> Result<Value>
+fn conform_value(form: &Form<'_>, value: Value, alloc: Global) -> Result<Value>
     requires { IsSound (shape_of form.now) }
     ensures ok { IfOk result (λ v. (accepts (shape_of form.now) (view value) ≡ true) × (view v ≡ conformed (shape_of form.now) (view value))) }
     ensures err { IfErr result (λ e. IsSchema e → accepts (shape_of form.now) (view value) ≡ false) }
@@ -67,7 +67,7 @@ fn conform_value(form: &Form, value: Value, alloc: Global) -> Result<Value>
 }
 
 #[cycle(conforms)]
-fn conform_items(form: &Form, items: Vec<Value>, alloc: Global) -> Result<Vec<Value>>
+fn conform_items(form: &Form<'_>, items: Vec<Value>, alloc: Global) -> Result<Vec<Value>>
     requires { IsSound (shape_of form.now) }
     ensures ok { IfOk result (λ v. (each_allowed (accepts (shape_of form.now)) (items_view items.items) ≡ true)
         × (items_view v.items ≡ each_conformed (conformed (shape_of form.now)) (items_view items.items))) }
@@ -83,7 +83,7 @@ fn conform_items(form: &Form, items: Vec<Value>, alloc: Global) -> Result<Vec<Va
 
 #[cycle(conforms)]
 fn conform_members(
-    form: &Form,
+    form: &Form<'_>,
     members: Map<String, Value>,
     alloc: Global,
 ) -> Result<Map<String, Value>>
@@ -103,7 +103,7 @@ fn conform_members(
 
 #[cycle(conforms)]
 fn conform_rows(
-    rows: &[Row],
+    rows: &[Row<'_>],
     owner: &'static str,
     mut members: Map<String, Value>,
     alloc: Global,
@@ -125,7 +125,7 @@ fn conform_rows(
 /// Moves what a row lists from the one object to the other. Where its value is refused as a whole, the fault is the row's.
 #[cycle(conforms)]
 fn conform_row(
-    row: &Row,
+    row: &Row<'_>,
     owner: &'static str,
     members: &mut Map<String, Value>,
     made: &mut Map<String, Value>,
@@ -147,7 +147,7 @@ fn conform_row(
 /// The same, where a refused value has no place yet.
 #[cycle(conforms)]
 fn move_row(
-    row: &Row,
+    row: &Row<'_>,
     members: &mut Map<String, Value>,
     made: &mut Map<String, Value>,
     alloc: Global,
@@ -171,7 +171,7 @@ fn move_row(
 }
 
 /// Takes what stands under a row's names; refused where something stands under both.
-fn take_row(row: &Row, members: &mut Map<String, Value>) -> Result<Option<Value>>
+fn take_row(row: &Row<'_>, members: &mut Map<String, Value>) -> Result<Option<Value>>
     ensures ok { IfOk result (λ o. option_map view o ≡ chosen (get_member row.now.name.now (members_view members.old.entries)) (get_second (name_of row.now.second) (object (members_view members.old.entries)))) }
     ensures one { OnOk result (is_one_there (get_member row.now.name.now (members_view members.old.entries)) (get_second (name_of row.now.second) (object (members_view members.old.entries))) ≡ true) }
     ensures err { IfErr result (λ e. is_one_there (get_member row.now.name.now (members_view members.old.entries)) (get_second (name_of row.now.second) (object (members_view members.old.entries))) ≡ false) }
@@ -203,7 +203,7 @@ fn take_member(members: &mut Map<String, Value>, name: &str) -> Option<Value>
 /// The normal form of a member, if it is written.
 #[cycle(conforms)]
 fn conform_found(
-    form: &Form,
+    form: &Form<'_>,
     presence: &Presence,
     found: Option<Value>,
     alloc: Global,

@@ -12,7 +12,7 @@ use serde_json::{Map, Value};
 
 /// Whether the form allows the value: whether something is meant.
 #[tactic(auto, using(crate::proofs::Decides::decides))]
-pub fn conforms(form: &Form, value: &Value) -> bool
+pub fn conforms(form: &Form<'_>, value: &Value) -> bool
     ensures { (result ≡ true) ↔ ((p : Plain) × Means (shape_of form.now) (view value.now) p) }
 {
     check(form, value)
@@ -20,7 +20,7 @@ pub fn conforms(form: &Form, value: &Value) -> bool
 
 /// The same, as a computation.
 #[cycle(checks)]
-pub fn check(form: &Form, value: &Value) -> bool
+pub fn check(form: &Form<'_>, value: &Value) -> bool
     ensures { result ≡ allows (shape_of form.now) (view value.now) }
 {
     match form {
@@ -38,7 +38,7 @@ pub fn check(form: &Form, value: &Value) -> bool
 }
 
 #[cycle(checks)]
-fn check_items(form: &Form, items: &Vec<Value>) -> bool
+fn check_items(form: &Form<'_>, items: &Vec<Value>) -> bool
     ensures { result ≡ each_allowed (allows (shape_of form.now)) (items_view items.now.items) }
 {
     for item in items {
@@ -50,7 +50,7 @@ fn check_items(form: &Form, items: &Vec<Value>) -> bool
 }
 
 #[cycle(checks)]
-fn check_members(form: &Form, members: &Map<String, Value>) -> bool
+fn check_members(form: &Form<'_>, members: &Map<String, Value>) -> bool
     ensures { result ≡ each_member_allowed (allows (shape_of form.now)) (members_view members.now.entries) }
 {
     for (_, member) in members.iter() {
@@ -62,7 +62,7 @@ fn check_members(form: &Form, members: &Map<String, Value>) -> bool
 }
 
 #[cycle(checks)]
-fn check_rows(rows: &[Row], value: &Value) -> bool
+fn check_rows(rows: &[Row<'_>], value: &Value) -> bool
     ensures { result ≡ rows_allow (rows_of rows.now) (view value.now) }
 {
     for row in rows {
@@ -74,7 +74,7 @@ fn check_rows(rows: &[Row], value: &Value) -> bool
 }
 
 #[cycle(checks)]
-fn check_row(row: &Row, value: &Value) -> bool
+fn check_row(row: &Row<'_>, value: &Value) -> bool
     ensures { result ≡ row_allows row.now (view value.now) }
 {
     let found = value.get(row.name);
@@ -88,7 +88,7 @@ fn check_row(row: &Row, value: &Value) -> bool
 }
 
 #[cycle(checks)]
-fn check_member(form: &Form, presence: &Presence, found: Option<&Value>) -> bool
+fn check_member(form: &Form<'_>, presence: &Presence, found: Option<&Value>) -> bool
     ensures { result ≡ member_allowed (presence_of presence.now) (allows (shape_of form.now)) (option_map (λ v. view v.now) found.entry) }
 {
     match found {

@@ -4,22 +4,22 @@ use std::fmt;
 
 /// What was wanted at a place.
 #[derive(Clone, Copy)]
-pub enum Wanted {
+pub enum Wanted<'a> {
     /// A value of this form, in place of the one that stands there.
-    Value(&'static Form),
+    Value(&'a Form<'a>),
     /// A member of this form, where none stands.
-    Member(&'static Form),
+    Member(&'a Form<'a>),
     /// No member of this second name beside the one that stands there.
     NoSecond(&'static str),
 }
 
 /// A part of a value that a form refuses.
 #[derive(Drop)]
-pub struct Fault {
+pub struct Fault<'a> {
     /// Where it stands, as a JSON pointer (RFC 6901) from the whole value.
     pub pointer: String,
     /// What was wanted there.
-    pub wanted: Wanted,
+    pub wanted: Wanted<'a>,
 }
 
 impl fmt::Display for Leaf {
@@ -52,7 +52,7 @@ impl fmt::Display for Leaf {
     }
 }
 
-impl fmt::Display for Form {
+impl fmt::Display for Form<'_> {
     fn fmt<W: fmt::Write>(&self, f: &mut fmt::Formatter<W>) -> fmt::Result {
         match self {
             Form::Leaf(leaf) => write!(f, "{leaf}"),
@@ -62,7 +62,7 @@ impl fmt::Display for Form {
     }
 }
 
-impl fmt::Display for Wanted {
+impl fmt::Display for Wanted<'_> {
     fn fmt<W: fmt::Write>(&self, f: &mut fmt::Formatter<W>) -> fmt::Result {
         match self {
             Wanted::Value(form) => write!(f, "{form}"),

@@ -15,7 +15,11 @@ use std::alloc::{AllocError, Global};
 
 /// All that the form refuses in the value, in the order of the table: each place, and what was wanted there. None is listed
 /// exactly where the form allows the value.
-pub fn faults(form: &'static Form, value: &Value, alloc: Global) -> Result<Vec<Fault>, AllocError>
+pub fn faults<'a>(
+    form: &'a Form<'a>,
+    value: &Value,
+    alloc: Global,
+) -> Result<Vec<Fault<'a>>, AllocError>
     ensures all { IfOk result (λ v. map told v.items ≡ all_faults (shape_of form.now) [] (view value.now)) }
     ensures none { IfOk result (λ v. (v.items ≡ []) ↔ ((p : Plain) × Means (shape_of form.now) (view value.now) p)) }
 {
@@ -24,7 +28,12 @@ pub fn faults(form: &'static Form, value: &Value, alloc: Global) -> Result<Vec<F
     Ok(found)
 }
 
-fn push(at: &str, wanted: Wanted, found: &mut Vec<Fault>, alloc: Global) -> Result<(), AllocError>
+fn push<'a>(
+    at: &str,
+    wanted: Wanted<'a>,
+    found: &mut Vec<Fault<'a>>,
+    alloc: Global,
+) -> Result<(), AllocError>
     ensures { OnOk result (map told found.new.items ≡ map told found.old.items ++ (at.now, want_of wanted) ∷ []) }
 {
     let pointer = String::from_str(alloc, at)?;
@@ -33,11 +42,11 @@ fn push(at: &str, wanted: Wanted, found: &mut Vec<Fault>, alloc: Global) -> Resu
 }
 
 #[cycle(faults)]
-fn add(
-    form: &'static Form,
+fn add<'a>(
+    form: &'a Form<'a>,
     value: &Value,
     at: &str,
-    found: &mut Vec<Fault>,
+    found: &mut Vec<Fault<'a>>,
     alloc: Global,
 ) -> Result<(), AllocError>
     ensures { OnOk result (map told found.new.items ≡ map told found.old.items ++ all_faults (shape_of form.now) at.now (view value.now)) }
@@ -69,11 +78,11 @@ fn add(
 }
 
 #[cycle(faults)]
-fn add_items(
-    form: &'static Form,
+fn add_items<'a>(
+    form: &'a Form<'a>,
     items: &Vec<Value>,
     at: &str,
-    found: &mut Vec<Fault>,
+    found: &mut Vec<Fault<'a>>,
     alloc: Global,
 ) -> Result<(), AllocError>
     ensures { OnOk result (map told found.new.items ≡ map told found.old.items ++ each_faults (all_faults (shape_of form.now)) at.now 0 (items_view items.now.items)) }
@@ -86,11 +95,11 @@ fn add_items(
 }
 
 #[cycle(faults)]
-fn add_members(
-    form: &'static Form,
+fn add_members<'a>(
+    form: &'a Form<'a>,
     members: &Map<String, Value>,
     at: &str,
-    found: &mut Vec<Fault>,
+    found: &mut Vec<Fault<'a>>,
     alloc: Global,
 ) -> Result<(), AllocError>
     ensures { OnOk result (map told found.new.items ≡ map told found.old.items ++ each_member_faults (all_faults (shape_of form.now)) at.now (members_view members.now.entries)) }
@@ -103,11 +112,11 @@ fn add_members(
 }
 
 #[cycle(faults)]
-fn add_rows(
-    rows: &'static [Row],
+fn add_rows<'a>(
+    rows: &'a [Row<'a>],
     value: &Value,
     at: &str,
-    found: &mut Vec<Fault>,
+    found: &mut Vec<Fault<'a>>,
     alloc: Global,
 ) -> Result<(), AllocError>
     ensures { OnOk result (map told found.new.items ≡ map told found.old.items ++ rows_faults (rows_of rows.now) at.now (view value.now)) }
@@ -119,11 +128,11 @@ fn add_rows(
 }
 
 #[cycle(faults)]
-fn add_row(
-    row: &'static Row,
+fn add_row<'a>(
+    row: &'a Row<'a>,
     value: &Value,
     at: &str,
-    found: &mut Vec<Fault>,
+    found: &mut Vec<Fault<'a>>,
     alloc: Global,
 ) -> Result<(), AllocError>
     ensures { OnOk result (map told found.new.items ≡ map told found.old.items ++ listed_faults row.now at.now (view value.now)) }
@@ -154,12 +163,12 @@ fn add_row(
 }
 
 #[cycle(faults)]
-fn add_member(
-    form: &'static Form,
+fn add_member<'a>(
+    form: &'a Form<'a>,
     presence: &Presence,
     there: Option<&Value>,
     at: &str,
-    found: &mut Vec<Fault>,
+    found: &mut Vec<Fault<'a>>,
     alloc: Global,
 ) -> Result<(), AllocError>
     ensures { OnOk result (map told found.new.items ≡ map told found.old.items ++ member_faults (presence_of presence.now) (shape_of form.now) (all_faults (shape_of form.now)) at.now (option_map (λ v. view v.now) there.entry)) }

@@ -66,21 +66,21 @@ pub enum Presence {
 /// What a value may be.
 #[derive(Clone, Copy)]
 #[cycle(form)]
-pub enum Form {
+pub enum Form<'a> {
     /// A value with no listed parts.
     Leaf(Leaf),
     /// A list of such values.
-    List(&'static Form),
+    List(&'a Form<'a>),
     /// An object of such values.
-    Map(&'static Form),
+    Map(&'a Form<'a>),
     /// A record of this name: an object with these members, in the order in which they are looked at; others are ignored.
-    Record(&'static str, &'static [Row]),
+    Record(&'static str, &'a [Row<'a>]),
 }
 
 /// A listed member.
 #[derive(Clone, Copy)]
 #[cycle(form)]
-pub struct Row {
+pub struct Row<'a> {
     /// Its name.
     pub name: &'static str,
     /// A second name, under which it is read too.
@@ -88,5 +88,5 @@ pub struct Row {
     /// How it is asked for.
     pub presence: Presence,
     /// What its value may be.
-    pub form: &'static Form,
+    pub form: &'a Form<'a>,
 }

@@ -24,7 +24,7 @@ const NESTING: usize = 127;
 /// Whether the value is known to be its own normal form. A set of capabilities is not looked at: what holds one is not known to
 /// be one.
 #[cycle(keeps)]
-pub fn is_normal(form: &Form, value: &Value) -> bool
+pub fn is_normal(form: &Form<'_>, value: &Value) -> bool
     requires { IsSound (shape_of form.now) }
     ensures { IsTrue result → IsNormal (shape_of form.now) (view value.now) }
 {
@@ -46,7 +46,7 @@ pub fn is_normal(form: &Form, value: &Value) -> bool
 }
 
 #[cycle(keeps)]
-fn are_normal(form: &Form, items: &Vec<Value>) -> bool
+fn are_normal(form: &Form<'_>, items: &Vec<Value>) -> bool
     requires { IsSound (shape_of form.now) }
     ensures { IsTrue result → AreNormal (shape_of form.now) (items_view items.now.items) }
 {
@@ -59,7 +59,7 @@ fn are_normal(form: &Form, items: &Vec<Value>) -> bool
 }
 
 #[cycle(keeps)]
-fn hold_normal(form: &Form, members: &Map<String, Value>) -> bool
+fn hold_normal(form: &Form<'_>, members: &Map<String, Value>) -> bool
     requires { IsSound (shape_of form.now) }
     ensures { IsTrue result → HoldNormal (shape_of form.now) (members_view members.now.entries) }
 {
@@ -72,7 +72,7 @@ fn hold_normal(form: &Form, members: &Map<String, Value>) -> bool
 }
 
 #[cycle(keeps)]
-fn are_normal_members(rows: &[Row], members: &Map<String, Value>) -> bool
+fn are_normal_members(rows: &[Row<'_>], members: &Map<String, Value>) -> bool
     requires distinct { IsTrue (no_text_twice (names (rows_of rows.now))) }
     requires well { AreWellFormed (rows_of rows.now) }
     ensures { IsTrue result → AreNormalMembers (rows_of rows.now) (members_view members.now.entries) }
@@ -82,7 +82,7 @@ fn are_normal_members(rows: &[Row], members: &Map<String, Value>) -> bool
 
 /// Whether each member is listed under its first name, which is seen without a look at any value. It spares the look where one is
 /// not.
-fn are_listed(rows: &[Row], members: &Map<String, Value>) -> bool {
+fn are_listed(rows: &[Row<'_>], members: &Map<String, Value>) -> bool {
     for (name, _) in members.iter() {
         if !is_listed(rows, name.as_str()) {
             return false;
@@ -91,7 +91,7 @@ fn are_listed(rows: &[Row], members: &Map<String, Value>) -> bool {
     true
 }
 
-fn is_listed(rows: &[Row], name: &str) -> bool {
+fn is_listed(rows: &[Row<'_>], name: &str) -> bool {
     for row in rows {
         if row.name == name {
             return true;
@@ -101,7 +101,7 @@ fn is_listed(rows: &[Row], name: &str) -> bool {
 }
 
 /// Whether all that is always written stands there.
-fn has_all(rows: &[Row], members: &Map<String, Value>) -> bool
+fn has_all(rows: &[Row<'_>], members: &Map<String, Value>) -> bool
     ensures { IsTrue result → HasAll (rows_of rows.now) (members_view members.now.entries) }
 {
     for row in rows {
@@ -126,7 +126,7 @@ fn is_always_written(presence: &Presence) -> bool
 
 /// Whether each member is listed and written as it stands.
 #[cycle(keeps)]
-fn are_of_rows(rows: &[Row], members: &Map<String, Value>) -> bool
+fn are_of_rows(rows: &[Row<'_>], members: &Map<String, Value>) -> bool
     requires well { AreWellFormed (rows_of rows.now) }
     ensures listed { IsTrue result → AreOfRows (rows_of rows.now) (members_view members.now.entries) }
     ensures ordered { IsInOrder (members_view members.now.entries) }
@@ -140,7 +140,7 @@ fn are_of_rows(rows: &[Row], members: &Map<String, Value>) -> bool
 }
 
 #[cycle(keeps)]
-fn is_of_row(rows: &[Row], name: &str, value: &Value) -> bool
+fn is_of_row(rows: &[Row<'_>], name: &str, value: &Value) -> bool
     requires well { AreWellFormed (rows_of rows.now) }
     ensures { IsTrue result → IsOfRow (rows_of rows.now) name.now (view value.now) }
 {
@@ -153,7 +153,7 @@ fn is_of_row(rows: &[Row], name: &str, value: &Value) -> bool
 }
 
 #[cycle(keeps)]
-fn is_normal_member(form: &Form, presence: &Presence, value: &Value) -> bool
+fn is_normal_member(form: &Form<'_>, presence: &Presence, value: &Value) -> bool
     requires { MemberIsWellFormed (presence_of presence.now) (shape_of form.now) (WellFormed (shape_of form.now)) }
     ensures { IsTrue result → IsNormalMember (presence_of presence.now) (shape_of form.now) (view value.now) }
 {
