@@ -46,7 +46,7 @@ pub fn judge(form: &Form<'_>, bytes: &[u8], alloc: Global) -> Result<Report>
 }
 
 /// A line for each fault.
-fn lines_of(found: &Vec<Fault<'_>>, alloc: Global) -> std::result::Result<String, AllocError> {
+fn lines_of(found: &Vec<Fault>, alloc: Global) -> std::result::Result<String, AllocError> {
     let mut lines = String::new(alloc);
     for fault in found {
         let pointer = fault.pointer.as_str();

@@ -2,10 +2,8 @@
 use Rattle.std.specs.Prelude.{ℕ, List, [], ◌∷◌, ◌++◌, codes, Option, Some, None, IfSome}
 use Rattle.oci_spec.specs.Descriptor.{descriptor, descriptor_plain}
 use Rattle.oci_spec.specs.declared.image.Descriptor.{Descriptor}
-use Rattle.oci_spec.specs.Plain.{Plain}
-use Rattle.oci_spec.specs.Shape.{Shape}
-use Rattle.oci_spec.specs.Value.{value}
-use Rattle.oci_spec.specs.Engines.{MeansBytes, WritesDocument, IsPretty}
+use Rattle.oci_spec.specs.Engines.{MeansBytes, WritesDocument}
+use Rattle.oci_forms.specs.Pretty.{WritesPretty}
 use Rattle.oci_spec.specs.Accepted.{Accepted}
 use Rattle.oci_spec.specs.Parts.{Parts, resolved}
 use Rattle.oci_spec.specs.Replaced.{pinned}
@@ -40,11 +38,6 @@ digest_lines algorithm encoded = line (codes "algorithm") algorithm ++ line (cod
 -- the line on a reference with the digest of a descriptor
 abbrev pub pinned_line : Parts → Descriptor → List ℕ
 pinned_line r d = whole (pinned r d.digest) ++ 10 ∷ []
-
--- the pretty text of a document is written, which the bytes mean where they are known
-abbrev pub WritesPretty : Shape → Option (List ℕ) → (List ℕ → Type 0) → Type 0
-WritesPretty s input Wrote =
-    (p : Plain) × IfSome input (λ bytes. MeansBytes s bytes p) × ((text : List ℕ) × IsPretty (value s p) text × Wrote text)
 
 -- the lines on the reference that the text is
 abbrev pub WritesReference : List ℕ → (List ℕ → Type 0) → Type 0

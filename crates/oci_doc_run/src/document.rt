@@ -2,14 +2,13 @@
 ghost use Rattle.std.specs.Prelude.{OnOk, IfErr};
 ghost use Rattle.std.specs.Io.KnownBytes.{Appends};
 ghost use Rattle.oci_spec.specs.Engines.{WritesDocument};
+ghost use Rattle.oci_forms.specs.Pretty.{WritesPretty};
 ghost use Rattle.oci_doc_run.specs.Kinds.{shape_of};
-ghost use Rattle.oci_doc_run.specs.Outputs.{WritesPretty};
 ghost use Rattle.oci_doc_run.specs.Refusals.{TellsOfNormal, TellsOfPretty};
 
 use crate::kind::Kind;
 use crate::refusal::Refusal;
-use oci_forms::{Tabled, normalize};
-use oci_json::{OciRecord, from_reader, to_writer_pretty};
+use oci_forms::{Tabled, normalize, normalize_pretty};
 use oci_spec::distribution::{ErrorResponse, Reference, RepositoryList, TagList};
 use oci_spec::image::{
     ArtifactManifest, Descriptor, ImageConfiguration, ImageIndex, ImageManifest, OciLayout,
@@ -32,7 +31,7 @@ fn normal<T: Tabled, R: Read, W: Write>(
 }
 
 /// Reads a document, and writes its pretty text.
-fn pretty<T: OciRecord, R: Read, W: Write>(
+fn pretty<T: Tabled, R: Read, W: Write>(
     alloc: Global,
     reader: &mut R,
     writer: &mut W,
@@ -40,8 +39,7 @@ fn pretty<T: OciRecord, R: Read, W: Write>(
     ensures ok { OnOk result (WritesPretty T.shape (R.remaining reader.old) (Appends (W.contents writer.old) (W.contents writer.new))) }
     ensures err { IfErr result (λ r. TellsOfPretty T.shape (R.remaining reader.old) (W.contents writer.old) (W.contents writer.new) r) }
 {
-    let document: T = from_reader(alloc, &mut *reader)?;
-    to_writer_pretty(&document, alloc, writer)?;
+    normalize_pretty::<T, _, _>(alloc, &mut *reader, writer)?;
     Ok(())
 }
 

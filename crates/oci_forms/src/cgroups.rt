@@ -7,10 +7,13 @@ use oci_json_form::forms::{I64, TEXT, TRUTH, U64};
 use oci_json_form::{Absent, Form, Presence, Row};
 
 /// How much of the huge pages of one size a container may use (runtime specification, "Linux Container Configuration", "Huge page limits").
-pub const LINUX_HUGEPAGE_LIMIT: Form<'static> = Form::Record(&[
-    row!("pageSize", Presence::Defaulted(Absent::Text("")), TEXT),
-    row!("limit", Presence::Defaulted(Absent::Whole(0)), I64),
-]);
+pub const LINUX_HUGEPAGE_LIMIT: Form<'static> = Form::Record(
+    "LinuxHugepageLimit",
+    &[
+        row!("pageSize", Presence::Defaulted(Absent::Text("")), TEXT),
+        row!("limit", Presence::Defaulted(Absent::Whole(0)), I64),
+    ],
+);
 
 static LINUX_HUGEPAGE_LIMIT_FORM: Form<'static> = LINUX_HUGEPAGE_LIMIT;
 
@@ -21,11 +24,10 @@ impl Formed for LinuxHugepageLimit {
 }
 
 /// How many tasks a container may have (runtime specification, "Linux Container Configuration", "PIDs").
-pub const LINUX_PIDS: Form<'static> = Form::Record(&[row!(
-    "limit",
-    Presence::Defaulted(Absent::Whole(0)),
-    I64
-)]);
+pub const LINUX_PIDS: Form<'static> = Form::Record(
+    "LinuxPids",
+    &[row!("limit", Presence::Defaulted(Absent::Whole(0)), I64)],
+);
 
 static LINUX_PIDS_FORM: Form<'static> = LINUX_PIDS;
 
@@ -36,17 +38,20 @@ impl Formed for LinuxPids {
 }
 
 /// How much memory a container may use (runtime specification, "Linux Container Configuration", "Memory").
-pub const LINUX_MEMORY: Form<'static> = Form::Record(&[
-    row!("limit", Presence::Optional, I64),
-    row!("reservation", Presence::Optional, I64),
-    row!("swap", Presence::Optional, I64),
-    row!("kernel", Presence::Optional, I64),
-    row!("kernelTCP", Presence::Optional, I64),
-    row!("swappiness", Presence::Optional, U64),
-    row!("disableOOMKiller", Presence::Optional, TRUTH),
-    row!("useHierarchy", Presence::Optional, TRUTH),
-    row!("checkBeforeUpdate", Presence::Optional, TRUTH),
-]);
+pub const LINUX_MEMORY: Form<'static> = Form::Record(
+    "LinuxMemory",
+    &[
+        row!("limit", Presence::Optional, I64),
+        row!("reservation", Presence::Optional, I64),
+        row!("swap", Presence::Optional, I64),
+        row!("kernel", Presence::Optional, I64),
+        row!("kernelTCP", Presence::Optional, I64),
+        row!("swappiness", Presence::Optional, U64),
+        row!("disableOOMKiller", Presence::Optional, TRUTH),
+        row!("useHierarchy", Presence::Optional, TRUTH),
+        row!("checkBeforeUpdate", Presence::Optional, TRUTH),
+    ],
+);
 
 static LINUX_MEMORY_FORM: Form<'static> = LINUX_MEMORY;
 
@@ -57,17 +62,20 @@ impl Formed for LinuxMemory {
 }
 
 /// How much time on which processors a container may use (runtime specification, "Linux Container Configuration", "CPU").
-pub const LINUX_CPU: Form<'static> = Form::Record(&[
-    row!("shares", Presence::Optional, U64),
-    row!("quota", Presence::Optional, I64),
-    row!("idle", Presence::Optional, I64),
-    row!("burst", Presence::Optional, U64),
-    row!("period", Presence::Optional, U64),
-    row!("realtimeRuntime", Presence::Optional, I64),
-    row!("realtimePeriod", Presence::Optional, U64),
-    row!("cpus", Presence::Optional, TEXT),
-    row!("mems", Presence::Optional, TEXT),
-]);
+pub const LINUX_CPU: Form<'static> = Form::Record(
+    "LinuxCpu",
+    &[
+        row!("shares", Presence::Optional, U64),
+        row!("quota", Presence::Optional, I64),
+        row!("idle", Presence::Optional, I64),
+        row!("burst", Presence::Optional, U64),
+        row!("period", Presence::Optional, U64),
+        row!("realtimeRuntime", Presence::Optional, I64),
+        row!("realtimePeriod", Presence::Optional, U64),
+        row!("cpus", Presence::Optional, TEXT),
+        row!("mems", Presence::Optional, TEXT),
+    ],
+);
 
 static LINUX_CPU_FORM: Form<'static> = LINUX_CPU;
 
@@ -78,25 +86,28 @@ impl Formed for LinuxCpu {
 }
 
 /// What a container may use of its host (runtime specification, "Linux Container Configuration", "Control groups").
-pub const LINUX_RESOURCES: Form<'static> = Form::Record(&[
-    row!(
-        "devices",
-        Presence::Optional,
-        Form::List(&LINUX_DEVICE_CGROUP)
-    ),
-    row!("memory", Presence::Optional, LINUX_MEMORY),
-    row!("cpu", Presence::Optional, LINUX_CPU),
-    row!("pids", Presence::Optional, LINUX_PIDS),
-    row!("blockIO", Presence::Optional, LINUX_BLOCK_IO),
-    row!(
-        "hugepageLimits",
-        Presence::Optional,
-        Form::List(&LINUX_HUGEPAGE_LIMIT)
-    ),
-    row!("network", Presence::Optional, LINUX_NETWORK),
-    row!("rdma", Presence::Optional, Form::Map(&LINUX_RDMA)),
-    row!("unified", Presence::Optional, Form::Map(&TEXT)),
-]);
+pub const LINUX_RESOURCES: Form<'static> = Form::Record(
+    "LinuxResources",
+    &[
+        row!(
+            "devices",
+            Presence::Optional,
+            Form::List(&LINUX_DEVICE_CGROUP)
+        ),
+        row!("memory", Presence::Optional, LINUX_MEMORY),
+        row!("cpu", Presence::Optional, LINUX_CPU),
+        row!("pids", Presence::Optional, LINUX_PIDS),
+        row!("blockIO", Presence::Optional, LINUX_BLOCK_IO),
+        row!(
+            "hugepageLimits",
+            Presence::Optional,
+            Form::List(&LINUX_HUGEPAGE_LIMIT)
+        ),
+        row!("network", Presence::Optional, LINUX_NETWORK),
+        row!("rdma", Presence::Optional, Form::Map(&LINUX_RDMA)),
+        row!("unified", Presence::Optional, Form::Map(&TEXT)),
+    ],
+);
 
 static LINUX_RESOURCES_FORM: Form<'static> = LINUX_RESOURCES;
 

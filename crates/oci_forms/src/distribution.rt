@@ -6,11 +6,14 @@ use oci_json_form::forms::{DETAIL, TEXT};
 use oci_json_form::{Form, Presence, Row};
 
 /// One error of a registry's reply (distribution specification, "Error Codes").
-pub const ERROR_INFO: Form<'static> = Form::Record(&[
-    row!("code", Presence::Required, ERROR_CODE),
-    row!("message", Presence::Optional, TEXT),
-    row!("detail", Presence::Optional, DETAIL),
-]);
+pub const ERROR_INFO: Form<'static> = Form::Record(
+    "ErrorInfo",
+    &[
+        row!("code", Presence::Required, ERROR_CODE),
+        row!("message", Presence::Optional, TEXT),
+        row!("detail", Presence::Optional, DETAIL),
+    ],
+);
 
 static ERROR_INFO_FORM: Form<'static> = ERROR_INFO;
 
@@ -21,11 +24,10 @@ impl Formed for ErrorInfo {
 }
 
 /// A registry's reply to a request that failed (distribution specification, "Error Codes").
-pub const ERROR_RESPONSE: Form<'static> = Form::Record(&[row!(
-    "errors",
-    Presence::Required,
-    Form::List(&ERROR_INFO)
-)]);
+pub const ERROR_RESPONSE: Form<'static> = Form::Record(
+    "ErrorResponse",
+    &[row!("errors", Presence::Required, Form::List(&ERROR_INFO))],
+);
 
 static ERROR_RESPONSE_FORM: Form<'static> = ERROR_RESPONSE;
 
@@ -36,11 +38,10 @@ impl Formed for ErrorResponse {
 }
 
 /// The repositories of a registry (distribution specification, "Listing Repositories").
-pub const REPOSITORY_LIST: Form<'static> = Form::Record(&[row!(
-    "repositories",
-    Presence::Required,
-    Form::List(&TEXT)
-)]);
+pub const REPOSITORY_LIST: Form<'static> = Form::Record(
+    "RepositoryList",
+    &[row!("repositories", Presence::Required, Form::List(&TEXT))],
+);
 
 static REPOSITORY_LIST_FORM: Form<'static> = REPOSITORY_LIST;
 
@@ -51,10 +52,13 @@ impl Formed for RepositoryList {
 }
 
 /// The tags of a repository (distribution specification, "Listing Tags").
-pub const TAG_LIST: Form<'static> = Form::Record(&[
-    row!("name", Presence::Required, TEXT),
-    row!("tags", Presence::Required, Form::List(&TEXT)),
-]);
+pub const TAG_LIST: Form<'static> = Form::Record(
+    "TagList",
+    &[
+        row!("name", Presence::Required, TEXT),
+        row!("tags", Presence::Required, Form::List(&TEXT)),
+    ],
+);
 
 static TAG_LIST_FORM: Form<'static> = TAG_LIST;
 

@@ -6,16 +6,19 @@ use oci_json_form::forms::{DIGEST, MEDIA_TYPE, TEXT, U64};
 use oci_json_form::{Form, Presence, Row};
 
 /// What a document points to: its media type, its digest and its size (image specification, "Content Descriptors").
-pub const DESCRIPTOR: Form<'static> = Form::Record(&[
-    row!("mediaType", Presence::Required, MEDIA_TYPE),
-    row!("digest", Presence::Required, DIGEST),
-    row!("size", Presence::Required, U64),
-    row!("urls", Presence::Optional, Form::List(&TEXT)),
-    row!("annotations", Presence::Optional, Form::Map(&TEXT)),
-    row!("platform", Presence::Optional, PLATFORM),
-    row!("artifactType", Presence::Optional, MEDIA_TYPE),
-    row!("data", Presence::Optional, TEXT),
-]);
+pub const DESCRIPTOR: Form<'static> = Form::Record(
+    "Descriptor",
+    &[
+        row!("mediaType", Presence::Required, MEDIA_TYPE),
+        row!("digest", Presence::Required, DIGEST),
+        row!("size", Presence::Required, U64),
+        row!("urls", Presence::Optional, Form::List(&TEXT)),
+        row!("annotations", Presence::Optional, Form::Map(&TEXT)),
+        row!("platform", Presence::Optional, PLATFORM),
+        row!("artifactType", Presence::Optional, MEDIA_TYPE),
+        row!("data", Presence::Optional, TEXT),
+    ],
+);
 
 static DESCRIPTOR_FORM: Form<'static> = DESCRIPTOR;
 

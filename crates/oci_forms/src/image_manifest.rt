@@ -6,15 +6,18 @@ use oci_json_form::forms::{MEDIA_TYPE, TEXT, U32};
 use oci_json_form::{Form, Presence, Row};
 
 /// A configuration and layers for one image on one machine (image specification, "Image Manifest").
-pub const IMAGE_MANIFEST: Form<'static> = Form::Record(&[
-    row!("schemaVersion", Presence::Required, U32),
-    row!("mediaType", Presence::Optional, MEDIA_TYPE),
-    row!("artifactType", Presence::Optional, MEDIA_TYPE),
-    row!("config", Presence::Required, DESCRIPTOR),
-    row!("layers", Presence::Required, Form::List(&DESCRIPTOR)),
-    row!("subject", Presence::Optional, DESCRIPTOR),
-    row!("annotations", Presence::Optional, Form::Map(&TEXT)),
-]);
+pub const IMAGE_MANIFEST: Form<'static> = Form::Record(
+    "ImageManifest",
+    &[
+        row!("schemaVersion", Presence::Required, U32),
+        row!("mediaType", Presence::Optional, MEDIA_TYPE),
+        row!("artifactType", Presence::Optional, MEDIA_TYPE),
+        row!("config", Presence::Required, DESCRIPTOR),
+        row!("layers", Presence::Required, Form::List(&DESCRIPTOR)),
+        row!("subject", Presence::Optional, DESCRIPTOR),
+        row!("annotations", Presence::Optional, Form::Map(&TEXT)),
+    ],
+);
 
 static IMAGE_MANIFEST_FORM: Form<'static> = IMAGE_MANIFEST;
 
@@ -25,13 +28,16 @@ impl Formed for ImageManifest {
 }
 
 /// Content of any type and what it is related to (image specification 1.1.0-rc2, "Artifact Manifest").
-pub const ARTIFACT_MANIFEST: Form<'static> = Form::Record(&[
-    row!("mediaType", Presence::Required, MEDIA_TYPE),
-    row!("artifactType", Presence::Required, MEDIA_TYPE),
-    row!("blobs", Presence::Required, Form::List(&DESCRIPTOR)),
-    row!("subject", Presence::Optional, DESCRIPTOR),
-    row!("annotations", Presence::Optional, Form::Map(&TEXT)),
-]);
+pub const ARTIFACT_MANIFEST: Form<'static> = Form::Record(
+    "ArtifactManifest",
+    &[
+        row!("mediaType", Presence::Required, MEDIA_TYPE),
+        row!("artifactType", Presence::Required, MEDIA_TYPE),
+        row!("blobs", Presence::Required, Form::List(&DESCRIPTOR)),
+        row!("subject", Presence::Optional, DESCRIPTOR),
+        row!("annotations", Presence::Optional, Form::Map(&TEXT)),
+    ],
+);
 
 static ARTIFACT_MANIFEST_FORM: Form<'static> = ARTIFACT_MANIFEST;
 
@@ -42,14 +48,17 @@ impl Formed for ArtifactManifest {
 }
 
 /// Manifests of one image for several machines (image specification, "Image Index").
-pub const IMAGE_INDEX: Form<'static> = Form::Record(&[
-    row!("schemaVersion", Presence::Required, U32),
-    row!("mediaType", Presence::Optional, MEDIA_TYPE),
-    row!("artifactType", Presence::Optional, MEDIA_TYPE),
-    row!("manifests", Presence::Required, Form::List(&DESCRIPTOR)),
-    row!("subject", Presence::Optional, DESCRIPTOR),
-    row!("annotations", Presence::Optional, Form::Map(&TEXT)),
-]);
+pub const IMAGE_INDEX: Form<'static> = Form::Record(
+    "ImageIndex",
+    &[
+        row!("schemaVersion", Presence::Required, U32),
+        row!("mediaType", Presence::Optional, MEDIA_TYPE),
+        row!("artifactType", Presence::Optional, MEDIA_TYPE),
+        row!("manifests", Presence::Required, Form::List(&DESCRIPTOR)),
+        row!("subject", Presence::Optional, DESCRIPTOR),
+        row!("annotations", Presence::Optional, Form::Map(&TEXT)),
+    ],
+);
 
 static IMAGE_INDEX_FORM: Form<'static> = IMAGE_INDEX;
 
@@ -60,11 +69,10 @@ impl Formed for ImageIndex {
 }
 
 /// The file `oci-layout` of an image's folder (image specification, "Image Layout", "oci-layout file").
-pub const OCI_LAYOUT: Form<'static> = Form::Record(&[row!(
-    "imageLayoutVersion",
-    Presence::Required,
-    TEXT
-)]);
+pub const OCI_LAYOUT: Form<'static> = Form::Record(
+    "OciLayout",
+    &[row!("imageLayoutVersion", Presence::Required, TEXT)],
+);
 
 static OCI_LAYOUT_FORM: Form<'static> = OCI_LAYOUT;
 

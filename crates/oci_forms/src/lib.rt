@@ -30,6 +30,7 @@ pub mod names;
 pub mod normal;
 pub mod platforms;
 pub mod platforms_windows;
+pub mod pretty;
 pub mod process;
 pub mod process_parts;
 pub mod reference;
@@ -39,4 +40,5 @@ mod runtime_spec;
 pub mod tabled;
 
 pub use normal::{conform_as, normalize};
+pub use pretty::normalize_pretty;
 pub use tabled::{Formed, Tabled, faults_of};

@@ -29,6 +29,7 @@ impl Tabled for Linux {
         let time_offsets = map_of::<LinuxTimeOffset>(room)?;
         record(
             room,
+            "Linux",
             &[
                 row!("netDevices", Presence::Optional, *net_devices),
                 row!("uidMappings", Presence::Optional, *uid_mappings),

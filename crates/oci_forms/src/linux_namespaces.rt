@@ -8,11 +8,14 @@ use oci_linux_namespaces::{
 };
 
 /// A run of user or group IDs of a container, and the IDs of the host that they stand for (runtime specification, "Linux Container Configuration", "User namespace mappings").
-pub const LINUX_ID_MAPPING: Form<'static> = Form::Record(&[
-    row!("hostID", Presence::Defaulted(Absent::Whole(0)), U32),
-    row!("containerID", Presence::Defaulted(Absent::Whole(0)), U32),
-    row!("size", Presence::Defaulted(Absent::Whole(0)), U32),
-]);
+pub const LINUX_ID_MAPPING: Form<'static> = Form::Record(
+    "LinuxIdMapping",
+    &[
+        row!("hostID", Presence::Defaulted(Absent::Whole(0)), U32),
+        row!("containerID", Presence::Defaulted(Absent::Whole(0)), U32),
+        row!("size", Presence::Defaulted(Absent::Whole(0)), U32),
+    ],
+);
 
 static LINUX_ID_MAPPING_FORM: Form<'static> = LINUX_ID_MAPPING;
 
@@ -23,7 +26,10 @@ impl Formed for LinuxIdMapping {
 }
 
 /// What becomes of a network device that is moved into a container (runtime specification, "Linux Container Configuration", `netDevices`).
-pub const LINUX_NET_DEVICE: Form<'static> = Form::Record(&[row!("name", Presence::Nullable, TEXT)]);
+pub const LINUX_NET_DEVICE: Form<'static> = Form::Record(
+    "LinuxNetDevice",
+    &[row!("name", Presence::Nullable, TEXT)],
+);
 
 static LINUX_NET_DEVICE_FORM: Form<'static> = LINUX_NET_DEVICE;
 
@@ -34,10 +40,13 @@ impl Formed for LinuxNetDevice {
 }
 
 /// A namespace that a container has of its own or joins (runtime specification, "Linux Container Configuration", "Namespaces").
-pub const LINUX_NAMESPACE: Form<'static> = Form::Record(&[
-    row!("type", Presence::Required, LINUX_NAMESPACE_TYPE),
-    row!("path", Presence::Optional, TEXT),
-]);
+pub const LINUX_NAMESPACE: Form<'static> = Form::Record(
+    "LinuxNamespace",
+    &[
+        row!("type", Presence::Required, LINUX_NAMESPACE_TYPE),
+        row!("path", Presence::Optional, TEXT),
+    ],
+);
 
 static LINUX_NAMESPACE_FORM: Form<'static> = LINUX_NAMESPACE;
 
@@ -48,15 +57,18 @@ impl Formed for LinuxNamespace {
 }
 
 /// A device file that a container has (runtime specification, "Linux Container Configuration", "Devices").
-pub const LINUX_DEVICE: Form<'static> = Form::Record(&[
-    row!("path", Presence::Defaulted(Absent::Text("")), TEXT),
-    row!("type", Presence::Required, LINUX_DEVICE_TYPE),
-    row!("major", Presence::Defaulted(Absent::Whole(0)), I64),
-    row!("minor", Presence::Defaulted(Absent::Whole(0)), I64),
-    row!("fileMode", Presence::Optional, U32),
-    row!("uid", Presence::Optional, U32),
-    row!("gid", Presence::Optional, U32),
-]);
+pub const LINUX_DEVICE: Form<'static> = Form::Record(
+    "LinuxDevice",
+    &[
+        row!("path", Presence::Defaulted(Absent::Text("")), TEXT),
+        row!("type", Presence::Required, LINUX_DEVICE_TYPE),
+        row!("major", Presence::Defaulted(Absent::Whole(0)), I64),
+        row!("minor", Presence::Defaulted(Absent::Whole(0)), I64),
+        row!("fileMode", Presence::Optional, U32),
+        row!("uid", Presence::Optional, U32),
+        row!("gid", Presence::Optional, U32),
+    ],
+);
 
 static LINUX_DEVICE_FORM: Form<'static> = LINUX_DEVICE;
 
@@ -67,10 +79,13 @@ impl Formed for LinuxDevice {
 }
 
 /// By how much a clock of a container's time namespace differs (runtime specification, "Linux Container Configuration", "Offset for Time Namespace").
-pub const LINUX_TIME_OFFSET: Form<'static> = Form::Record(&[
-    row!("secs", Presence::Optional, I64),
-    row!("nanosecs", Presence::Optional, U32),
-]);
+pub const LINUX_TIME_OFFSET: Form<'static> = Form::Record(
+    "LinuxTimeOffset",
+    &[
+        row!("secs", Presence::Optional, I64),
+        row!("nanosecs", Presence::Optional, U32),
+    ],
+);
 
 static LINUX_TIME_OFFSET_FORM: Form<'static> = LINUX_TIME_OFFSET;
 

@@ -46,12 +46,16 @@ pub fn map_of<'a, T: Tabled>(room: &'a Bump) -> Result<&'a Form<'a>, AllocError>
     map(room, T::table(room)?)
 }
 
-/// An object with these members.
-pub fn record<'a>(room: &'a Bump, rows: &[Row<'a>]) -> Result<&'a Form<'a>, AllocError>
+/// A record of this name, with these members.
+pub fn record<'a>(
+    room: &'a Bump,
+    name: &'static str,
+    rows: &[Row<'a>],
+) -> Result<&'a Form<'a>, AllocError>
     ensures { IfOk result (λ f. shape_of f.now ≡ rows_shape (rows_of rows.now)) }
 {
     let rows = room.try_alloc_slice_copy(rows)?;
-    Ok(room.try_alloc(Form::Record(rows))?)
+    Ok(room.try_alloc(Form::Record(name, rows))?)
 }
 
 fn list<'a>(room: &'a Bump, item: &'a Form<'a>) -> Result<&'a Form<'a>, AllocError>

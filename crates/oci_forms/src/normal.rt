@@ -14,16 +14,14 @@ use crate::Tabled;
 use bumpalo::Bump;
 use oci_json_conform::conform::conform;
 use oci_json_engines::{value_from_reader, write_text};
-use oci_json_form::check::conforms;
-use oci_json_normal::kept::is_normal;
 use oci_text_base::Result;
 use serde_json::Value;
 use std::alloc::Global;
 use std::io::{Read, Write};
 
 /// The value that is written for the document which the value means; `SerDe(Schema)` where it means none, with the place that
-/// `from_value` names, or where that document is not writable. A value that is known to be its own normal form is answered as it
-/// is, and of others texts are moved and not copied. It is consumed also where it is refused.
+/// `from_value` names, or where that document is not writable. A part that is known to be its own normal form is answered as it
+/// is, and of others texts are moved and not copied. The value is consumed also where it is refused.
 pub fn conform_as<T: Tabled>(value: Value, alloc: Global) -> Result<Value>
     ensures ok { IfOk result (λ v. (p : Plain) × Means T.shape (view value) p × Writable T.shape p × (view v ≡ json_of T.shape p)) }
     ensures err { IfErr result (λ e. IsSchema e → IsNotConformed T.shape (view value)) }
@@ -31,12 +29,6 @@ pub fn conform_as<T: Tabled>(value: Value, alloc: Global) -> Result<Value>
 {
     let room = Bump::new(alloc);
     let form = T::table(&room)?;
-    if is_normal(form, &value) {
-        return Ok(value);
-    }
-    if !conforms(form, &value) {
-        drop(T::from_value(alloc, &value)?);
-    }
     conform(form, value, alloc)
 }
 

@@ -9,15 +9,18 @@ use oci_platforms::{
 };
 
 /// A network interface that is made for a Solaris container (runtime specification, "Solaris Application Container Configuration", "Automatic Network (anet)").
-pub const SOLARIS_ANET: Form<'static> = Form::Record(&[
-    row!("linkname", Presence::Optional, TEXT),
-    row!("lowerLink", Presence::Optional, TEXT),
-    row!("allowedAddress", Presence::Optional, TEXT),
-    row!("configureAllowedAddress", Presence::Optional, TEXT),
-    row!("defrouter", Presence::Optional, TEXT),
-    row!("linkProtection", Presence::Optional, TEXT),
-    row!("macAddress", Presence::Optional, TEXT),
-]);
+pub const SOLARIS_ANET: Form<'static> = Form::Record(
+    "SolarisAnet",
+    &[
+        row!("linkname", Presence::Optional, TEXT),
+        row!("lowerLink", Presence::Optional, TEXT),
+        row!("allowedAddress", Presence::Optional, TEXT),
+        row!("configureAllowedAddress", Presence::Optional, TEXT),
+        row!("defrouter", Presence::Optional, TEXT),
+        row!("linkProtection", Presence::Optional, TEXT),
+        row!("macAddress", Presence::Optional, TEXT),
+    ],
+);
 
 static SOLARIS_ANET_FORM: Form<'static> = SOLARIS_ANET;
 
@@ -28,11 +31,10 @@ impl Formed for SolarisAnet {
 }
 
 /// How much processor time a Solaris container may use (runtime specification, "Solaris Application Container Configuration", "CappedCPU").
-pub const SOLARIS_CAPPED_CPU: Form<'static> = Form::Record(&[row!(
-    "ncpus",
-    Presence::Optional,
-    TEXT
-)]);
+pub const SOLARIS_CAPPED_CPU: Form<'static> = Form::Record(
+    "SolarisCappedCPU",
+    &[row!("ncpus", Presence::Optional, TEXT)],
+);
 
 static SOLARIS_CAPPED_CPU_FORM: Form<'static> = SOLARIS_CAPPED_CPU;
 
@@ -43,10 +45,13 @@ impl Formed for SolarisCappedCPU {
 }
 
 /// How much memory a Solaris container may use (runtime specification, "Solaris Application Container Configuration", "CappedMemory").
-pub const SOLARIS_CAPPED_MEMORY: Form<'static> = Form::Record(&[
-    row!("physical", Presence::Optional, TEXT),
-    row!("swap", Presence::Optional, TEXT),
-]);
+pub const SOLARIS_CAPPED_MEMORY: Form<'static> = Form::Record(
+    "SolarisCappedMemory",
+    &[
+        row!("physical", Presence::Optional, TEXT),
+        row!("swap", Presence::Optional, TEXT),
+    ],
+);
 
 static SOLARIS_CAPPED_MEMORY_FORM: Form<'static> = SOLARIS_CAPPED_MEMORY;
 
@@ -57,14 +62,17 @@ impl Formed for SolarisCappedMemory {
 }
 
 /// What only a Solaris container has (runtime specification, "Solaris Application Container Configuration").
-pub const SOLARIS: Form<'static> = Form::Record(&[
-    row!("milestone", Presence::Optional, TEXT),
-    row!("limitpriv", Presence::Optional, TEXT),
-    row!("maxShmMemory", Presence::Optional, TEXT),
-    row!("anet", Presence::Optional, Form::List(&SOLARIS_ANET)),
-    row!("cappedCPU", Presence::Optional, SOLARIS_CAPPED_CPU),
-    row!("cappedMemory", Presence::Optional, SOLARIS_CAPPED_MEMORY),
-]);
+pub const SOLARIS: Form<'static> = Form::Record(
+    "Solaris",
+    &[
+        row!("milestone", Presence::Optional, TEXT),
+        row!("limitpriv", Presence::Optional, TEXT),
+        row!("maxShmMemory", Presence::Optional, TEXT),
+        row!("anet", Presence::Optional, Form::List(&SOLARIS_ANET)),
+        row!("cappedCPU", Presence::Optional, SOLARIS_CAPPED_CPU),
+        row!("cappedMemory", Presence::Optional, SOLARIS_CAPPED_MEMORY),
+    ],
+);
 
 static SOLARIS_FORM: Form<'static> = SOLARIS;
 
@@ -75,10 +83,13 @@ impl Formed for Solaris {
 }
 
 /// The hypervisor of a virtual machine (runtime specification, "Virtual-machine-specific Container Configuration", "Hypervisor Object").
-pub const VM_HYPERVISOR: Form<'static> = Form::Record(&[
-    row!("path", Presence::Required, TEXT),
-    row!("parameters", Presence::Optional, Form::List(&TEXT)),
-]);
+pub const VM_HYPERVISOR: Form<'static> = Form::Record(
+    "VMHypervisor",
+    &[
+        row!("path", Presence::Required, TEXT),
+        row!("parameters", Presence::Optional, Form::List(&TEXT)),
+    ],
+);
 
 static VM_HYPERVISOR_FORM: Form<'static> = VM_HYPERVISOR;
 
@@ -89,11 +100,14 @@ impl Formed for VMHypervisor {
 }
 
 /// The kernel of a virtual machine (runtime specification, "Virtual-machine-specific Container Configuration", "Kernel Object").
-pub const VM_KERNEL: Form<'static> = Form::Record(&[
-    row!("path", Presence::Required, TEXT),
-    row!("parameters", Presence::Optional, Form::List(&TEXT)),
-    row!("initrd", Presence::Optional, TEXT),
-]);
+pub const VM_KERNEL: Form<'static> = Form::Record(
+    "VMKernel",
+    &[
+        row!("path", Presence::Required, TEXT),
+        row!("parameters", Presence::Optional, Form::List(&TEXT)),
+        row!("initrd", Presence::Optional, TEXT),
+    ],
+);
 
 static VM_KERNEL_FORM: Form<'static> = VM_KERNEL;
 
@@ -104,10 +118,13 @@ impl Formed for VMKernel {
 }
 
 /// The image that a virtual machine's root is in (runtime specification, "Virtual-machine-specific Container Configuration", "Image Object").
-pub const VM_IMAGE: Form<'static> = Form::Record(&[
-    row!("path", Presence::Required, TEXT),
-    row!("format", Presence::Required, TEXT),
-]);
+pub const VM_IMAGE: Form<'static> = Form::Record(
+    "VMImage",
+    &[
+        row!("path", Presence::Required, TEXT),
+        row!("format", Presence::Required, TEXT),
+    ],
+);
 
 static VM_IMAGE_FORM: Form<'static> = VM_IMAGE;
 
@@ -118,11 +135,14 @@ impl Formed for VMImage {
 }
 
 /// The virtual machine that a container runs in (runtime specification, "Virtual-machine-specific Container Configuration").
-pub const VM: Form<'static> = Form::Record(&[
-    row!("hypervisor", Presence::Optional, VM_HYPERVISOR),
-    row!("kernel", Presence::Required, VM_KERNEL),
-    row!("image", Presence::Optional, VM_IMAGE),
-]);
+pub const VM: Form<'static> = Form::Record(
+    "VM",
+    &[
+        row!("hypervisor", Presence::Optional, VM_HYPERVISOR),
+        row!("kernel", Presence::Required, VM_KERNEL),
+        row!("image", Presence::Optional, VM_IMAGE),
+    ],
+);
 
 static VM_FORM: Form<'static> = VM;
 
@@ -133,10 +153,13 @@ impl Formed for VM {
 }
 
 /// A namespace that a z/OS container has of its own or joins (runtime specification, `config-zos.md`, "Namespaces").
-pub const ZOS_NAMESPACE: Form<'static> = Form::Record(&[
-    row!("type", Presence::Required, ZOS_NAMESPACE_TYPE),
-    row!("path", Presence::Optional, TEXT),
-]);
+pub const ZOS_NAMESPACE: Form<'static> = Form::Record(
+    "ZOSNamespace",
+    &[
+        row!("type", Presence::Required, ZOS_NAMESPACE_TYPE),
+        row!("path", Presence::Optional, TEXT),
+    ],
+);
 
 static ZOS_NAMESPACE_FORM: Form<'static> = ZOS_NAMESPACE;
 
@@ -147,11 +170,10 @@ impl Formed for ZOSNamespace {
 }
 
 /// What only a z/OS container has (runtime specification, `config-zos.md`).
-pub const ZOS: Form<'static> = Form::Record(&[row!(
-    "namespaces",
-    Presence::Optional,
-    Form::List(&ZOS_NAMESPACE)
-)]);
+pub const ZOS: Form<'static> = Form::Record(
+    "ZOS",
+    &[row!("namespaces", Presence::Optional, Form::List(&ZOS_NAMESPACE))],
+);
 
 static ZOS_FORM: Form<'static> = ZOS;
 

@@ -10,10 +10,13 @@ use oci_process_parts::{
 };
 
 /// The size of a process's terminal (runtime specification, "Configuration", "Process", `consoleSize`).
-pub const CONSOLE_BOX: Form<'static> = Form::Record(&[
-    row!("height", Presence::Defaulted(Absent::Whole(0)), U64),
-    row!("width", Presence::Defaulted(Absent::Whole(0)), U64),
-]);
+pub const CONSOLE_BOX: Form<'static> = Form::Record(
+    "Box",
+    &[
+        row!("height", Presence::Defaulted(Absent::Whole(0)), U64),
+        row!("width", Presence::Defaulted(Absent::Whole(0)), U64),
+    ],
+);
 
 static CONSOLE_BOX_FORM: Form<'static> = CONSOLE_BOX;
 
@@ -24,11 +27,14 @@ impl Formed for Box {
 }
 
 /// A limit on what a process may use (runtime specification, "Configuration", "POSIX process", `rlimits`).
-pub const POSIX_RLIMIT: Form<'static> = Form::Record(&[
-    row!("type", Presence::Required, POSIX_RLIMIT_TYPE),
-    row!("hard", Presence::Defaulted(Absent::Whole(0)), U64),
-    row!("soft", Presence::Defaulted(Absent::Whole(0)), U64),
-]);
+pub const POSIX_RLIMIT: Form<'static> = Form::Record(
+    "PosixRlimit",
+    &[
+        row!("type", Presence::Required, POSIX_RLIMIT_TYPE),
+        row!("hard", Presence::Defaulted(Absent::Whole(0)), U64),
+        row!("soft", Presence::Defaulted(Absent::Whole(0)), U64),
+    ],
+);
 
 static POSIX_RLIMIT_FORM: Form<'static> = POSIX_RLIMIT;
 
@@ -39,13 +45,16 @@ impl Formed for PosixRlimit {
 }
 
 /// The user that a process runs as (runtime specification, "Configuration", "User").
-pub const USER: Form<'static> = Form::Record(&[
-    row!("uid", Presence::Defaulted(Absent::Whole(0)), U32),
-    row!("gid", Presence::Defaulted(Absent::Whole(0)), U32),
-    row!("umask", Presence::Optional, U32),
-    row!("additionalGids", Presence::Optional, Form::List(&U32)),
-    row!("username", Presence::Optional, TEXT),
-]);
+pub const USER: Form<'static> = Form::Record(
+    "User",
+    &[
+        row!("uid", Presence::Defaulted(Absent::Whole(0)), U32),
+        row!("gid", Presence::Defaulted(Absent::Whole(0)), U32),
+        row!("umask", Presence::Optional, U32),
+        row!("additionalGids", Presence::Optional, Form::List(&U32)),
+        row!("username", Presence::Optional, TEXT),
+    ],
+);
 
 static USER_FORM: Form<'static> = USER;
 
@@ -56,13 +65,16 @@ impl Formed for User {
 }
 
 /// The five sets of capabilities of a process (runtime specification, "Configuration", "Linux Process", `capabilities`).
-pub const LINUX_CAPABILITIES: Form<'static> = Form::Record(&[
-    row!("bounding", Presence::Optional, CAPABILITIES),
-    row!("effective", Presence::Optional, CAPABILITIES),
-    row!("inheritable", Presence::Optional, CAPABILITIES),
-    row!("permitted", Presence::Optional, CAPABILITIES),
-    row!("ambient", Presence::Optional, CAPABILITIES),
-]);
+pub const LINUX_CAPABILITIES: Form<'static> = Form::Record(
+    "LinuxCapabilities",
+    &[
+        row!("bounding", Presence::Optional, CAPABILITIES),
+        row!("effective", Presence::Optional, CAPABILITIES),
+        row!("inheritable", Presence::Optional, CAPABILITIES),
+        row!("permitted", Presence::Optional, CAPABILITIES),
+        row!("ambient", Presence::Optional, CAPABILITIES),
+    ],
+);
 
 static LINUX_CAPABILITIES_FORM: Form<'static> = LINUX_CAPABILITIES;
 
@@ -73,14 +85,17 @@ impl Formed for LinuxCapabilities {
 }
 
 /// How soon a process's input and output is served (runtime specification, "Configuration", "Linux Process", `ioPriority`).
-pub const LINUX_IO_PRIORITY: Form<'static> = Form::Record(&[
-    row!(
-        "class",
-        Presence::Defaulted(Absent::Variant("IOPRIO_CLASS_BE")),
-        IO_PRIORITY_CLASS
-    ),
-    row!("priority", Presence::Defaulted(Absent::Whole(0)), I64),
-]);
+pub const LINUX_IO_PRIORITY: Form<'static> = Form::Record(
+    "LinuxIOPriority",
+    &[
+        row!(
+            "class",
+            Presence::Defaulted(Absent::Variant("IOPRIO_CLASS_BE")),
+            IO_PRIORITY_CLASS
+        ),
+        row!("priority", Presence::Defaulted(Absent::Whole(0)), I64),
+    ],
+);
 
 static LINUX_IO_PRIORITY_FORM: Form<'static> = LINUX_IO_PRIORITY;
 
@@ -91,19 +106,22 @@ impl Formed for LinuxIOPriority {
 }
 
 /// When a process may run (runtime specification, "Configuration", "Linux Process", `scheduler`).
-pub const SCHEDULER: Form<'static> = Form::Record(&[
-    row!("policy", Presence::Required, LINUX_SCHEDULER_POLICY),
-    row!("nice", Presence::Optional, I32),
-    row!("priority", Presence::Optional, I32),
-    row!(
-        "flags",
-        Presence::Optional,
-        Form::List(&LINUX_SCHEDULER_FLAG)
-    ),
-    row!("runtime", Presence::Optional, U64),
-    row!("deadline", Presence::Optional, U64),
-    row!("period", Presence::Optional, U64),
-]);
+pub const SCHEDULER: Form<'static> = Form::Record(
+    "Scheduler",
+    &[
+        row!("policy", Presence::Required, LINUX_SCHEDULER_POLICY),
+        row!("nice", Presence::Optional, I32),
+        row!("priority", Presence::Optional, I32),
+        row!(
+            "flags",
+            Presence::Optional,
+            Form::List(&LINUX_SCHEDULER_FLAG)
+        ),
+        row!("runtime", Presence::Optional, U64),
+        row!("deadline", Presence::Optional, U64),
+        row!("period", Presence::Optional, U64),
+    ],
+);
 
 static SCHEDULER_FORM: Form<'static> = SCHEDULER;
 
@@ -114,10 +132,13 @@ impl Formed for Scheduler {
 }
 
 /// The processors on which a program runs that is started in a running container (runtime specification, "Configuration", "Linux Process", `execCPUAffinity`).
-pub const EXEC_CPU_AFFINITY: Form<'static> = Form::Record(&[
-    row!("initial", Presence::Optional, PROCESSORS),
-    row!("final", Presence::Optional, PROCESSORS),
-]);
+pub const EXEC_CPU_AFFINITY: Form<'static> = Form::Record(
+    "ExecCPUAffinity",
+    &[
+        row!("initial", Presence::Optional, PROCESSORS),
+        row!("final", Presence::Optional, PROCESSORS),
+    ],
+);
 
 static EXEC_CPU_AFFINITY_FORM: Form<'static> = EXEC_CPU_AFFINITY;
 

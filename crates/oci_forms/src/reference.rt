@@ -5,13 +5,16 @@ use oci_json_form::{Form, Presence, Row};
 use oci_reference::Reference;
 
 /// A reference to an image, in its parts.
-pub const REFERENCE: Form<'static> = Form::Record(&[
-    row!("registry", Presence::Required, TEXT),
-    row!("mirror_registry", Presence::Optional, TEXT),
-    row!("repository", Presence::Required, TEXT),
-    row!("tag", Presence::Optional, TEXT),
-    row!("digest", Presence::Optional, TEXT),
-]);
+pub const REFERENCE: Form<'static> = Form::Record(
+    "Reference",
+    &[
+        row!("registry", Presence::Required, TEXT),
+        row!("mirror_registry", Presence::Optional, TEXT),
+        row!("repository", Presence::Required, TEXT),
+        row!("tag", Presence::Optional, TEXT),
+        row!("digest", Presence::Optional, TEXT),
+    ],
+);
 
 static REFERENCE_FORM: Form<'static> = REFERENCE;
 

@@ -6,12 +6,15 @@ use oci_json_form::{Absent, Form, Presence, Row};
 use oci_runtime_lifecycle::{ContainerProcessState, Hook, Hooks, State};
 
 /// A program that is run at a turn of a container's life (runtime specification, "Configuration", "POSIX-platform Hooks").
-pub const HOOK: Form<'static> = Form::Record(&[
-    row!("path", Presence::Required, TEXT),
-    row!("args", Presence::Optional, Form::List(&TEXT)),
-    row!("env", Presence::Optional, Form::List(&TEXT)),
-    row!("timeout", Presence::Optional, I64),
-]);
+pub const HOOK: Form<'static> = Form::Record(
+    "Hook",
+    &[
+        row!("path", Presence::Required, TEXT),
+        row!("args", Presence::Optional, Form::List(&TEXT)),
+        row!("env", Presence::Optional, Form::List(&TEXT)),
+        row!("timeout", Presence::Optional, I64),
+    ],
+);
 
 static HOOK_FORM: Form<'static> = HOOK;
 
@@ -22,14 +25,17 @@ impl Formed for Hook {
 }
 
 /// The programs that are run at the turns of a container's life, each list in its order (runtime specification, "Configuration", "POSIX-platform Hooks").
-pub const HOOKS: Form<'static> = Form::Record(&[
-    row!("prestart", Presence::Optional, Form::List(&HOOK)),
-    row!("createRuntime", Presence::Optional, Form::List(&HOOK)),
-    row!("createContainer", Presence::Optional, Form::List(&HOOK)),
-    row!("startContainer", Presence::Optional, Form::List(&HOOK)),
-    row!("poststart", Presence::Optional, Form::List(&HOOK)),
-    row!("poststop", Presence::Optional, Form::List(&HOOK)),
-]);
+pub const HOOKS: Form<'static> = Form::Record(
+    "Hooks",
+    &[
+        row!("prestart", Presence::Optional, Form::List(&HOOK)),
+        row!("createRuntime", Presence::Optional, Form::List(&HOOK)),
+        row!("createContainer", Presence::Optional, Form::List(&HOOK)),
+        row!("startContainer", Presence::Optional, Form::List(&HOOK)),
+        row!("poststart", Presence::Optional, Form::List(&HOOK)),
+        row!("poststop", Presence::Optional, Form::List(&HOOK)),
+    ],
+);
 
 static HOOKS_FORM: Form<'static> = HOOKS;
 
@@ -40,18 +46,21 @@ impl Formed for Hooks {
 }
 
 /// The state of a container (runtime specification, "Runtime and Lifecycle", "State").
-pub const STATE: Form<'static> = Form::Record(&[
-    row!("ociVersion", Presence::Defaulted(Absent::Text("")), TEXT),
-    row!("id", Presence::Defaulted(Absent::Text("")), TEXT),
-    row!(
-        "status",
-        Presence::Defaulted(Absent::Variant("stopped")),
-        CONTAINER_STATE
-    ),
-    row!("pid", Presence::Optional, I32),
-    row!("bundle", Presence::Defaulted(Absent::Text("")), TEXT),
-    row!("annotations", Presence::Optional, Form::Map(&TEXT)),
-]);
+pub const STATE: Form<'static> = Form::Record(
+    "State",
+    &[
+        row!("ociVersion", Presence::Defaulted(Absent::Text("")), TEXT),
+        row!("id", Presence::Defaulted(Absent::Text("")), TEXT),
+        row!(
+            "status",
+            Presence::Defaulted(Absent::Variant("stopped")),
+            CONTAINER_STATE
+        ),
+        row!("pid", Presence::Optional, I32),
+        row!("bundle", Presence::Defaulted(Absent::Text("")), TEXT),
+        row!("annotations", Presence::Optional, Form::Map(&TEXT)),
+    ],
+);
 
 static STATE_FORM: Form<'static> = STATE;
 
@@ -62,28 +71,31 @@ impl Formed for State {
 }
 
 /// What a program that listens to a container's system calls is told (runtime specification, "Linux Container Configuration", "The Container Process State").
-pub const CONTAINER_PROCESS_STATE: Form<'static> = Form::Record(&[
-    row!("ociVersion", Presence::Defaulted(Absent::Text("")), TEXT),
-    row!(
-        "fds",
-        Presence::Defaulted(Absent::NoItems),
-        Form::List(&TEXT)
-    ),
-    row!("pid", Presence::Defaulted(Absent::Whole(0)), I32),
-    row!("metadata", Presence::Optional, TEXT),
-    row!(
-        "state",
-        Presence::DefaultedRecord(&[
-            Some(Absent::Text("")),
-            Some(Absent::Text("")),
-            Some(Absent::Variant("stopped")),
-            None,
-            Some(Absent::Text("")),
-            None
-        ]),
-        STATE
-    ),
-]);
+pub const CONTAINER_PROCESS_STATE: Form<'static> = Form::Record(
+    "ContainerProcessState",
+    &[
+        row!("ociVersion", Presence::Defaulted(Absent::Text("")), TEXT),
+        row!(
+            "fds",
+            Presence::Defaulted(Absent::NoItems),
+            Form::List(&TEXT)
+        ),
+        row!("pid", Presence::Defaulted(Absent::Whole(0)), I32),
+        row!("metadata", Presence::Optional, TEXT),
+        row!(
+            "state",
+            Presence::DefaultedRecord(&[
+                Some(Absent::Text("")),
+                Some(Absent::Text("")),
+                Some(Absent::Variant("stopped")),
+                None,
+                Some(Absent::Text("")),
+                None
+            ]),
+            STATE
+        ),
+    ],
+);
 
 static CONTAINER_PROCESS_STATE_FORM: Form<'static> = CONTAINER_PROCESS_STATE;
 

@@ -6,10 +6,13 @@ use oci_json_form::{Absent, Form, Presence, Row};
 use oci_runtime_mounts::{Mount, Root};
 
 /// The root of a container's file system (runtime specification, "Configuration", "Root").
-pub const ROOT: Form<'static> = Form::Record(&[
-    row!("path", Presence::Defaulted(Absent::Text("")), TEXT),
-    row!("readonly", Presence::Optional, TRUTH),
-]);
+pub const ROOT: Form<'static> = Form::Record(
+    "Root",
+    &[
+        row!("path", Presence::Defaulted(Absent::Text("")), TEXT),
+        row!("readonly", Presence::Optional, TRUTH),
+    ],
+);
 
 static ROOT_FORM: Form<'static> = ROOT;
 
@@ -20,22 +23,25 @@ impl Formed for Root {
 }
 
 /// A mount that a container has beside its root (runtime specification, "Configuration", "Mounts").
-pub const MOUNT: Form<'static> = Form::Record(&[
-    row!("destination", Presence::Required, TEXT),
-    row!("type", Presence::Optional, TEXT),
-    row!("source", Presence::Optional, TEXT),
-    row!("options", Presence::Optional, Form::List(&TEXT)),
-    row!(
-        "uidMappings",
-        Presence::Optional,
-        Form::List(&LINUX_ID_MAPPING)
-    ),
-    row!(
-        "gidMappings",
-        Presence::Optional,
-        Form::List(&LINUX_ID_MAPPING)
-    ),
-]);
+pub const MOUNT: Form<'static> = Form::Record(
+    "Mount",
+    &[
+        row!("destination", Presence::Required, TEXT),
+        row!("type", Presence::Optional, TEXT),
+        row!("source", Presence::Optional, TEXT),
+        row!("options", Presence::Optional, Form::List(&TEXT)),
+        row!(
+            "uidMappings",
+            Presence::Optional,
+            Form::List(&LINUX_ID_MAPPING)
+        ),
+        row!(
+            "gidMappings",
+            Presence::Optional,
+            Form::List(&LINUX_ID_MAPPING)
+        ),
+    ],
+);
 
 static MOUNT_FORM: Form<'static> = MOUNT;
 

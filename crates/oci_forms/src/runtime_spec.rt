@@ -30,6 +30,7 @@ impl Tabled for Spec {
         let uid_mappings = list_of::<LinuxIdMapping>(room)?;
         record(
             room,
+            "Spec",
             &[
                 row!("ociVersion", Presence::Defaulted(Absent::Text("")), *text),
                 row!("root", Presence::Optional, *root),

@@ -34,15 +34,12 @@ impl<T: Formed> Tabled for T {
 }
 
 /// All that a record's table refuses in the value, in the order of the table. None is listed exactly where the value is
-/// such a document. What of the table is no constant is made in the room, to which the faults then refer.
-pub fn faults_of<'a, T: Tabled>(
-    room: &'a Bump,
-    alloc: Global,
-    value: &Value,
-) -> Result<Vec<Fault<'a>>, AllocError>
+/// such a document.
+pub fn faults_of<T: Tabled>(alloc: Global, value: &Value) -> Result<Vec<Fault>, AllocError>
     ensures all { IfOk result (λ v. map told v.items ≡ all_faults T.shape [] (view value.now)) }
     ensures none { IfOk result (λ v. (v.items ≡ []) ↔ ((p : Plain) × Means T.shape (view value.now) p)) }
 {
-    let form = T::table(room)?;
+    let room = Bump::new(alloc);
+    let form = T::table(&room)?;
     faults(form, value, alloc)
 }

@@ -71,7 +71,7 @@ fn absent_record(form: &Form<'_>, given: &[Option<Absent>], alloc: Global) -> Re
     ensures kind { IfErr result IsMemoryOrSchema }
 {
     match form {
-        Form::Record(rows) => Ok(Value::Object(absent_rows(rows, given, alloc)?)),
+        Form::Record(_, rows) => Ok(Value::Object(absent_rows(rows, given, alloc)?)),
         _ => unreachable!(),
     }
 }

@@ -19,7 +19,7 @@ use crate::absent::conform_absent;
 use crate::normal::{conform_leaf, unless_no_items};
 use oci_json_form::{Form, Presence, Row};
 use oci_json_normal::kept::{has_member, is_normal};
-use oci_json_schema::fault::refused;
+use oci_json_schema::fault::{placed, refused};
 use oci_json_schema::owned::{into_items, into_members};
 use oci_text_base::Result;
 use serde_json::{Map, Value};
@@ -27,7 +27,8 @@ use std::alloc::Global;
 
 /// The value that is written for the document which the value means; `SerDe(Schema)` where it means none, or one that is
 /// not writable. No document is made, texts are moved and not copied, and a part that is known to be its own normal form is
-/// answered as it is. The value is consumed also where it is refused, and the refusal names no place.
+/// answered as it is. The value is consumed also where it is refused. The refusal names the innermost record and its first
+/// refused member in the order of the table, as the reading of a document does.
 pub fn conform(form: &Form<'_>, value: Value, alloc: Global) -> Result<Value>
     requires { WellFormed (shape_of form.now) }
     ensures ok { IfOk result (λ v. (p : Plain) × Means (shape_of form.now) (view value) p × Writable (shape_of form.now) p × (view v ≡ json_of (shape_of form.now) p)) }
@@ -58,9 +59,9 @@ fn conform_value(form: &Form<'_>, value: Value, alloc: Global) -> Result<Value>
             Some(members) => Ok(Value::Object(conform_members(inner, members, alloc)?)),
             None => Err(refused("", "")),
         },
-        Form::Record(rows) => match into_members(value) {
-            Some(members) => Ok(Value::Object(conform_rows(rows, members, alloc)?)),
-            None => Err(refused("", "")),
+        Form::Record(owner, rows) => match into_members(value) {
+            Some(members) => Ok(Value::Object(conform_rows(rows, *owner, members, alloc)?)),
+            None => Err(refused(*owner, "")),
         },
     }
 }
@@ -103,6 +104,7 @@ fn conform_members(
 #[cycle(conforms)]
 fn conform_rows(
     rows: &[Row<'_>],
+    owner: &'static str,
     mut members: Map<String, Value>,
     alloc: Global,
 ) -> Result<Map<String, Value>>
@@ -115,14 +117,36 @@ fn conform_rows(
 {
     let mut made = Map::new(alloc);
     for row in rows {
-        conform_row(row, &mut members, &mut made, alloc)?;
+        conform_row(row, owner, &mut members, &mut made, alloc)?;
     }
     Ok(made)
 }
 
-/// Moves what a row lists from the one object to the other.
+/// Moves what a row lists from the one object to the other. Where its value is refused as a whole, the fault is the row's.
 #[cycle(conforms)]
 fn conform_row(
+    row: &Row<'_>,
+    owner: &'static str,
+    members: &mut Map<String, Value>,
+    made: &mut Map<String, Value>,
+    alloc: Global,
+) -> Result<()>
+    requires { MemberIsWellFormed (presence_of row.now.presence) (shape_of row.now.form.now) (WellFormed (shape_of row.now.form.now)) }
+    ensures ok { OnOk result (members_view made.new.entries ≡ with_member row.now.name.now (row_conformed row.now (object (members_view members.old.entries))) (members_view made.old.entries)) }
+    ensures accepts { OnOk result (row_accepts row.now (object (members_view members.old.entries)) ≡ true) }
+    ensures others { (q : _) → is_one_of q row.now.name.now (name_of row.now.second) ≡ false → get_member q (members_view members.new.entries) ≡ get_member q (members_view members.old.entries) }
+    ensures err { IfErr result (λ e. IsSchema e → row_accepts row.now (object (members_view members.old.entries)) ≡ false) }
+    ensures kind { IfErr result IsMemoryOrSchema }
+{
+    match move_row(row, members, made, alloc) {
+        Ok(()) => Ok(()),
+        Err(fault) => Err(placed(fault, owner, row.name)),
+    }
+}
+
+/// The same, where a refused value has no place yet.
+#[cycle(conforms)]
+fn move_row(
     row: &Row<'_>,
     members: &mut Map<String, Value>,
     made: &mut Map<String, Value>,

@@ -7,4 +7,5 @@ pub mod Replacing
 pub mod Stands
 pub mod Tables
 pub mod Texts
+pub mod Wants
 pub mod Ways

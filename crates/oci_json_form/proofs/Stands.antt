@@ -1,5 +1,5 @@
 -- That a form stands for a shape: a step for each part of a table, so that the proof of a table is read beside it.
-use Rattle.std.proofs.Common.{◌≡◌, refl, ap, ◌∙◌, List, [], ◌∷◌, Bor}
+use Rattle.std.proofs.Common.{◌≡◌, refl, ap, ◌∙◌, ℕ, List, [], ◌∷◌, Bor}
 use Rattle.oci_json_schema.specs.Shape as shape
 use Rattle.oci_json_schema.specs.Shape.{Shape, Rows, no_rows, row}
 use Rattle.oci_json_form.specs.Tables.{leaf_shape, shape_of, rows_of, presence_of, name_of}
@@ -24,8 +24,8 @@ a_list {f} e = record { same_shape = shape_list f ∙ ap shape.list e.same_shape
 pub a_map : {f : Bor Form} {s : Shape} → StandsFor f.now s → StandsFor (form.Map f) (shape.map s)
 a_map {f} e = record { same_shape = shape_map f ∙ ap shape.map e.same_shape }
 
-pub a_record : {t : Bor (List Row)} {rs : Rows} → StandFor t.now rs → StandsFor (form.Record t) (shape.rows rs)
-a_record {t} e = record { same_shape = shape_record t ∙ ap shape.rows e.same_rows }
+pub a_record : {n : Bor (List ℕ)} {t : Bor (List Row)} {rs : Rows} → StandFor t.now rs → StandsFor (form.Record n t) (shape.rows rs)
+a_record {n} {t} e = record { same_shape = shape_record n t ∙ ap shape.rows e.same_rows }
 
 pub no_row : StandFor [] no_rows
 no_row = record { same_rows = refl }

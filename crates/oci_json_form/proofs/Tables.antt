@@ -27,15 +27,15 @@ seen : (rs : List Row) → lines (map (fold-Row Shape Line shape_step row_step) 
 seen [] = refl
 seen (r ∷ rs) = rw (fold_out-Row Shape Line shape_step row_step r, seen rs) refl
 
-pub shape_record : (rs : Bor (List Row)) → shape_of (form.Record rs) ≡ shape.rows (rows_of rs.now)
-shape_record rs = ap shape_of (sym (form.rolls-Record rs)) ∙ fold-roll-Form Shape Line shape_step row_step (Form-F.Record rs) ∙ ap shape.rows (seen rs.now)
+pub shape_record : (n : Bor (List ℕ)) (rs : Bor (List Row)) → shape_of (form.Record n rs) ≡ shape.rows (rows_of rs.now)
+shape_record n rs = ap shape_of (sym (form.rolls-Record n rs)) ∙ fold-roll-Form Shape Line shape_step row_step (Form-F.Record n rs) ∙ ap shape.rows (seen rs.now)
 
 -- what a record allows, and what it refuses
-pub record_allows : (f : Form) (rs : Bor (List Row)) (d : Data) (b : Bool) → f ≡ form.Record rs → is_object d ≡ true → b ≡ rows_allow (rows_of rs.now) d → b ≡ allows (shape_of f) d
-record_allows f rs d b is object e = e ∙ sym (ap (λ x. allows (shape_of x) d) is ∙ ap (λ s. allows s d) (shape_record rs) ∙ rw object refl)
+pub record_allows : (f : Form) (n : Bor (List ℕ)) (rs : Bor (List Row)) (d : Data) (b : Bool) → f ≡ form.Record n rs → is_object d ≡ true → b ≡ rows_allow (rows_of rs.now) d → b ≡ allows (shape_of f) d
+record_allows f n rs d b is object e = e ∙ sym (ap (λ x. allows (shape_of x) d) is ∙ ap (λ s. allows s d) (shape_record n rs) ∙ rw object refl)
 
-pub record_lists : (f : Form) (rs : Bor (List Row)) (at : List ℕ) (d : Data) → f ≡ form.Record rs → is_object d ≡ true → rows_faults (rows_of rs.now) at d ≡ faults (shape_of f) at d
-record_lists f rs at d is object = sym (ap (λ x. faults (shape_of x) at d) is ∙ ap (λ s. faults s at d) (shape_record rs) ∙ rw object refl)
+pub record_lists : (f : Form) (n : Bor (List ℕ)) (rs : Bor (List Row)) (at : List ℕ) (d : Data) → f ≡ form.Record n rs → is_object d ≡ true → rows_faults (rows_of rs.now) at d ≡ faults (shape_of f) at d
+record_lists f n rs at d is object = sym (ap (λ x. faults (shape_of x) at d) is ∙ ap (λ s. faults s at d) (shape_record n rs) ∙ rw object refl)
 
-pub record_is : (f : Form) (rs : Bor (List Row)) → f ≡ form.Record rs → shape_of f ≡ shape.rows (rows_of rs.now)
-record_is f rs is = ap shape_of is ∙ shape_record rs
+pub record_is : (f : Form) (n : Bor (List ℕ)) (rs : Bor (List Row)) → f ≡ form.Record n rs → shape_of f ≡ shape.rows (rows_of rs.now)
+record_is f n rs is = ap shape_of is ∙ shape_record n rs

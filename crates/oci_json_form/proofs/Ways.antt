@@ -10,9 +10,9 @@ use Rattle.serde_json.specs.Find.{as_array, as_object, as_null, get, get_item, g
 use Rattle.oci_json_schema.specs.Means.{is_object}
 use Rattle.oci_json_schema.specs.Shape as shape
 use Rattle.oci_json_schema.specs.Shape.{Presence, required, defaulted, optional, nullable, unless_empty, Shape, text, truth, whole, named, open_name, digest_text, cpu_text, cap_set, list, key_set, detail, free_map, rows, Rows, no_rows, row}
-use Rattle.oci_json_form.specs.Allows.{allows, items_allowed, members_allowed, rows_allow}
+use Rattle.oci_json_form.specs.Allows.{allows}
 use Rattle.oci_json_form.specs.Places.{under_name, under_index}
-use Rattle.oci_json_form.specs.Faults.{Told, other_value, a_member, no_second, unless, each_faults, items_faults, each_member_faults, members_faults, member_faults, either_faults, row_faults, faults, rows_faults}
+use Rattle.oci_json_form.specs.Faults.{Told, kind_of, is_of_kind, an_object, other_value, a_member, no_second, unless, each_faults, items_faults, each_member_faults, members_faults, member_faults, either_faults, row_faults, faults, rows_faults}
 use Rattle.oci_json_form.specs.Leads.{Step, to_member, to_item, spelled, Have, HasMember, HasItem, Goes, LeadsTo, IsPlaceIn, HoldsAt, IsSo}
 
 -- ---- ways
@@ -73,10 +73,10 @@ Tells f = (root : Data) (at : List ℕ) (d : Data) → LeadsTo root at d → All
 one : (root : Data) (x : Told) → IsSo root x → All (IsSo root) (x ∷ [])
 one root x so = All-cons (IsSo root) x [] so (All-nil (IsSo root))
 
-refused : (root : Data) (at : List ℕ) (d : Data) (s : Shape) → LeadsTo root at d → allows s d ≡ false → All (IsSo root) ((at, other_value s) ∷ [])
-refused root at d s leads e = one root (at, other_value s) (d, leads, e)
+refused : (root : Data) (at : List ℕ) (d : Data) (s : Shape) → LeadsTo root at d → is_of_kind (kind_of s) d ≡ false → All (IsSo root) ((at, other_value (kind_of s)) ∷ [])
+refused root at d s leads e = one root (at, other_value (kind_of s)) (d, leads, e)
 
-unless_so : (root : Data) (at : List ℕ) (d : Data) (s : Shape) (b : Bool) → allows s d ≡ b → LeadsTo root at d → All (IsSo root) (unless b at s)
+unless_so : (root : Data) (at : List ℕ) (d : Data) (s : Shape) (b : Bool) → is_of_kind (kind_of s) d ≡ b → LeadsTo root at d → All (IsSo root) (unless b at s)
 unless_so root at d s true e leads = All-nil (IsSo root)
 unless_so root at d s false e leads = refused root at d s leads e
 
@@ -93,7 +93,7 @@ each_so f tells root at d all leads is i (item c ds) within =
     shifted : (i j : ℕ) (all : Items) (b : Data) → get_item (i + suc j) all ≡ Some b → get_item ((i + 1) + j) all ≡ Some b
     shifted i j all b e = let moved : (i + 1) + j ≡ i + suc j = omega arith in ap (λ n. get_item n all) moved ∙ e
 
-items_so : (s : Shape) (f : Listing) → Tells f → (root : Data) (at : List ℕ) (d : Data) → LeadsTo root at d → (o : Option Items) → as_array d ≡ o → (o ≡ None → allows s d ≡ false)
+items_so : (s : Shape) (f : Listing) → Tells f → (root : Data) (at : List ℕ) (d : Data) → LeadsTo root at d → (o : Option Items) → as_array d ≡ o → (o ≡ None → is_of_kind (kind_of s) d ≡ false)
     → All (IsSo root) (items_faults s f at o)
 items_so s f tells root at d leads None is none = refused root at d s leads (none refl)
 items_so s f tells root at d leads (Some ds) is none = each_so f tells root at d ds leads is 0 ds (λ j c e. from_first j c e)
@@ -109,7 +109,7 @@ each_member_so f tells root at d all leads is (member k c ms) within =
     (tells root (under_name at k) c (member_step root d c at k leads (all, is, within k c (inl (refl, refl)))))
     (each_member_so f tells root at d all leads is ms (λ name b h. within name b (inr h)))
 
-members_so : (s : Shape) (f : Listing) → Tells f → (root : Data) (at : List ℕ) (d : Data) → LeadsTo root at d → (o : Option Members) → as_object d ≡ o → (o ≡ None → allows s d ≡ false)
+members_so : (s : Shape) (f : Listing) → Tells f → (root : Data) (at : List ℕ) (d : Data) → LeadsTo root at d → (o : Option Members) → as_object d ≡ o → (o ≡ None → is_of_kind (kind_of s) d ≡ false)
     → All (IsSo root) (members_faults s f at o)
 members_so s f tells root at d leads None is none = refused root at d s leads (none refl)
 members_so s f tells root at d leads (Some ms) is none = each_member_so f tells root at d ms leads is ms (λ name c h. h)
@@ -122,8 +122,8 @@ null_so root false xs so = so
 
 -- by where what was found stands, and by what is so where nothing was
 member_so : (presence : Presence) (s : Shape) (f : Listing) → Tells f → (root : Data) (at : List ℕ) (found : Option Data)
-    → ((c : Data) → found ≡ Some c → LeadsTo root at c) → (found ≡ None → HoldsAt root at (a_member s)) → All (IsSo root) (member_faults presence s f at found)
-member_so required s f tells root at None leads none = one root (at, a_member s) (none refl)
+    → ((c : Data) → found ≡ Some c → LeadsTo root at c) → (found ≡ None → HoldsAt root at (a_member (kind_of s))) → All (IsSo root) (member_faults presence s f at found)
+member_so required s f tells root at None leads none = one root (at, a_member (kind_of s)) (none refl)
 member_so required s f tells root at (Some c) leads none = tells root at c (leads c refl)
 member_so (defaulted p) s f tells root at None leads none = All-nil (IsSo root)
 member_so (defaulted p) s f tells root at (Some c) leads none = tells root at c (leads c refl)
@@ -158,9 +158,9 @@ row_so presence s f tells root at d leads is name None = named_so presence s f t
 row_so presence s f tells root at d leads is name (Some second) = either_so presence s f tells root at d leads is name second (get name d) (get second d) refl refl
 
 record_so : (root : Data) (at : List ℕ) (d : Data) (rs : Rows) (b : Bool) → is_object d ≡ b → LeadsTo root at d → (is_object d ≡ true → All (IsSo root) (rows_faults rs at d))
-    → All (IsSo root) (cond b (rows_faults rs at d) ((at, other_value (rows rs)) ∷ []))
+    → All (IsSo root) (cond b (rows_faults rs at d) ((at, other_value an_object) ∷ []))
 record_so root at d rs true e leads so = so e
-record_so root at d rs false e leads so = refused root at d (rows rs) leads (ap (λ x. x && rows_allow rs d) e)
+record_so root at d rs false e leads so = refused root at d (rows rs) leads e
 
 mutual
   shape_so : (s : Shape) (root : Data) (at : List ℕ) (d : Data) → LeadsTo root at d → All (IsSo root) (faults s at d)
@@ -173,9 +173,9 @@ mutual
   shape_so cpu_text root at d leads = unless_so root at d cpu_text (allows cpu_text d) refl leads
   shape_so (cap_set table) root at d leads = unless_so root at d (cap_set table) (allows (cap_set table) d) refl leads
   shape_so (list s) root at d leads =
-      items_so (list s) (faults s) (λ r p x w. shape_so s r p x w) root at d leads (as_array d) refl (λ e. ap (items_allowed (allows s)) e)
+      items_so (list s) (faults s) (λ r p x w. shape_so s r p x w) root at d leads (as_array d) refl (λ e. ap is_some e)
   shape_so (shape.map s) root at d leads =
-      members_so (shape.map s) (faults s) (λ r p x w. shape_so s r p x w) root at d leads (as_object d) refl (λ e. ap (members_allowed (allows s)) e)
+      members_so (shape.map s) (faults s) (λ r p x w. shape_so s r p x w) root at d leads (as_object d) refl (λ e. ap is_some e)
   shape_so key_set root at d leads = unless_so root at d key_set (allows key_set d) refl leads
   shape_so detail root at d leads = unless_so root at d detail (allows detail d) refl leads
   shape_so free_map root at d leads = unless_so root at d free_map (allows free_map d) refl leads

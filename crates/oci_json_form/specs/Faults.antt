@@ -7,18 +7,53 @@ use Rattle.oci_json_schema.specs.Shape.{Presence, required, defaulted, optional,
 use Rattle.oci_json_schema.specs.Shape as shape
 use Rattle.oci_json_form.specs.Allows.{allows}
 use Rattle.oci_json_form.specs.Places.{under_name, under_index}
-use Rattle.oci_json_form.specs.Tables.{shape_of, presence_of, name_of}
+use Rattle.oci_json_form.specs.Tables.{leaf_shape, shape_of, presence_of, name_of}
 use Rattle.oci_json_form.specs.declared.form.Row.{Row}
+use Rattle.oci_json_form.specs.declared.fault.Expected.{Expected}
+use Rattle.oci_json_form.specs.declared.fault.Expected.TheVariants as expected
 use Rattle.oci_json_form.specs.declared.fault.Fault.{Fault}
 use Rattle.oci_json_form.specs.declared.fault.Wanted.{Wanted}
 use Rattle.oci_json_form.specs.declared.fault.Wanted.TheVariants as wanted
 
+-- what a value is wanted to be; its parts have faults of their own
+pub data Kind : Type 0 where
+  -- one with no listed parts, of this shape
+  leaf : Shape → Kind
+  a_list : Kind
+  an_object : Kind
+
+abbrev pub kind_of : Shape → Kind
+kind_of text = leaf text
+kind_of truth = leaf truth
+kind_of (whole low high) = leaf (whole low high)
+kind_of (named table) = leaf (named table)
+kind_of (open_name table) = leaf (open_name table)
+kind_of digest_text = leaf digest_text
+kind_of cpu_text = leaf cpu_text
+kind_of (cap_set table) = leaf (cap_set table)
+kind_of (list s) = a_list
+kind_of (shape.map s) = an_object
+kind_of key_set = leaf key_set
+kind_of detail = leaf detail
+kind_of free_map = leaf free_map
+kind_of (rows rs) = an_object
+
+abbrev pub is_of_kind : Kind → Data → Bool
+is_of_kind (leaf s) d = allows s d
+is_of_kind a_list d = is_some (as_array d)
+is_of_kind an_object d = is_some (as_object d)
+
+abbrev pub kind_told : Expected → Kind
+kind_told (expected.Leaf l) = leaf (leaf_shape l)
+kind_told expected.List = a_list
+kind_told expected.Object = an_object
+
 -- what was wanted at a place
 pub data Want : Type 0 where
-  -- a value of this shape, in place of the one that stands there
-  other_value : Shape → Want
-  -- a member of this shape, where none stands
-  a_member : Shape → Want
+  -- such a value, in place of the one that stands there
+  other_value : Kind → Want
+  -- such a member, where none stands
+  a_member : Kind → Want
   -- no member of this second name beside the one that stands there
   no_second : List ℕ → Want
 
@@ -27,15 +62,15 @@ abbrev pub Told : Type 0
 Told = List ℕ × Want
 
 abbrev pub want_of : Wanted → Want
-want_of (wanted.Value f) = other_value (shape_of f.now)
-want_of (wanted.Member f) = a_member (shape_of f.now)
+want_of (wanted.Value x) = other_value (kind_told x)
+want_of (wanted.Member x) = a_member (kind_told x)
 want_of (wanted.NoSecond name) = no_second name.now
 
 abbrev pub told : Fault → Told
 told x = (string_bytes x.pointer, want_of x.wanted)
 
 abbrev pub unless : Bool → List ℕ → Shape → List Told
-unless allowed at s = if allowed then [] else (at, other_value s) ∷ []
+unless allowed at s = if allowed then [] else (at, other_value (kind_of s)) ∷ []
 
 -- ---- each part at its place
 
@@ -44,7 +79,7 @@ each_faults f at i no_items = []
 each_faults f at i (item d ds) = f (under_index at i) d ++ each_faults f at (i + 1) ds
 
 abbrev pub items_faults : Shape → (List ℕ → Data → List Told) → List ℕ → Option Items → List Told
-items_faults s f at None = (at, other_value s) ∷ []
+items_faults s f at None = (at, other_value (kind_of s)) ∷ []
 items_faults s f at (Some ds) = each_faults f at 0 ds
 
 abbrev pub each_member_faults : (List ℕ → Data → List Told) → List ℕ → Members → List Told
@@ -52,7 +87,7 @@ each_member_faults f at no_members = []
 each_member_faults f at (member k d ms) = f (under_name at k) d ++ each_member_faults f at ms
 
 abbrev pub members_faults : Shape → (List ℕ → Data → List Told) → List ℕ → Option Members → List Told
-members_faults s f at None = (at, other_value s) ∷ []
+members_faults s f at None = (at, other_value (kind_of s)) ∷ []
 members_faults s f at (Some ms) = each_member_faults f at ms
 
 -- ---- listed members
@@ -62,7 +97,7 @@ unless_null f at d = if is_some (as_null d) then [] else f at d
 
 -- at the member's place
 abbrev pub member_faults : Presence → Shape → (List ℕ → Data → List Told) → List ℕ → Option Data → List Told
-member_faults required s f at None = (at, a_member s) ∷ []
+member_faults required s f at None = (at, a_member (kind_of s)) ∷ []
 member_faults required s f at (Some d) = f at d
 member_faults (defaulted p) s f at None = []
 member_faults (defaulted p) s f at (Some d) = f at d
@@ -98,7 +133,7 @@ abbrev mutual
   faults key_set at d = unless (allows key_set d) at key_set
   faults detail at d = unless (allows detail d) at detail
   faults free_map at d = unless (allows free_map d) at free_map
-  faults (rows rs) at d = if is_object d then rows_faults rs at d else (at, other_value (rows rs)) ∷ []
+  faults (rows rs) at d = if is_object d then rows_faults rs at d else (at, other_value an_object) ∷ []
 
   pub rows_faults : Rows → List ℕ → Data → List Told
   rows_faults no_rows at d = []

@@ -4,9 +4,8 @@ use Rattle.serde_json.specs.Data.{Data, null, boolean, number, string, array, ob
 use Rattle.serde_json.specs.Events.{items_len}
 use Rattle.serde_json.specs.Find.{as_array, as_object, get, get_item}
 use Rattle.oci_json_schema.specs.Means.{is_object}
-use Rattle.oci_json_form.specs.Allows.{allows}
 use Rattle.oci_json_form.specs.Places.{under_name, under_index}
-use Rattle.oci_json_form.specs.Faults.{Want, other_value, a_member, no_second, Told}
+use Rattle.oci_json_form.specs.Faults.{Want, is_of_kind, other_value, a_member, no_second, Told}
 
 -- one step into a value: to the member of this name, or to the item at this index
 pub data Step : Type 0 where
@@ -46,10 +45,10 @@ IsPlaceIn d at name outer = (holder : List ℕ) × (under_name holder name ≡ a
 
 -- what is told of a place holds there
 abbrev pub HoldsAt : Data → List ℕ → Want → Type 0
--- a part stands there that the shape does not allow
-HoldsAt d at (other_value s) = (part : Data) × LeadsTo d at part × (allows s part ≡ false)
+-- a part stands there that is not what is wanted
+HoldsAt d at (other_value k) = (part : Data) × LeadsTo d at part × (is_of_kind k part ≡ false)
 -- no member stands there
-HoldsAt d at (a_member s) = (name : List ℕ) × (outer : Data) × IsPlaceIn d at name outer × (get name outer ≡ None)
+HoldsAt d at (a_member k) = (name : List ℕ) × (outer : Data) × IsPlaceIn d at name outer × (get name outer ≡ None)
 -- a member stands there, and one of the second name beside it
 HoldsAt d at (no_second second) =
     (name : List ℕ) × (outer : Data) × IsPlaceIn d at name outer × (is_some (get name outer) ≡ true) × (is_some (get second outer) ≡ true)

@@ -73,7 +73,7 @@ abbrev pub shape_step : Form-F Shape Line → Shape
 shape_step (Form-F.Leaf l) = leaf_shape l
 shape_step (Form-F.List s) = shape.list s.now
 shape_step (Form-F.Map s) = shape.map s.now
-shape_step (Form-F.Record rs) = shape.rows (lines rs.now)
+shape_step (Form-F.Record name rs) = shape.rows (lines rs.now)
 
 abbrev pub row_step : Row-F Shape Line → Line
 row_step r = (r.name.now, name_of r.second, presence_of r.presence, r.form.now)

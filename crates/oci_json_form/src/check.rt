@@ -33,7 +33,7 @@ pub fn check(form: &Form<'_>, value: &Value) -> bool
             Some(members) => check_members(inner, members),
             None => false,
         },
-        Form::Record(rows) => value.is_object() && check_rows(rows, value),
+        Form::Record(_, rows) => value.is_object() && check_rows(rows, value),
     }
 }
 

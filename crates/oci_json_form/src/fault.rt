@@ -1,25 +1,54 @@
 //! What a form refuses in a value.
+ghost use Rattle.std.specs.Prelude.{◌≡◌};
+ghost use Rattle.oci_json_form.specs.Faults.{kind_of, kind_told};
+ghost use Rattle.oci_json_form.specs.Tables.{shape_of};
+
 use crate::form::{Form, Leaf};
 use std::fmt;
 
+/// What a value is wanted to be; its parts, where it has some, have faults of their own.
+#[derive(Clone, Copy)]
+pub enum Expected {
+    /// A value with no listed parts.
+    Leaf(Leaf),
+    /// A list.
+    List,
+    /// An object.
+    Object,
+}
+
 /// What was wanted at a place.
 #[derive(Clone, Copy)]
-pub enum Wanted<'a> {
-    /// A value of this form, in place of the one that stands there.
-    Value(&'a Form<'a>),
-    /// A member of this form, where none stands.
-    Member(&'a Form<'a>),
+pub enum Wanted {
+    /// Such a value, in place of the one that stands there.
+    Value(Expected),
+    /// Such a member, where none stands.
+    Member(Expected),
     /// No member of this second name beside the one that stands there.
     NoSecond(&'static str),
 }
 
 /// A part of a value that a form refuses.
 #[derive(Drop)]
-pub struct Fault<'a> {
+pub struct Fault {
     /// Where it stands, as a JSON pointer (RFC 6901) from the whole value.
     pub pointer: String,
     /// What was wanted there.
-    pub wanted: Wanted<'a>,
+    pub wanted: Wanted,
+}
+
+impl Form<'_> {
+    /// What a value of this form is wanted to be.
+    #[tactic(auto, using(crate::proofs::Wants::leaf_told, crate::proofs::Wants::list_told, crate::proofs::Wants::map_told, crate::proofs::Wants::record_told))]
+    pub fn expected(&self) -> Expected
+        ensures { kind_told result ≡ kind_of (shape_of self.now) }
+    {
+        match self {
+            Form::Leaf(leaf) => Expected::Leaf(*leaf),
+            Form::List(_) => Expected::List,
+            Form::Map(_) | Form::Record(_, _) => Expected::Object,
+        }
+    }
 }
 
 impl fmt::Display for Leaf {
@@ -52,21 +81,21 @@ impl fmt::Display for Leaf {
     }
 }
 
-impl fmt::Display for Form<'_> {
+impl fmt::Display for Expected {
     fn fmt<W: fmt::Write>(&self, f: &mut fmt::Formatter<W>) -> fmt::Result {
         match self {
-            Form::Leaf(leaf) => write!(f, "{leaf}"),
-            Form::List(_) => f.write_str("a list"),
-            Form::Map(_) | Form::Record(_) => f.write_str("an object"),
+            Expected::Leaf(leaf) => write!(f, "{leaf}"),
+            Expected::List => f.write_str("a list"),
+            Expected::Object => f.write_str("an object"),
         }
     }
 }
 
-impl fmt::Display for Wanted<'_> {
+impl fmt::Display for Wanted {
     fn fmt<W: fmt::Write>(&self, f: &mut fmt::Formatter<W>) -> fmt::Result {
         match self {
-            Wanted::Value(form) => write!(f, "{form}"),
-            Wanted::Member(form) => write!(f, "{form}, and nothing stands there"),
+            Wanted::Value(expected) => write!(f, "{expected}"),
+            Wanted::Member(expected) => write!(f, "{expected}, and nothing stands there"),
             Wanted::NoSecond(second) => write!(f, "no member {second} beside it"),
         }
     }

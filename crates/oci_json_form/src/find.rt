@@ -15,11 +15,7 @@ use std::alloc::{AllocError, Global};
 
 /// All that the form refuses in the value, in the order of the table: each place, and what was wanted there. None is listed
 /// exactly where the form allows the value.
-pub fn faults<'a>(
-    form: &'a Form<'a>,
-    value: &Value,
-    alloc: Global,
-) -> Result<Vec<Fault<'a>>, AllocError>
+pub fn faults(form: &Form<'_>, value: &Value, alloc: Global) -> Result<Vec<Fault>, AllocError>
     ensures all { IfOk result (λ v. map told v.items ≡ all_faults (shape_of form.now) [] (view value.now)) }
     ensures none { IfOk result (λ v. (v.items ≡ []) ↔ ((p : Plain) × Means (shape_of form.now) (view value.now) p)) }
 {
@@ -28,12 +24,7 @@ pub fn faults<'a>(
     Ok(found)
 }
 
-fn push<'a>(
-    at: &str,
-    wanted: Wanted<'a>,
-    found: &mut Vec<Fault<'a>>,
-    alloc: Global,
-) -> Result<(), AllocError>
+fn push(at: &str, wanted: Wanted, found: &mut Vec<Fault>, alloc: Global) -> Result<(), AllocError>
     ensures { OnOk result (map told found.new.items ≡ map told found.old.items ++ (at.now, want_of wanted) ∷ []) }
 {
     let pointer = String::from_str(alloc, at)?;
@@ -42,11 +33,11 @@ fn push<'a>(
 }
 
 #[cycle(faults)]
-fn add<'a>(
-    form: &'a Form<'a>,
+fn add(
+    form: &Form<'_>,
     value: &Value,
     at: &str,
-    found: &mut Vec<Fault<'a>>,
+    found: &mut Vec<Fault>,
     alloc: Global,
 ) -> Result<(), AllocError>
     ensures { OnOk result (map told found.new.items ≡ map told found.old.items ++ all_faults (shape_of form.now) at.now (view value.now)) }
@@ -56,33 +47,33 @@ fn add<'a>(
             if leaf_allows(leaf, value) {
                 Ok(())
             } else {
-                push(at, Wanted::Value(form), found, alloc)
+                push(at, Wanted::Value(form.expected()), found, alloc)
             }
         }
         Form::List(inner) => match value.as_array() {
             Some(items) => add_items(inner, items, at, found, alloc),
-            None => push(at, Wanted::Value(form), found, alloc),
+            None => push(at, Wanted::Value(form.expected()), found, alloc),
         },
         Form::Map(inner) => match value.as_object() {
             Some(members) => add_members(inner, members, at, found, alloc),
-            None => push(at, Wanted::Value(form), found, alloc),
+            None => push(at, Wanted::Value(form.expected()), found, alloc),
         },
-        Form::Record(rows) => {
+        Form::Record(_, rows) => {
             if value.is_object() {
                 add_rows(rows, value, at, found, alloc)
             } else {
-                push(at, Wanted::Value(form), found, alloc)
+                push(at, Wanted::Value(form.expected()), found, alloc)
             }
         }
     }
 }
 
 #[cycle(faults)]
-fn add_items<'a>(
-    form: &'a Form<'a>,
+fn add_items(
+    form: &Form<'_>,
     items: &Vec<Value>,
     at: &str,
-    found: &mut Vec<Fault<'a>>,
+    found: &mut Vec<Fault>,
     alloc: Global,
 ) -> Result<(), AllocError>
     ensures { OnOk result (map told found.new.items ≡ map told found.old.items ++ each_faults (all_faults (shape_of form.now)) at.now 0 (items_view items.now.items)) }
@@ -95,11 +86,11 @@ fn add_items<'a>(
 }
 
 #[cycle(faults)]
-fn add_members<'a>(
-    form: &'a Form<'a>,
+fn add_members(
+    form: &Form<'_>,
     members: &Map<String, Value>,
     at: &str,
-    found: &mut Vec<Fault<'a>>,
+    found: &mut Vec<Fault>,
     alloc: Global,
 ) -> Result<(), AllocError>
     ensures { OnOk result (map told found.new.items ≡ map told found.old.items ++ each_member_faults (all_faults (shape_of form.now)) at.now (members_view members.now.entries)) }
@@ -112,11 +103,11 @@ fn add_members<'a>(
 }
 
 #[cycle(faults)]
-fn add_rows<'a>(
-    rows: &'a [Row<'a>],
+fn add_rows(
+    rows: &[Row<'_>],
     value: &Value,
     at: &str,
-    found: &mut Vec<Fault<'a>>,
+    found: &mut Vec<Fault>,
     alloc: Global,
 ) -> Result<(), AllocError>
     ensures { OnOk result (map told found.new.items ≡ map told found.old.items ++ rows_faults (rows_of rows.now) at.now (view value.now)) }
@@ -128,11 +119,11 @@ fn add_rows<'a>(
 }
 
 #[cycle(faults)]
-fn add_row<'a>(
-    row: &'a Row<'a>,
+fn add_row(
+    row: &Row<'_>,
     value: &Value,
     at: &str,
-    found: &mut Vec<Fault<'a>>,
+    found: &mut Vec<Fault>,
     alloc: Global,
 ) -> Result<(), AllocError>
     ensures { OnOk result (map told found.new.items ≡ map told found.old.items ++ listed_faults row.now at.now (view value.now)) }
@@ -163,19 +154,19 @@ fn add_row<'a>(
 }
 
 #[cycle(faults)]
-fn add_member<'a>(
-    form: &'a Form<'a>,
+fn add_member(
+    form: &Form<'_>,
     presence: &Presence,
     there: Option<&Value>,
     at: &str,
-    found: &mut Vec<Fault<'a>>,
+    found: &mut Vec<Fault>,
     alloc: Global,
 ) -> Result<(), AllocError>
     ensures { OnOk result (map told found.new.items ≡ map told found.old.items ++ member_faults (presence_of presence.now) (shape_of form.now) (all_faults (shape_of form.now)) at.now (option_map (λ v. view v.now) there.entry)) }
 {
     match there {
         None => match presence {
-            Presence::Required => push(at, Wanted::Member(form), found, alloc),
+            Presence::Required => push(at, Wanted::Member(form.expected()), found, alloc),
             _ => Ok(()),
         },
         Some(value) => match presence {

@@ -73,8 +73,8 @@ pub enum Form<'a> {
     List(&'a Form<'a>),
     /// An object of such values.
     Map(&'a Form<'a>),
-    /// An object with these members, in the order in which they are looked at; others are ignored.
-    Record(&'a [Row<'a>]),
+    /// A record of this name: an object with these members, in the order in which they are looked at; others are ignored.
+    Record(&'static str, &'a [Row<'a>]),
 }
 
 /// A listed member.

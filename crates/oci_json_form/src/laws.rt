@@ -7,7 +7,7 @@ ghost use Rattle.oci_json_schema.specs.Shape.{Shape};
 ghost use Rattle.oci_json_form.specs.Faults.{faults};
 ghost use Rattle.oci_json_form.specs.Leads.{IsSo, LeadsTo, IsOrderly};
 
-/// What is told of each listed fault is so: its pointer leads to a part that its shape does not allow, or to where no member
+/// What is told of each listed fault is so: its pointer leads to a part that is not what is wanted there, or to where no member
 /// of the wanted name stands, or to a member beside which one of its second name stands.
 #[tactic(auto, using(crate::proofs::Ways::each_is_so))]
 pub fn each_fault_is_so()

@@ -10,5 +10,5 @@ pub mod laws;
 pub mod leaf;
 pub mod place;
 
-pub use fault::{Fault, Wanted};
+pub use fault::{Expected, Fault, Wanted};
 pub use form::{Absent, Form, Leaf, Presence, Row};

@@ -38,7 +38,7 @@ pub fn is_normal(form: &Form<'_>, value: &Value) -> bool
             Some(members) => hold_normal(inner, members),
             None => false,
         },
-        Form::Record(rows) => match value.as_object() {
+        Form::Record(_, rows) => match value.as_object() {
             Some(members) => are_normal_members(rows, members),
             None => false,
         },
@@ -77,7 +77,27 @@ fn are_normal_members(rows: &[Row<'_>], members: &Map<String, Value>) -> bool
     requires well { AreWellFormed (rows_of rows.now) }
     ensures { IsTrue result → AreNormalMembers (rows_of rows.now) (members_view members.now.entries) }
 {
-    has_all(rows, members) && are_of_rows(rows, members)
+    has_all(rows, members) && are_listed(rows, members) && are_of_rows(rows, members)
+}
+
+/// Whether each member is listed under its first name, which is seen without a look at any value. It spares the look where one is
+/// not.
+fn are_listed(rows: &[Row<'_>], members: &Map<String, Value>) -> bool {
+    for (name, _) in members.iter() {
+        if !is_listed(rows, name.as_str()) {
+            return false;
+        }
+    }
+    true
+}
+
+fn is_listed(rows: &[Row<'_>], name: &str) -> bool {
+    for row in rows {
+        if row.name == name {
+            return true;
+        }
+    }
+    false
 }
 
 /// Whether all that is always written stands there.

@@ -1,7 +1,6 @@
 //! What is found of a text, in the form of a row's last line.
 
 use anyhow::Result;
-use bumpalo::Bump;
 use oci_forms::{Tabled, conform_as, faults_of};
 use oci_json_engines::{from_slice, to_string};
 use oci_json_schema::OciRecord;
@@ -58,8 +57,7 @@ pub fn by_table<T: Tabled>(alloc: Global, text: &str) -> Result<String> {
         Ok(value) => value,
         Err(fault) => return refused(alloc, &OciSpecError::from(fault)),
     };
-    let room = Bump::new(alloc);
-    let is_faulty = !faults_of::<T>(&room, alloc, &value)?.is_empty();
+    let is_faulty = !faults_of::<T>(alloc, &value)?.is_empty();
     let answer = conform_as::<T>(value, alloc);
     if is_faulty != answer.is_err() {
         return Ok(String::from_str(alloc, "faults are listed, or not")?);

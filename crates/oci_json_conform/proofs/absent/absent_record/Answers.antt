@@ -12,20 +12,20 @@ use Rattle.oci_json_form.proofs.Tables.{record_is}
 use Rattle.oci_json_conform.proofs.absent.absent_record.Goals as goal
 
 pub absent_rows-requires-clause-well : goal.absent_rows-requires-clause-well
-absent_rows-requires-clause-well c = (subst WellFormed (record_is _ c.in-Record.rows c.in-Record.is) c.requires.well).1
+absent_rows-requires-clause-well c = (subst WellFormed (record_is _ _ c.in-Record.rows c.in-Record.is) c.requires.well).1
 
 pub absent_rows-requires-clause-fits : goal.absent_rows-requires-clause-fits
 absent_rows-requires-clause-fits c =
     let xs = slots (map absent_slot c.args.given.now) in
-    fits_rows (rows_of c.in-Record.rows.now) xs (subst (λ s. Fits s (document xs)) (record_is _ c.in-Record.rows c.in-Record.is) c.requires.fits)
+    fits_rows (rows_of c.in-Record.rows.now) xs (subst (λ s. Fits s (document xs)) (record_is _ _ c.in-Record.rows c.in-Record.is) c.requires.fits)
 
 pub absent_rows-requires-clause-writable : goal.absent_rows-requires-clause-writable
 absent_rows-requires-clause-writable c =
     let xs = slots (map absent_slot c.args.given.now) in
-    subst (λ s. Writable s (document xs)) (record_is _ c.in-Record.rows c.in-Record.is) c.requires.writable
+    subst (λ s. Writable s (document xs)) (record_is _ _ c.in-Record.rows c.in-Record.is) c.requires.writable
 
 pub returns-clause-ok : goal.returns-clause-ok
 returns-clause-ok c =
     let m = c.in_ok-absent_rows-in-Record.field-0 in
     view-Object m ∙ ap object c.in_ok-absent_rows-in-Record.ensures.ok
-    ∙ sym (ap (λ s. value s (document (slots (map absent_slot c.args.given.now)))) (record_is _ c.in-Record.rows c.in-Record.is))
+    ∙ sym (ap (λ s. value s (document (slots (map absent_slot c.args.given.now)))) (record_is _ _ c.in-Record.rows c.in-Record.is))

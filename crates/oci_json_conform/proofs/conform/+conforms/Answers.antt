@@ -62,8 +62,8 @@ conform_rows-loop-row-preserved t c =
     moved_more _ _ c.args.rows.now c.loop-row.row-index c.row-item.result _ _ c.loop-row-test.true c.row-item.is c.loop-row.invariant _ _ c.in_ok-conform_row.ensures.accepts
     c.in_ok-conform_row.ensures.ok c.in_ok-conform_row.ensures.others
 
-pub conform_row-returns-in_ok-insert-in-Some-clause-ok : goal.conform_row-returns-in_ok-insert-in-Some-clause-ok
-conform_row-returns-in_ok-insert-in-Some-clause-ok t c =
+pub move_row-returns-in_ok-insert-in-Some-clause-ok : goal.move_row-returns-in_ok-insert-in-Some-clause-ok
+move_row-returns-in_ok-insert-in-Some-clause-ok t c =
     let name = c.args.row.now.name.now in
     let f = shape_of c.args.row.now.form.now in
     let v = c.in-Some.member in
@@ -73,16 +73,16 @@ conform_row-returns-in_ok-insert-in-Some-clause-ok t c =
     ∙ ap (conformed_member (presence_of c.args.row.now.presence) (value f) (conformed f)) c.in_ok-found.ensures.ok)
 
 pub conform_value-conform_rows-requires : goal.conform_value-conform_rows-requires
-conform_value-conform_rows-requires t c = (search (rules, the_lemmas), subst IsSound (record_is _ c.in-Record.rows c.in-Record.is) c.requires)
+conform_value-conform_rows-requires t c = (search (rules, the_lemmas), subst IsSound (record_is _ _ c.in-Record.rows c.in-Record.is) c.requires)
 
 pub conform_value-returns-in_err-conform_rows-in-Some-into_members-2-clause-err : goal.conform_value-returns-in_err-conform_rows-in-Some-into_members-2-clause-err
 conform_value-returns-in_err-conform_rows-in-Some-into_members-2-clause-err t c =
     exits _ _ _ c.from_residual-in_err-conform_rows-in-Some-into_members-2.ensures.1 (λ h.
     record_refused (shape_of c.args.form.now) (rows_of c.in-Record.rows.now) (view c.args.value) (members_view c.in-Some-into_members-2.members.entries)
-    (record_is _ c.in-Record.rows c.in-Record.is) c.in-Some-into_members-2.ensures (c.in_err-conform_rows-in-Some-into_members-2.ensures.err h))
+    (record_is _ _ c.in-Record.rows c.in-Record.is) c.in-Some-into_members-2.ensures (c.in_err-conform_rows-in-Some-into_members-2.ensures.err h))
 
 pub conform_value-returns-in_ok-conform_rows-in-Some-into_members-2-clause-ok : goal.conform_value-returns-in_ok-conform_rows-in-Some-into_members-2-clause-ok
 conform_value-returns-in_ok-conform_rows-in-Some-into_members-2-clause-ok t c =
     let m = c.in_ok-conform_rows-in-Some-into_members-2.field-0 in
     record_told (shape_of c.args.form.now) (rows_of c.in-Record.rows.now) (view c.args.value) _ (members_view c.in-Some-into_members-2.members.entries) (members_view m.entries)
-    (record_is _ c.in-Record.rows c.in-Record.is) c.in-Some-into_members-2.ensures c.in_ok-conform_rows-in-Some-into_members-2.ensures.ok (view-Object m)
+    (record_is _ _ c.in-Record.rows c.in-Record.is) c.in-Some-into_members-2.ensures c.in_ok-conform_rows-in-Some-into_members-2.ensures.ok (view-Object m)

@@ -8,7 +8,7 @@ use Rattle.oci_json_form.proofs.find.+faults.Goals as goal
 pub add-returns-then-is_object : goal.add-returns-then-is_object
 add-returns-then-is_object t c =
     subst (λ z. OnOk c.add_rows.result (map told c.add_rows.new.found.items ≡ map told c.args.found.now.items ++ z))
-    (record_lists _ c.in-Record.rows c.args.at.now (view c.args.value.now) c.in-Record.is (sym c.is_object.ensures ∙ c.if-is_object.true)) c.add_rows.ensures
+    (record_lists _ _ c.in-Record.rows c.args.at.now (view c.args.value.now) c.in-Record.is (sym c.is_object.ensures ∙ c.if-is_object.true)) c.add_rows.ensures
 
 pub add_rows-loop-row-preserved : goal.add_rows-loop-row-preserved
 add_rows-loop-row-preserved t c =
