@@ -77,7 +77,10 @@ fn are_normal_members(rows: &[Row<'_>], members: &Map<String, Value>) -> bool
     requires well { AreWellFormed (rows_of rows.now) }
     ensures { IsTrue result → AreNormalMembers (rows_of rows.now) (members_view members.now.entries) }
 {
-    has_all(rows, members) && are_listed(rows, members) && are_of_rows(rows, members)
+    if !are_listed(rows, members) {
+        return false;
+    }
+    has_all(rows, members) && are_of_rows(rows, members)
 }
 
 /// Whether each member is listed under its first name, which is seen without a look at any value. It spares the look where one is
