@@ -1,8 +1,9 @@
 //! Reads a container's specification, and prints what a policy forbids: capabilities with which a container could reach its host,
-//! a `/proc` that is mounted without the option `ro`, and namespaces that it shares with its host. What each of them is stands in
-//! `specs/Policy.antt`, in words of the facade, and the answers have clauses that say exactly that.
+//! a `/proc` that is mounted without the option `ro`, and namespaces that it shares with its host. What it is to have a capability
+//! and to share a namespace stands in `specs/Policy.antt`, in words of the facade, and the answers have clauses that say exactly
+//! that; the answer on `/proc` has none.
 ghost use Rattle.std.specs.Prelude.{◌↔◌, IsTrue};
-ghost use Rattle.oci_examples.specs.Policy.{HasCapability, HasNamespace, IsIn, IsReadonly, IsWritableProc, MayUse, SharesWithHost};
+ghost use Rattle.oci_examples.specs.Policy.{HasCapability, HasNamespace, IsIn, MayUse, SharesWithHost};
 
 use anyhow::Result;
 use oci_spec::JsonName;
@@ -82,21 +83,13 @@ fn shares_with_host(spec: &Spec, kind: LinuxNamespaceType) -> bool
     !has_namespace(spec, kind)
 }
 
-/// Whether a mount has the option `ro`.
-fn is_readonly(mount: &Mount) -> bool
-    ensures { IsTrue result ↔ IsReadonly mount.now }
-{
-    match mount.options() {
+/// Whether a mount puts something at `/proc`, and not read-only.
+fn is_writable_proc(mount: &Mount) -> bool {
+    let readonly = match mount.options() {
         Some(options) => options.iter().any(|option| option.as_str() == "ro"),
         None => false,
-    }
-}
-
-/// Whether a mount puts something at `/proc`, and not read-only.
-fn is_writable_proc(mount: &Mount) -> bool
-    ensures { IsTrue result ↔ IsWritableProc mount.now }
-{
-    mount.destination().as_str() == "/proc" && !is_readonly(mount)
+    };
+    mount.destination().as_str() == "/proc" && !readonly
 }
 
 /// Prints what the policy forbids of the specification of a file.
