@@ -12,7 +12,6 @@ use oci_image_config::ImageConfiguration;
 use oci_image_descriptor::Descriptor;
 use oci_image_manifest::{ArtifactManifest, ImageIndex, ImageManifest, OciLayout};
 use oci_json_engines::{from_slice, to_string};
-use oci_json_schema::OciRecord;
 use oci_reference::Reference;
 use oci_runtime::{ContainerProcessState, Spec, State};
 use serde_json::Value;
@@ -47,7 +46,7 @@ impl DocumentCall {
 }
 
 /// Makes the call once on the bytes, or on the document of them, and lets go of all that it made.
-fn make<T: OciRecord>(
+fn make<T: Tabled>(
     alloc: Global,
     call: DocumentCall,
     bytes: &[u8],
@@ -67,14 +66,14 @@ fn make<T: OciRecord>(
         }
         DocumentCall::Normalize => {
             let mut written = Vec::new(alloc);
-            oci_json_engines::normalize::<T, _, _>(alloc, bytes, &mut written)?;
+            normalize::<T, _, _>(alloc, bytes, &mut written)?;
         }
     }
     Ok(())
 }
 
 /// Makes the call as often as is asked. The document is read before only where the call writes it.
-fn repeat<T: OciRecord>(alloc: Global, bytes: &[u8], run: Run<DocumentCall>) -> Result<()> {
+fn repeat<T: Tabled>(alloc: Global, bytes: &[u8], run: Run<DocumentCall>) -> Result<()> {
     let read: Option<T> = match run.call {
         DocumentCall::Write => Some(from_slice(alloc, bytes)?),
         _ => None,
@@ -85,36 +84,22 @@ fn repeat<T: OciRecord>(alloc: Global, bytes: &[u8], run: Run<DocumentCall>) -> 
     Ok(())
 }
 
-/// The same, where the record has a table, by which it is normalized.
-fn repeat_by_table<T: Tabled>(alloc: Global, bytes: &[u8], run: Run<DocumentCall>) -> Result<()> {
-    match run.call {
-        DocumentCall::Normalize => {
-            for _ in 0..run.count {
-                let mut written = Vec::new(alloc);
-                normalize::<T, _, _>(alloc, bytes, &mut written)?;
-            }
-            Ok(())
-        }
-        _ => repeat::<T>(alloc, bytes, run),
-    }
-}
-
 /// Makes a call on a document of a kind.
 pub fn perform(alloc: Global, kind: Kind, bytes: &[u8], run: Run<DocumentCall>) -> Result<()> {
     match kind {
-        Kind::Manifest => repeat_by_table::<ImageManifest>(alloc, bytes, run),
-        Kind::Index => repeat_by_table::<ImageIndex>(alloc, bytes, run),
-        Kind::Config => repeat_by_table::<ImageConfiguration>(alloc, bytes, run),
-        Kind::Artifact => repeat_by_table::<ArtifactManifest>(alloc, bytes, run),
-        Kind::Layout => repeat_by_table::<OciLayout>(alloc, bytes, run),
-        Kind::Descriptor => repeat_by_table::<Descriptor>(alloc, bytes, run),
-        Kind::Error => repeat_by_table::<ErrorResponse>(alloc, bytes, run),
-        Kind::Repositories => repeat_by_table::<RepositoryList>(alloc, bytes, run),
-        Kind::Tags => repeat_by_table::<TagList>(alloc, bytes, run),
-        Kind::Reference => repeat_by_table::<Reference>(alloc, bytes, run),
-        Kind::Spec => repeat_by_table::<Spec>(alloc, bytes, run),
-        Kind::State => repeat_by_table::<State>(alloc, bytes, run),
-        Kind::ProcessState => repeat_by_table::<ContainerProcessState>(alloc, bytes, run),
-        Kind::Features => repeat_by_table::<Features>(alloc, bytes, run),
+        Kind::Manifest => repeat::<ImageManifest>(alloc, bytes, run),
+        Kind::Index => repeat::<ImageIndex>(alloc, bytes, run),
+        Kind::Config => repeat::<ImageConfiguration>(alloc, bytes, run),
+        Kind::Artifact => repeat::<ArtifactManifest>(alloc, bytes, run),
+        Kind::Layout => repeat::<OciLayout>(alloc, bytes, run),
+        Kind::Descriptor => repeat::<Descriptor>(alloc, bytes, run),
+        Kind::Error => repeat::<ErrorResponse>(alloc, bytes, run),
+        Kind::Repositories => repeat::<RepositoryList>(alloc, bytes, run),
+        Kind::Tags => repeat::<TagList>(alloc, bytes, run),
+        Kind::Reference => repeat::<Reference>(alloc, bytes, run),
+        Kind::Spec => repeat::<Spec>(alloc, bytes, run),
+        Kind::State => repeat::<State>(alloc, bytes, run),
+        Kind::ProcessState => repeat::<ContainerProcessState>(alloc, bytes, run),
+        Kind::Features => repeat::<Features>(alloc, bytes, run),
     }
 }
