@@ -8,8 +8,6 @@ use oci_text::{Arch, Digest, DigestAlgorithm, MediaType, Os, Sha256Digest};
 use oci_text_base::{OciSpecError, Result};
 use std::alloc::Global;
 use std::fmt::Display;
-use std::io;
-use std::io::ErrorKind;
 
 /// What is done with a text, before its text is taken again.
 #[derive(Clone, Copy)]
@@ -147,19 +145,22 @@ fn of_name(alloc: Global, call: Call, text: &str) -> Result<String> {
     }
 }
 
-/// A reference that was accepted, or `Memory`; another refusal is none of the answers that are wanted.
-fn accepted(answer: std::result::Result<Reference, ParseError>) -> Result<Reference> {
+/// A reference that was accepted, or `Memory`; another refusal, here without a text, is none of the answers that are wanted.
+fn accepted(
+    alloc: Global,
+    answer: std::result::Result<Reference, ParseError>,
+) -> Result<Reference> {
     match answer {
         Ok(reference) => Ok(reference),
         Err(ParseError::Memory) => Err(OciSpecError::Memory),
-        Err(_) => Err(OciSpecError::Io(io::Error::from(ErrorKind::InvalidInput))),
+        Err(_) => Err(OciSpecError::Other(String::new(alloc))),
     }
 }
 
 fn reference(alloc: Global, call: Call, text: &str) -> Result<Reference> {
     match call {
-        Call::OwnedReference => accepted(Reference::try_from(copied(alloc, text)?)),
-        _ => accepted(Reference::from_str(alloc, text)),
+        Call::OwnedReference => accepted(alloc, Reference::try_from(copied(alloc, text)?)),
+        _ => accepted(alloc, Reference::from_str(alloc, text)),
     }
 }
 
