@@ -264,8 +264,10 @@ fn mount(alloc: Global) -> Result<String> {
     Ok(String::new(alloc))
 }
 
+/// A text that is no kind of namespace.
 fn namespace(alloc: Global) -> Result<String> {
-    Ok(ZOSNamespaceType::try_from(alloc, "x")?.to_string(alloc)?)
+    let _read = ZOSNamespaceType::try_from(alloc, "x")?;
+    Ok(String::new(alloc))
 }
 
 /// Builders that refuse what they are given, and a name that is refused.

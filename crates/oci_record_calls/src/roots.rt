@@ -5,7 +5,7 @@ use oci_spec::runtime::{
     Linux, LinuxDevice, Spec, cgroup_of, get_default_maskedpaths, get_default_mounts,
     get_default_namespaces, get_default_readonly_paths, get_rootless_mounts,
 };
-use oci_spec::{Result, distribution, image, runtime};
+use oci_spec::{OciSpecError, Result, distribution, image, runtime};
 use std::alloc::Global;
 
 fn lists(desk: &mut Desk<'_>) {
@@ -59,37 +59,44 @@ fn wholes(desk: &mut Desk<'_>) {
     desk.answer("version", &runtime::version(alloc), Ok("1.1.0"));
 }
 
+/// A specification with the default root, or with none.
+fn specification(alloc: Global, has_root: bool) -> Result<Spec> {
+    let mut spec = Spec::try_default(alloc)?;
+    if !has_root {
+        spec.set_root(None);
+    }
+    Ok(spec)
+}
+
 /// The root's path after the call; after a refusal the specification is as before.
-fn made_canonical(alloc: Global, mut spec: Spec) -> Result<String> {
-    let before = spec.clone(alloc)?;
+fn made_canonical(alloc: Global, has_root: bool) -> Result<String> {
+    let mut spec = specification(alloc, has_root)?;
     let resolver = |asked: &str| -> Result<String> { Ok(String::from_str(alloc, asked)?) };
     match spec.canonicalize_rootfs(alloc, "/b", &resolver) {
-        Ok(()) => path(alloc, &spec),
-        Err(refused) => {
-            if spec == before {
-                Err(refused)
-            } else {
-                Ok(String::from_str(alloc, "another specification")?)
-            }
-        }
+        Ok(()) => path(alloc, spec),
+        Err(refused) => unchanged(alloc, refused, spec, specification(alloc, has_root)),
     }
 }
 
-fn path(alloc: Global, spec: &Spec) -> Result<String> {
+/// What a call refuses that left a document as it was before; a refusal without a text where it did not.
+fn unchanged<T: PartialEq + Drop>(
+    alloc: Global,
+    refused: OciSpecError,
+    document: T,
+    before: Result<T>,
+) -> Result<String> {
+    if document == before? {
+        Err(refused)
+    } else {
+        Err(OciSpecError::Other(String::new(alloc)))
+    }
+}
+
+fn path(alloc: Global, spec: Spec) -> Result<String> {
     match spec.root() {
         Some(root) => Ok(root.path().clone()?),
         None => Ok(String::new(alloc)),
     }
-}
-
-fn rooted(alloc: Global) -> Result<String> {
-    made_canonical(alloc, Spec::try_default(alloc)?)
-}
-
-fn unrooted(alloc: Global) -> Result<String> {
-    let mut spec = Spec::try_default(alloc)?;
-    spec.set_root(None);
-    made_canonical(alloc, spec)
 }
 
 /// All such calls.
@@ -97,10 +104,14 @@ pub fn all(desk: &mut Desk<'_>) {
     lists(desk);
     wholes(desk);
     let alloc = desk.rt.alloc();
-    desk.answer("canonicalize_rootfs", &rooted(alloc), Ok("/b/rootfs"));
     desk.answer(
         "canonicalize_rootfs",
-        &unrooted(alloc),
+        &made_canonical(alloc, true),
+        Ok("/b/rootfs"),
+    );
+    desk.answer(
+        "canonicalize_rootfs",
+        &made_canonical(alloc, false),
         Err("no root path provided for canonicalization"),
     );
     desk.end("specifications", "calls");

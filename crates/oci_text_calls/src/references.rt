@@ -55,8 +55,8 @@ static PUT: [char; 5] = [' ', '\n', '\0', '\u{e9}', '\u{663}'];
 /// The name with a character put before the one at a place, or behind the last.
 fn inserted(alloc: Global, put: char, place: usize) -> Result<String, AllocError> {
     let mut text = String::new(alloc);
-    for (at, next) in NAME.chars().enumerate() {
-        if at == place {
+    for next in NAME.chars() {
+        if text.len() == place {
             text.push(put)?;
         }
         text.push(next)?;

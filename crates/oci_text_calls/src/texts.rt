@@ -7,8 +7,7 @@ use oci_reference::{ParseError, Reference};
 use oci_text::{Arch, Digest, DigestAlgorithm, MediaType, Os, Sha256Digest};
 use oci_text_base::{OciSpecError, Result};
 use std::alloc::Global;
-use std::io;
-use std::io::ErrorKind;
+use std::fmt::Display;
 
 /// What is done with a text, before its text is taken again.
 #[derive(Clone, Copy)]
@@ -112,67 +111,61 @@ static CALLS: [(Call, &str, Answer<'_>); 30] = [
     (Call::Display, "r.io/a:1", Ok("r.io/a:1")),
 ];
 
+/// The text of what was made.
+fn shown<T: Display + Drop>(alloc: Global, made: Result<T>) -> Result<String> {
+    Ok(made?.to_string(alloc)?)
+}
+
 fn copied(alloc: Global, text: &str) -> Result<String> {
     Ok(String::from_str(alloc, text)?)
 }
 
-fn digest(alloc: Global, call: Call, text: &str) -> Result<Digest> {
-    match call {
-        Call::OwnedDigest => Digest::try_from(copied(alloc, text)?),
-        Call::DigestCopy => Digest::from_str(alloc, text)?.clone(),
-        Call::IntoDigest => Sha256Digest::from_str(alloc, text)?.into_digest(),
-        _ => Digest::from_str(alloc, text),
-    }
-}
-
-fn sha256(alloc: Global, call: Call, text: &str) -> Result<Sha256Digest> {
-    let digest = Sha256Digest::from_str(alloc, text)?;
-    match call {
-        Call::Sha256Copy => digest.clone(),
-        _ => Ok(digest),
-    }
-}
-
 fn of_digest(alloc: Global, call: Call, text: &str) -> Result<String> {
     match call {
-        Call::Digest | Call::OwnedDigest | Call::DigestCopy | Call::IntoDigest => {
-            copied(alloc, digest(alloc, call, text)?.as_ref())
-        }
-        Call::Sha256 | Call::Sha256Copy => copied(alloc, sha256(alloc, call, text)?.as_ref()),
+        Call::Digest => shown(alloc, Digest::from_str(alloc, text)),
+        Call::OwnedDigest => shown(alloc, Digest::try_from(copied(alloc, text)?)),
+        Call::DigestCopy => shown(alloc, Digest::from_str(alloc, text)?.clone()),
+        Call::Sha256 => shown(alloc, Sha256Digest::from_str(alloc, text)),
+        Call::Sha256Copy => shown(alloc, Sha256Digest::from_str(alloc, text)?.clone()),
+        Call::IntoDigest => shown(alloc, Sha256Digest::from_str(alloc, text)?.into_digest()),
         _ => of_name(alloc, call, text),
     }
 }
 
 fn of_name(alloc: Global, call: Call, text: &str) -> Result<String> {
     match call {
-        Call::Algorithm => {
-            let algorithm = DigestAlgorithm::from_text(alloc, text)?.clone(alloc)?;
-            copied(alloc, algorithm.as_ref())
-        }
+        Call::Algorithm => shown(alloc, DigestAlgorithm::from_text(alloc, text)?.clone(alloc)),
         Call::MediaType => MediaType::from_text(alloc, text)?
             .clone(alloc)?
             .into_string(alloc),
-        Call::System => copied(alloc, Os::from_text(alloc, text)?.clone(alloc)?.as_ref()),
-        Call::Architecture => copied(alloc, Arch::from_text(alloc, text)?.clone(alloc)?.as_ref()),
-        Call::Namespace => Ok(LinuxNamespaceType::try_from(alloc, text)?.to_string(alloc)?),
+        Call::System => shown(alloc, Os::from_text(alloc, text)?.clone(alloc)),
+        Call::Architecture => shown(alloc, Arch::from_text(alloc, text)?.clone(alloc)),
+        Call::Namespace => shown(alloc, LinuxNamespaceType::try_from(alloc, text)),
         _ => of_reference(alloc, call, text),
     }
 }
 
-/// A reference that was accepted, or `Memory`; another refusal is none of the answers that are wanted.
-fn accepted(answer: std::result::Result<Reference, ParseError>) -> Result<Reference> {
+/// A reference that was accepted, or `Memory`; another refusal, here without a text, is none of the answers that are wanted.
+fn accepted(
+    alloc: Global,
+    answer: std::result::Result<Reference, ParseError>,
+) -> Result<Reference> {
     match answer {
         Ok(reference) => Ok(reference),
         Err(ParseError::Memory) => Err(OciSpecError::Memory),
-        Err(_) => Err(OciSpecError::Io(io::Error::from(ErrorKind::InvalidInput))),
+        Err(_) => Err(OciSpecError::Other(String::new(alloc))),
+    }
+}
+
+fn reference(alloc: Global, call: Call, text: &str) -> Result<Reference> {
+    match call {
+        Call::OwnedReference => accepted(alloc, Reference::try_from(copied(alloc, text)?)),
+        _ => accepted(alloc, Reference::from_str(alloc, text)),
     }
 }
 
 fn of_reference(alloc: Global, call: Call, text: &str) -> Result<String> {
-    let reference = match call {
-        Call::OwnedReference => accepted(Reference::try_from(copied(alloc, text)?))?,
-        _ => accepted(Reference::from_str(alloc, text))?,
-    };
+    let reference = reference(alloc, call, text)?;
     match call {
         Call::ReferenceCopy => reference.clone()?.whole(),
         Call::OtherDigest => reference

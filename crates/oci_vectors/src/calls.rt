@@ -1,24 +1,30 @@
-//! Each call on a document and each command that takes memory: answered as ever, or with `Memory`.
+//! Each call on a document or a file and each command that takes memory: answered as ever, or with `Memory`.
 
 mod commands;
 mod documents;
+mod files;
 mod images;
 
+use crate::rows::{Work, each};
 use oci_desk::{Desk, GaveUp, Sample};
-use std::fs;
+use oci_doc_run::Kind;
 
 /// All groups of this half.
 pub fn run(desk: &mut Desk<'_>) -> Result<(), GaveUp> {
-    for path in ["samples.rows", "documents.rows"] {
-        let rows = fs::read_to_string(desk.rt, path)?;
-        for row in rows.as_str().trim().split("\n\n") {
-            let sample = Sample::of(row)?;
-            documents::all(desk, &sample);
-            images::all(desk, &sample);
-            commands::documents(desk, &sample)?;
-        }
-    }
-    commands::texts(desk)?;
+    each(desk, "samples.rows", &Work::Calls)?;
+    each(desk, "documents.rows", &Work::Calls)?;
+    each(desk, "texts.rows", &Work::Commands)?;
+    desk.end("texts", "commands");
+    files::all(desk)?;
     desk.end_calls();
     Ok(())
+}
+
+/// The groups of one document.
+pub fn document(desk: &mut Desk<'_>, sample: &Sample<'_>) -> Result<(), GaveUp> {
+    if let Some(kind) = Kind::from_word(sample.kind) {
+        documents::all(desk, kind, sample);
+        images::all(desk, kind, sample);
+    }
+    commands::all(desk, sample)
 }

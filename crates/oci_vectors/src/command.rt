@@ -30,3 +30,29 @@ pub fn gives_itself(desk: &mut Desk<'_>, words: &[String]) -> bool {
     );
     status == 0 && desk.again.is_done(desk.output.taken())
 }
+
+/// Whether a command that is given this ends in this status.
+pub fn ends_in(
+    desk: &mut Desk<'_>,
+    words: &[String],
+    text: &[u8],
+    manner: Manner,
+    expected: u8,
+) -> bool {
+    let mut input = Input::new(text, manner);
+    status(desk, words, &mut input, manner) == expected
+}
+
+/// Counts a command: it is refused, writes nothing and tells this.
+pub fn tells(
+    desk: &mut Desk<'_>,
+    case: &str,
+    place: usize,
+    words: &[String],
+    text: &[u8],
+    manner: Manner,
+    line: &str,
+) {
+    let kept = ends_in(desk, words, text, manner, 1) && desk.has_told(line);
+    desk.count(case, place, kept);
+}

@@ -1,31 +1,29 @@
 //! Documents and texts that are cut, changed or given in pieces, and streams that fail.
 
 mod bytes;
-mod commands;
+pub mod commands;
 mod edges;
 mod faults;
 
+use crate::rows::{Work, each};
 use oci_desk::{Desk, GaveUp, Sample, words};
-use std::fs;
 
 /// All groups of this half.
 pub fn run(desk: &mut Desk<'_>) -> Result<(), GaveUp> {
-    let rows = fs::read_to_string(desk.rt, "samples.rows")?;
-    for row in rows.as_str().trim().split("\n\n") {
-        let sample = Sample::of(row)?;
-        let normal = words(desk.rt.alloc(), &["norm", sample.kind])?;
-        bytes::prefixes(desk, &sample, normal.as_slice());
-        bytes::replaced(desk, &sample, normal.as_slice());
-        faults::all(desk, &sample, normal.as_slice());
+    each(desk, "samples.rows", &Work::Bytes)?;
+    each(desk, "documents.rows", &Work::Streams)?;
+    edges::all(desk);
+    each(desk, "commands.rows", &Work::Commands)?;
+    desk.end("commands", "rows");
+    Ok(())
+}
+
+/// The groups of one document; it is cut and changed only where that is asked for.
+pub fn document(desk: &mut Desk<'_>, sample: &Sample<'_>, is_changed: bool) -> Result<(), GaveUp> {
+    let normal = words(desk.rt.alloc(), &["norm", sample.kind])?;
+    if is_changed {
+        bytes::all(desk, sample, normal.as_slice());
     }
-    let rows = fs::read_to_string(desk.rt, "documents.rows")?;
-    for row in rows.as_str().trim().split("\n\n") {
-        let sample = Sample::of(row)?;
-        let normal = words(desk.rt.alloc(), &["norm", sample.kind])?;
-        faults::all(desk, &sample, normal.as_slice());
-    }
-    edges::nesting(desk)?;
-    edges::none(desk);
-    edges::lines(desk);
-    commands::all(desk)
+    faults::all(desk, sample, normal.as_slice());
+    Ok(())
 }

@@ -13,7 +13,6 @@ use oci_spec::runtime::{ContainerProcessState, Features, Spec, State};
 use std::alloc::Global;
 
 /// What is done with a document that is read from bytes, before it is written.
-#[derive(Clone, Copy)]
 enum Way {
     /// Nothing.
     Read,
@@ -49,7 +48,7 @@ fn kept<T: OciRecord>(alloc: Global, document: &T) {
 }
 
 /// The compact text of a document that is read.
-fn found<T: OciRecord>(alloc: Global, way: Way, text: &[u8]) -> Result<String> {
+fn found<T: OciRecord>(alloc: Global, way: &Way, text: &[u8]) -> Result<String> {
     let mut document: T = from_slice(alloc, text)?;
     match way {
         Way::Read => {}
@@ -61,7 +60,7 @@ fn found<T: OciRecord>(alloc: Global, way: Way, text: &[u8]) -> Result<String> {
     to_string(&document, alloc)
 }
 
-fn of_kind(alloc: Global, kind: Kind, way: Way, text: &[u8]) -> Result<String> {
+fn of_kind(alloc: Global, kind: Kind, way: &Way, text: &[u8]) -> Result<String> {
     match kind {
         Kind::Manifest => found::<ImageManifest>(alloc, way, text),
         Kind::Index => found::<ImageIndex>(alloc, way, text),
@@ -81,13 +80,10 @@ fn of_kind(alloc: Global, kind: Kind, way: Way, text: &[u8]) -> Result<String> {
 }
 
 /// All calls on one document.
-pub fn all(desk: &mut Desk<'_>, sample: &Sample<'_>) {
-    let alloc = desk.rt.alloc();
-    if let Some(kind) = Kind::from_word(sample.kind) {
-        for (way, call) in &WAYS {
-            let answer = of_kind(alloc, kind, *way, sample.text.as_bytes());
-            desk.answer(call, &answer, Ok(sample.compact));
-        }
+pub fn all(desk: &mut Desk<'_>, kind: Kind, sample: &Sample<'_>) {
+    for (way, call) in &WAYS {
+        let answer = of_kind(desk.rt.alloc(), kind, way, sample.text.as_bytes());
+        desk.answer(call, &answer, Ok(sample.compact));
     }
     desk.end(sample.kind, "calls of documents");
 }
