@@ -48,7 +48,7 @@ fn read_all<R: Read>(alloc: Global, reader: &mut R) -> Result<Vec<u8>>
     ensures kind { IfErr result IsMemoryOrIo }
 {
     let mut bytes = Vec::new(alloc);
-    let mut chunk = [0u8; 4096];
+    let mut chunk = [0u8; 2048];
     loop {
         let count = reader.read(&mut chunk)?;
         if count == 0 {

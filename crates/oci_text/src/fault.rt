@@ -139,9 +139,13 @@ fn all_encoded(text: &str) -> bool
     text.as_bytes().iter().all(|b| is_encoded_byte(*b))
 }
 
-/// Whether each byte is a lowercase hexadecimal digit.
+/// Whether each byte is a lowercase hexadecimal digit. It looks at all of them, so that a compiler may take several at once.
 pub(crate) fn are_lower_hex(bytes: &[u8]) -> bool
     ensures { result ≡ list_all is_lower_hex bytes.now }
 {
-    bytes.iter().all(|b| is_lower_hex(*b))
+    let mut sound = true;
+    for b in bytes {
+        sound = sound & is_lower_hex(*b);
+    }
+    sound
 }
