@@ -5,7 +5,7 @@ ghost use Rattle.oci_json_engines.specs.Engines.{MeansBytes};
 ghost use Rattle.oci_json_form.specs.Tables.{shape_of};
 
 use oci_json_form::check::conforms;
-use oci_json_form::find::faults;
+use oci_json_check::find::faults;
 use oci_json_form::{Fault, Form};
 use oci_text_base::{OciSpecError, Result};
 use serde_json::Value;

@@ -8,7 +8,7 @@ ghost use Rattle.oci_json_schema.specs.Means.{Means};
 ghost use Rattle.oci_json_schema.specs.Value.{value as json_of};
 ghost use Rattle.oci_json_schema.specs.Writable.{Writable};
 ghost use Rattle.oci_json_engines.specs.Engines.{AppendsSome, KeepsUnlessIo, IsCompactText, WritesDocument, ReadsBack, ReadsBackDocument, IsNotNormalized, IsNoJson};
-ghost use Rattle.oci_json_normal.specs.Conformed.{IsNotConformed};
+ghost use Rattle.oci_json_form.specs.Conformed.{IsNotConformed};
 
 use crate::Tabled;
 use bumpalo::Bump;

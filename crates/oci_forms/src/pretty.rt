@@ -7,7 +7,7 @@ ghost use Rattle.oci_json_schema.specs.Plain.{Plain};
 ghost use Rattle.oci_json_schema.specs.Means.{Means};
 ghost use Rattle.oci_json_schema.specs.Value.{value as json_of};
 ghost use Rattle.oci_json_engines.specs.Engines.{AppendsSome, KeepsUnlessIo, IsPrettyText, IsNotNormalized, IsNoJson};
-ghost use Rattle.oci_json_normal.specs.Conformed.{IsNotConformed};
+ghost use Rattle.oci_json_form.specs.Conformed.{IsNotConformed};
 ghost use Rattle.oci_forms.specs.Pretty.{WritesPretty};
 
 use crate::{Tabled, conform_as};

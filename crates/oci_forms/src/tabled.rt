@@ -7,7 +7,7 @@ ghost use Rattle.oci_json_form.specs.Faults.{told, faults as all_faults};
 ghost use Rattle.oci_json_form.specs.Tables.{shape_of};
 
 use bumpalo::Bump;
-use oci_json_form::find::faults;
+use oci_json_check::find::faults;
 use oci_json_form::{Fault, Form};
 use oci_json_schema::OciRecord;
 use serde_json::Value;

@@ -1,8 +1,8 @@
 -- What is accepted means something writable.
-use Rattle.std.proofs.Common.{◌≡◌, refl, sym, ap, ◌∙◌, subst, Bool, true, false, not, ◌&&◌, ◌||◌, List, [], ◌∷◌, Option, Some, None, is_some, ℕ, true≢false, inl, inr, Result, Ok, Err}
-use Rattle.std.specs.Prelude.{⊤, ◌↔◌, ◌⊎◌, IsTrue, IfOk, IfErr}
+use Rattle.std.proofs.Common.{◌≡◌, refl, sym, ap, ◌∙◌, subst, Bool, true, false, not, ◌||◌, Option, Some, None, is_some, true≢false, inl, inr, Result, Ok, Err}
+use Rattle.std.specs.Prelude.{⊤, IfOk, IfErr}
 use Rattle.serde_json.specs.Data.{Data, null, boolean, number, string, array, object, Items, no_items, item, Members, no_members, member}
-use Rattle.serde_json.specs.Find.{as_bool, as_str, as_array, as_object, as_null, get}
+use Rattle.serde_json.specs.Find.{as_array, as_object, as_null, get}
 use Rattle.serde_json.specs.Read.{read}
 use Rattle.serde_json.specs.Written.{has_float, members_have_float, compact_text}
 use Rattle.serde_json.specs.View.{view}
@@ -15,13 +15,13 @@ use Rattle.oci_json_schema.specs.Plain.{Plain, Plains, no_plains, Entries, no_en
 use Rattle.oci_json_schema.specs.Shape as shape
 use Rattle.oci_json_schema.specs.Shape.{Presence, required, defaulted, optional, nullable, unless_empty, Shape, text, truth, whole, named, open_name, digest_text, cpu_text, cap_set, list, key_set, detail, free_map, rows, Rows, no_rows, row}
 use Rattle.oci_json_schema.specs.Fits.{Each, EachEntry, IfFilled}
-use Rattle.oci_json_schema.specs.Means.{Means, MeansRows, MeansEither, MeansMember, EachMeans, EachEntryMeans, IsThere, IsThereOr, is_object, get_second, unless_null, free_values}
+use Rattle.oci_json_schema.specs.Means.{Means, MeansRows, MeansEither, MeansMember, EachMeans, EachEntryMeans, IsThere, IsThereOr, is_object, get_second, unless_null}
 use Rattle.oci_json_schema.specs.Refused.{IsRefused}
 use Rattle.oci_json_schema.specs.Value.{value, free_members}
 use Rattle.oci_json_schema.specs.WellFormed.{WellFormed, AreWellFormed, MemberIsWellFormed}
 use Rattle.oci_json_schema.specs.Writable.{Writable, AreWritable}
 use Rattle.oci_json_form.specs.Allows.{allows, each_allowed, each_member_allowed, items_allowed, members_allowed, member_allowed, either_allowed}
-use Rattle.oci_json_normal.specs.Conformed.{IsSound, IsNotConformed, is_kept, accepts, rows_accept, conformed}
+use Rattle.oci_json_form.specs.Conformed.{IsSound, IsNotConformed, is_kept, accepts, rows_accept, conformed}
 use Rattle.oci_json_form.proofs.Decides.{first_of, later_of, meant, allowed}
 use Rattle.oci_json_conform.proofs.Conforms.{told, members_kept}
 

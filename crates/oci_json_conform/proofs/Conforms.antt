@@ -1,25 +1,24 @@
 -- The normal form of a value is what is written for the document that it means.
-use Rattle.std.proofs.Common.{◌≡◌, refl, sym, ap, ◌∙◌, subst, Bool, true, false, not, ◌&&◌, ◌||◌, List, [], ◌∷◌, Option, Some, None, is_some, ℕ, ℤ, bytes_eq}
-use Rattle.std.specs.Prelude.{◌↔◌, ◌≤ℤ◌, IsTrue, option_map, option_and_then, unwrap_or, if◌then◌else◌}
+use Rattle.std.proofs.Common.{◌≡◌, refl, sym, ap, ◌∙◌, subst, Bool, true, false, not, ◌||◌, List, [], ◌∷◌, Option, Some, None, is_some, ℕ}
+use Rattle.std.specs.Prelude.{option_map, option_and_then, unwrap_or, if◌then◌else◌}
 use Rattle.serde_json.specs.Data.{Data, null, boolean, number, string, array, object, Items, no_items, item, Members, no_members, member}
-use Rattle.serde_json.specs.Find.{as_bool, as_str, as_array, as_object, as_null, get, of_integer}
+use Rattle.serde_json.specs.Find.{as_bool, as_str, as_null, get, of_integer}
 use Rattle.serde_json.specs.Read.{read}
-use Rattle.serde_json.specs.Written.{has_float, members_have_float, compact_text}
-use Rattle.oci_text_base.specs.CpuList.{IsCpuList}
+use Rattle.serde_json.specs.Written.{compact_text}
 use Rattle.oci_text_base.specs.Names.{is_listed}
 use Rattle.oci_json_schema.specs.Plain as plain
 use Rattle.oci_json_schema.specs.Plain.{Plain, Plains, no_plains, Entries, no_entries, entry, Slot, empty, filled, Slots, no_slots, slot, text_of, set_of, list_of, map_of, free_of, document_of}
 use Rattle.oci_json_schema.specs.Shape as shape
 use Rattle.oci_json_schema.specs.Shape.{Presence, required, defaulted, optional, nullable, unless_empty, Shape, text, truth, whole, named, open_name, digest_text, cpu_text, cap_set, list, key_set, detail, free_map, rows, Rows, no_rows, row}
 use Rattle.oci_json_schema.specs.Fits.{Each, EachEntry, IfFilled}
-use Rattle.oci_json_schema.specs.Means.{Means, MeansRows, MeansEither, MeansMember, EachMeans, EachEntryMeans, IsThere, IsThereOr, is_object, get_second, unless_null, as_whole, opened, member_names, free_values, IsSetOf}
-use Rattle.oci_json_schema.specs.Value.{value, capability_texts, each_value, each_entry_value, free_members, is_empty_array, member_value, with_member, with_rows}
+use Rattle.oci_json_schema.specs.Means.{Means, MeansRows, MeansEither, MeansMember, EachMeans, EachEntryMeans, IsThere, IsThereOr, get_second, unless_null, free_values, IsSetOf}
+use Rattle.oci_json_schema.specs.Value.{value, capability_texts, each_value, each_entry_value, free_members, member_value, with_member, with_rows}
 use Rattle.oci_json_schema.specs.Writable.{Writable, AreWritable}
-use Rattle.oci_json_form.specs.Allows.{allows, each_allowed, each_member_allowed, items_allowed, members_allowed, member_allowed, either_allowed, set_in, some_is}
-use Rattle.oci_json_normal.specs.Conformed.{is_kept, accepts, rows_accept, items_in, members_in, each_conformed, each_member_conformed, chosen, unless_absent, unless_no_items, conformed_member, conformed, conformed_rows}
+use Rattle.oci_json_form.specs.Allows.{each_allowed, each_member_allowed, items_allowed, members_allowed, member_allowed, either_allowed, set_in, some_is}
+use Rattle.oci_json_form.specs.Conformed.{is_kept, accepts, rows_accept, items_in, each_conformed, each_member_conformed, chosen, unless_absent, unless_no_items, conformed_member, conformed, conformed_rows}
 use Rattle.oci_json_form.proofs.Decides.{both, allowed, some_tells}
 use Rattle.oci_json_form.proofs.Texts.{same_told}
-use Rattle.oci_json_normal.proofs.NormalParts.{object_kept}
+use Rattle.oci_json_form.proofs.NormalParts.{object_kept}
 
 -- ---- values that are written as they were read
 

@@ -1,5 +1,5 @@
 -- Members that are moved from one object to another, row by row.
-use Rattle.std.proofs.Common.{◌≡◌, ℕ, zero, suc, ◌+◌, ◌<◌, ◌≤◌, List, [], ◌∷◌, length, drop, map, slice_index_or, Bool, true, false, ◌&&◌, ◌||◌, Option, Some, None, is_some, bytes_eq, refl, sym, ap, ◌∙◌, subst, true≢false, arith}
+use Rattle.std.proofs.Common.{◌≡◌, ℕ, zero, suc, ◌+◌, ◌<◌, ◌≤◌, List, [], ◌∷◌, length, drop, map, slice_index_or, Bool, true, false, ◌&&◌, ◌||◌, Option, Some, None, bytes_eq, refl, sym, ap, ◌∙◌, subst, true≢false, arith}
 use Rattle.std.specs.Prelude.{not, IsTrue}
 use Rattle.std.proofs.lemmas.Slice.Eq.{bytes_eq-Decides}
 use Rattle.serde_json.specs.Data.{Data, object, Members, no_members}
@@ -14,12 +14,12 @@ use Rattle.oci_json_schema.specs.Value.{value, with_member, member_value, with_r
 use Rattle.oci_json_schema.specs.WellFormed.{WellFormed, AreWellFormed, MemberIsWellFormed}
 use Rattle.oci_json_schema.specs.Writable.{Writable, AreWritable}
 use Rattle.oci_json_form.specs.Allows.{either_allowed}
-use Rattle.oci_json_normal.specs.Conformed.{accepts, rows_accept, row_accepts, chosen, conformed_member, conformed, conformed_rows, row_conformed, is_one_of}
+use Rattle.oci_json_form.specs.Conformed.{accepts, rows_accept, row_accepts, chosen, conformed_member, conformed, conformed_rows, row_conformed, is_one_of}
 use Rattle.oci_json_form.specs.Tables.{shape_of, presence_of, name_of, rows_of, absent_slot}
 use Rattle.oci_json_form.specs.declared.form.Absent.{Absent}
 use Rattle.oci_json_form.specs.declared.form.Row.{Row}
 use Rattle.oci_json_form.proofs.Decides.{first_of, later_of, refuted}
-use Rattle.oci_json_normal.proofs.Listing.{or_right, listed_first, later_listed, rest_once}
+use Rattle.oci_json_form.proofs.Listing.{or_right, listed_first, later_listed, rest_once}
 use Rattle.oci_json_form.proofs.Listed.{drop_at}
 
 -- ---- names

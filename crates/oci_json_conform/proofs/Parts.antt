@@ -1,36 +1,32 @@
 -- Parts of values, and of records that are taken apart.
-use Rattle.std.proofs.Common.{◌≡◌, ◌≢◌, refl, sym, ap, ◌∙◌, subst, Bool, true, false, ◌&&◌, ◌||◌, List, [], ◌∷◌, ◌++◌, length, drop, slice_index_or, Option, Some, None, is_some, option_map, ℕ, zero, suc, ◌+◌, ◌<◌, bytes_eq, nat_cmp, string_bytes, string_cmp, true≢false, arith, Result, Ok, Err, Greater, Less, nat_eq}
-use Rattle.std.specs.Prelude.{IfOk, not, ◌==◌, option_and_then}
+use Rattle.std.proofs.Common.{◌≡◌, refl, sym, ap, ◌∙◌, Bool, true, false, ◌&&◌, List, [], ◌∷◌, ◌++◌, length, Option, Some, None, is_some, nat_cmp, string_bytes, string_cmp, arith, Result, Ok, Err, Greater, Less}
+use Rattle.std.specs.Prelude.{IfOk, not}
 use Rattle.std.specs.Cmp.Lexicographic.{slice_cmp}
 use Rattle.std.specs.List.{AllByRecursion}
 use Rattle.std.specs.List.Sorted.{IsStrictlySortedBy}
-use Rattle.std.specs.Map.{keys_of, lookup}
-use Rattle.std.specs.BTreeMap.{is_at, insert_entry}
+use Rattle.std.specs.Map.{keys_of}
+use Rattle.std.specs.BTreeMap.{insert_entry}
 use Rattle.std.specs.Ordering.{ordering_reverse}
-use Rattle.std.proofs.Math.Dec.{eqb-suc-zero}
 use Rattle.std.proofs.lemmas.Cmp.{nat_list_cmp_total}
-use Rattle.std.proofs.lemmas.Slice.Eq.{bytes_eq-Decides}
 use Rattle.serde_json.specs.Data.{Data, null, boolean, number, string, array, object, Items, no_items, item, Members, no_members, member, put}
-use Rattle.serde_json.specs.Find.{as_null, as_array, as_object, get_member}
+use Rattle.serde_json.specs.Find.{as_null, as_object}
 use Rattle.serde_json.specs.Read.{read}
 use Rattle.serde_json.specs.Written.{has_float, compact_text}
 use Rattle.serde_json.specs.View.{view, items_view, members_view}
 use Rattle.serde_json.specs.declared.value.Value.{Value}
-use Rattle.serde_json.proofs.Views.{Entry, view-lookup}
-use Rattle.oci_text_base.specs.Refused.{IsSchema}
+use Rattle.serde_json.proofs.Views.{Entry}
 use Rattle.oci_json_schema.specs.Means.{unless_null, Means}
-use Rattle.oci_json_schema.specs.Plain as plain
 use Rattle.oci_json_schema.specs.Plain.{Plain, text_of}
 use Rattle.oci_json_schema.specs.Refused.{IsRefused}
 use Rattle.oci_json_schema.specs.Shape as shape
 use Rattle.oci_json_schema.specs.Shape.{Shape, Rows, detail}
-use Rattle.oci_json_schema.specs.Value.{value, is_empty_array}
+use Rattle.oci_json_schema.specs.Value.{value}
 use Rattle.oci_json_schema.specs.Writable.{Writable}
 use Rattle.oci_json_schema.proofs.Writers.{inserted}
-use Rattle.oci_json_form.specs.Allows.{allows, each_allowed, each_member_allowed}
-use Rattle.oci_json_normal.specs.Conformed.{is_kept, accepts, rows_accept, conformed, conformed_rows, chosen, is_one_there, each_conformed, each_member_conformed}
+use Rattle.oci_json_form.specs.Allows.{allows, each_allowed}
+use Rattle.oci_json_form.specs.Conformed.{is_kept, accepts, rows_accept, conformed, conformed_rows, chosen, is_one_there, each_conformed, each_member_conformed}
 use Rattle.oci_json_form.proofs.Decides.{meant}
-use Rattle.oci_json_normal.proofs.NormalParts.{object_kept}
+use Rattle.oci_json_form.proofs.NormalParts.{object_kept}
 use Rattle.oci_json_conform.proofs.Conforms.{told}
 
 -- ---- lists and nulls
@@ -92,13 +88,14 @@ joined_more (w ∷ vs) v es = ap (item (view w)) (joined_more vs v es)
 
 module _ (f : Data → Bool) (g : Data → Data) where
   -- one item more
-  pub items_more : (all : Items) (before left made : List Value) (v w : Value) → before ≡ v ∷ left → (f (view v) ≡ true) × (view w ≡ g (view v))
+  pub items_more : (all : Items) (before left made more : List Value) (v w : Value) → before ≡ v ∷ left → more ≡ made ++ w ∷ [] → (f (view v) ≡ true) × (view w ≡ g (view v))
       → each_allowed f all ≡ each_allowed f (items_view before) → each_conformed g all ≡ joined (items_view made) (each_conformed g (items_view before))
-      → (each_allowed f all ≡ each_allowed f (items_view left)) × (each_conformed g all ≡ joined (items_view (made ++ w ∷ [])) (each_conformed g (items_view left)))
-  items_more all before left made v w cut h a m = (
+      → (each_allowed f all ≡ each_allowed f (items_view left)) × (each_conformed g all ≡ joined (items_view more) (each_conformed g (items_view left)))
+  items_more all before left made more v w cut add h a m = (
     a ∙ ap (λ vs. each_allowed f (items_view vs)) cut ∙ ap (λ b. b && each_allowed f (items_view left)) h.0,
     m ∙ ap (λ vs. joined (items_view made) (each_conformed g (items_view vs))) cut
-        ∙ ap (λ d. joined (items_view made) (item d (each_conformed g (items_view left)))) (sym h.1) ∙ sym (joined_more made w (each_conformed g (items_view left))),
+        ∙ ap (λ d. joined (items_view made) (item d (each_conformed g (items_view left)))) (sym h.1) ∙ sym (joined_more made w (each_conformed g (items_view left)))
+        ∙ ap (λ vs. joined (items_view vs) (each_conformed g (items_view left))) (sym add),
   )
 
   -- a refused item

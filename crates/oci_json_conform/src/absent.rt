@@ -9,7 +9,7 @@ ghost use Rattle.oci_json_schema.specs.Value.{value as json_of, with_rows, with_
 ghost use Rattle.oci_json_schema.specs.WellFormed.{WellFormed, AreWellFormed, MemberIsWellFormed};
 ghost use Rattle.oci_json_schema.specs.Writable.{Writable, AreWritable};
 ghost use Rattle.oci_json_form.specs.Allows.{member_allowed};
-ghost use Rattle.oci_json_normal.specs.Conformed.{IsSound, accepts, conformed, conformed_member};
+ghost use Rattle.oci_json_form.specs.Conformed.{IsSound, accepts, conformed, conformed_member};
 ghost use Rattle.oci_json_form.specs.Tables.{shape_of, presence_of, rows_of, absent_plain, absent_slot};
 
 use crate::normal::unless_no_items;

@@ -12,13 +12,13 @@ ghost use Rattle.oci_json_schema.specs.Value.{value as json_of, with_member};
 ghost use Rattle.oci_json_schema.specs.WellFormed.{WellFormed, AreWellFormed, MemberIsWellFormed};
 ghost use Rattle.oci_json_schema.specs.Writable.{Writable};
 ghost use Rattle.oci_json_form.specs.Allows.{each_allowed, each_member_allowed, member_allowed};
-ghost use Rattle.oci_json_normal.specs.Conformed.{IsSound, IsNotConformed, accepts, rows_accept, row_accepts, conformed, each_conformed, each_member_conformed, conformed_member, conformed_rows, row_conformed, chosen, is_one_of, is_one_there};
+ghost use Rattle.oci_json_form.specs.Conformed.{IsSound, IsNotConformed, accepts, rows_accept, row_accepts, conformed, each_conformed, each_member_conformed, conformed_member, conformed_rows, row_conformed, chosen, is_one_of, is_one_there};
 ghost use Rattle.oci_json_form.specs.Tables.{shape_of, presence_of, name_of, rows_of};
 
 use crate::absent::conform_absent;
 use crate::normal::{conform_leaf, unless_no_items};
 use oci_json_form::{Form, Presence, Row};
-use oci_json_normal::kept::{has_member, is_normal};
+use oci_json_check::kept::{has_member, is_normal, may_be_normal};
 use oci_json_schema::fault::{placed, refused};
 use oci_json_schema::owned::{into_items, into_members};
 use oci_text_base::Result;
@@ -46,7 +46,7 @@ fn conform_value(form: &Form<'_>, value: Value, alloc: Global) -> Result<Value>
     ensures err { IfErr result (λ e. IsSchema e → accepts (shape_of form.now) (view value) ≡ false) }
     ensures kind { IfErr result IsMemoryOrSchema }
 {
-    if is_normal(form, &value) {
+    if may_be_normal(form, &value) && is_normal(form, &value) {
         return Ok(value);
     }
     match form {

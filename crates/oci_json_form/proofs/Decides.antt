@@ -1,7 +1,6 @@
 -- The computation decides the meaning.
 use Rattle.std.proofs.Common.{◌≡◌, ◌≢◌, refl, sym, ap, ◌∙◌, subst, Bool, true, false, true≢false, not, ◌&&◌, ◌||◌, List, [], ◌∷◌, Option, Some, None, is_some, ℕ, ℤ, inl, inr}
-use Rattle.std.specs.Prelude.{⊤, ◌↔◌, ◌⊎◌, ◌≤ℤ◌, IsTrue, int_le, T}
-use Rattle.std.specs.Prelude as std
+use Rattle.std.specs.Prelude.{◌↔◌, ◌⊎◌, ◌≤ℤ◌, int_le, T}
 use lib.Signed.{le_z_yes}
 use Rattle.serde_json.specs.Data.{Data, null, boolean, number, string, array, object, Items, no_items, item, Members, no_members, member}
 use Rattle.serde_json.specs.Find.{as_bool, as_str, as_array, as_object, as_null, get}

@@ -1,6 +1,9 @@
 pub mod Decides
 pub mod Empty
 pub mod Listed
+pub mod Listing
+pub mod NormalMembers
+pub mod NormalParts
 pub mod Pointers
 pub mod Processors
 pub mod Replacing

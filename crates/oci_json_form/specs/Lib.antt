@@ -1,6 +1,9 @@
 pub mod Allows
+pub mod Conformed
 pub mod Faults
 pub mod Leads
+pub mod Normal
 pub mod Places
+pub mod Plain
 pub mod Processors
 pub mod Tables

@@ -1,6 +1,6 @@
 use Rattle.std.proofs.Common.{ap}
 use Rattle.serde_json.specs.View.{members_view}
-use Rattle.oci_json_conform.proofs.Moved.{Filled, filled_below, filled_none, filled_well, filled_fits, filled_writable, filled_more, filled_all}
+use Rattle.oci_json_conform.proofs.Moved.{filled_below, filled_none, filled_well, filled_fits, filled_writable, filled_more, filled_all}
 use Rattle.oci_json_conform.proofs.absent.absent_rows.Goals as goal
 
 pub bounds-given-i : goal.bounds-given-i

@@ -1,4 +1,4 @@
-use Rattle.std.proofs.Common.{◌≡◌, true, rules, ◌∷◌, [], ◌++◌, ◌&&◌, map, option_map, string_cmp, refl, sym, ap, ◌∙◌, subst, append_assoc}
+use Rattle.std.proofs.Common.{◌≡◌, true, rules, ◌∷◌, [], ◌++◌, ◌&&◌, option_map, string_cmp, refl, sym, ap, ◌∙◌, subst, append_assoc}
 use Rattle.std.specs.List.Sorted.{IsStrictlySortedBy}
 use Rattle.std.specs.Map.{keys_of}
 use Rattle.std.specs.Vec.Iter.{into_iter_items}
@@ -8,11 +8,11 @@ use Rattle.oci_json_schema.specs.Value.{value, with_member}
 use Rattle.oci_json_schema.proofs.Lists.{exits}
 use Rattle.oci_json_schema.proofs.Writers.{inserted}
 use Rattle.oci_json_form.specs.Allows.{each_allowed, each_member_allowed}
-use Rattle.oci_json_normal.specs.Conformed.{accepts, conformed, each_conformed, conformed_member, IsSound}
+use Rattle.oci_json_form.specs.Conformed.{accepts, conformed, each_conformed, conformed_member, IsSound}
 use Rattle.oci_json_form.specs.Tables.{shape_of, rows_of, presence_of}
 use Rattle.oci_json_form.specs.declared.form.Form.{the_lemmas}
 use Rattle.oci_json_conform.proofs.Moved.{moved_more}
-use Rattle.oci_json_conform.proofs.Parts.{joined, none_left, items_more, items_all, members_more, record_told, record_refused}
+use Rattle.oci_json_conform.proofs.Parts.{none_left, items_more, items_all, members_more, record_told, record_refused}
 use Rattle.oci_json_form.proofs.Tables.{record_is}
 use Rattle.oci_json_conform.proofs.conform.+conforms.Goals as goal
 
@@ -20,15 +20,9 @@ pub conform_items-loop-item-preserved : goal.conform_items-loop-item-preserved
 conform_items-loop-item-preserved t c =
     let i = c.loop-item.invariant in
     let s = shape_of c.args.form.now in
-    let left = into_iter_items c.next.new.self in
-    let more = items_more (accepts s) (conformed s) (items_view (into_iter_items c.into_iter-item-iterator.result)) (into_iter_items c.loop-item.item-iterator) left c.loop-item.made.items
-    c.in-Some.item c.in_ok-conform_value.field-0 c.in-Some.ensures.steps.0 c.in_ok-conform_value.ensures.ok i.accepted i.made in
-    record {
-      accepted = more.0;
-      made =
-          subst (λ ws. each_conformed (conformed s) (items_view (into_iter_items c.into_iter-item-iterator.result)) ≡ joined (items_view ws) (each_conformed (conformed s) (items_view left)))
-          (sym c.in_ok-push.ensures.items) more.1;
-    }
+    let more = items_more (accepts s) (conformed s) (items_view (into_iter_items c.into_iter-item-iterator.result)) (into_iter_items c.loop-item.item-iterator) (into_iter_items c.next.new.self)
+    c.loop-item.made.items _ c.in-Some.item c.in_ok-conform_value.field-0 c.in-Some.ensures.steps.0 c.in_ok-push.ensures.items c.in_ok-conform_value.ensures.ok i.accepted i.made in
+    record { accepted = more.0; made = more.1 }
 
 pub conform_items-returns-clause-ok : goal.conform_items-returns-clause-ok
 conform_items-returns-clause-ok t c =

@@ -4,7 +4,7 @@ use Rattle.serde_json.specs.Data.{object}
 use Rattle.serde_json.specs.View.{items_view, members_view}
 use Rattle.serde_json.proofs.Views.{Entry}
 use Rattle.oci_json_form.specs.Allows.{each_allowed, each_member_allowed}
-use Rattle.oci_json_normal.specs.Conformed.{accepts, conformed, each_conformed, each_member_conformed}
+use Rattle.oci_json_form.specs.Conformed.{accepts, conformed, each_conformed, each_member_conformed}
 use Rattle.oci_json_form.specs.Tables.{shape_of, rows_of}
 use Rattle.oci_json_conform.proofs.Moved.{Moved}
 use Rattle.oci_json_conform.proofs.Parts.{joined}

@@ -1,0 +1,24 @@
+use Rattle.std.proofs.Common.{rules, subst}
+use Rattle.oci_json_form.specs.Conformed.{IsSound}
+use Rattle.oci_json_form.specs.Tables.{rows_of}
+use Rattle.oci_json_form.specs.declared.form.Form.{the_lemmas}
+use Rattle.oci_json_form.proofs.NormalMembers.{members_normal}
+use Rattle.oci_json_form.proofs.NormalParts.{in_order, record_normal}
+use Rattle.oci_json_form.proofs.Tables.{record_is}
+use Rattle.oci_json_check.proofs.kept.+keeps.Goals as goal
+
+pub are_normal_members-returns-then-has_all : goal.are_normal_members-returns-then-has_all
+are_normal_members-returns-then-has_all t c =
+    λ h. members_normal (rows_of c.args.rows.now) _ c.requires.distinct c.are_of_rows.ensures.ordered (c.are_of_rows.ensures.listed h) (c.has_all.ensures c.if-has_all.true)
+
+pub are_of_rows-returns-then-not-is_of_row-clause-ordered : goal.are_of_rows-returns-then-not-is_of_row-clause-ordered
+are_of_rows-returns-then-not-is_of_row-clause-ordered t c = in_order _ c.iter-name-items.ensures.ordered
+
+pub are_of_rows-returns-clause-ordered : goal.are_of_rows-returns-clause-ordered
+are_of_rows-returns-clause-ordered t c = in_order _ c.iter-name-items.ensures.ordered
+
+pub is_normal-are_normal_members-requires : goal.is_normal-are_normal_members-requires
+is_normal-are_normal_members-requires t c = (search (rules, the_lemmas), subst IsSound (record_is _ _ c.in-Record.rows c.in-Record.is) c.requires)
+
+pub is_normal-returns-in-Some-as_object-2 : goal.is_normal-returns-in-Some-as_object-2
+is_normal-returns-in-Some-as_object-2 t c = λ h. record_normal _ (rows_of c.in-Record.rows.now) _ _ (record_is _ _ c.in-Record.rows c.in-Record.is) c.in-Some-as_object-2.ensures (c.are_normal_members.ensures h)

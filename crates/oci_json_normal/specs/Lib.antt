@@ -1,3 +1,0 @@
-pub mod Conformed
-pub mod Normal
-pub mod Plain
