@@ -4,7 +4,6 @@ ghost use Rattle.oci_json_schema.specs.Plain.{Plain};
 ghost use Rattle.oci_json_engines.specs.Engines.{MeansBytes};
 ghost use Rattle.oci_json_form.specs.Tables.{shape_of};
 
-use oci_json_form::check::conforms;
 use oci_json_check::find::faults;
 use oci_json_form::{Fault, Form};
 use oci_text_base::{OciSpecError, Result};
@@ -27,9 +26,9 @@ pub fn judge(form: &Form<'_>, bytes: &[u8], alloc: Global) -> Result<Report>
 {
     match Value::from_slice(alloc, bytes) {
         Ok(value) => {
-            let sound = conforms(form, &value);
             let found = faults(form, &value, alloc)?;
             let lines = lines_of(&found, alloc)?;
+            let sound = found.is_empty();
             Ok(Report { lines, sound })
         }
         Err(fault) => {

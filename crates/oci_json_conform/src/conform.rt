@@ -17,8 +17,8 @@ ghost use Rattle.oci_json_form.specs.Tables.{shape_of, presence_of, name_of, row
 
 use crate::absent::conform_absent;
 use crate::normal::{conform_leaf, unless_no_items};
-use oci_json_form::{Form, Presence, Row};
 use oci_json_check::kept::{has_member, is_normal, may_be_normal};
+use oci_json_form::{Form, Presence, Row};
 use oci_json_schema::fault::{placed, refused};
 use oci_json_schema::owned::{into_items, into_members};
 use oci_text_base::Result;

@@ -11,10 +11,10 @@ ghost use Rattle.oci_json_schema.specs.Value.{is_empty_array};
 ghost use Rattle.oci_json_form.specs.Conformed.{accepts, conformed, unless_no_items as without_empty};
 ghost use Rattle.oci_json_form.specs.Tables.{leaf_shape};
 
+use oci_json_check::kept::has_no_items;
 use oci_json_form::Leaf;
 use oci_json_form::leaf::leaf_allows;
 use oci_json_kinds::{Detail, Keys, OciKind};
-use oci_json_check::kept::has_no_items;
 use oci_json_schema::fault::refused;
 use oci_process_texts::Caps;
 use oci_text_base::Result;
