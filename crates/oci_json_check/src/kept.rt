@@ -23,8 +23,46 @@ const NESTING: usize = 127;
 
 /// Whether the value is known to be its own normal form. A set of capabilities is not looked at: what holds one is not known to
 /// be one.
-#[cycle(keeps)]
 pub fn is_normal(form: &Form<'_>, value: &Value) -> bool
+    requires { IsSound (shape_of form.now) }
+    ensures { IsTrue result → IsNormal (shape_of form.now) (view value.now) }
+{
+    lists_all(form, value) && is_kept(form, value)
+}
+
+/// Whether each member of a record is listed under its first name; of other forms it says yes. This is seen without a look at the
+/// members' values, and spares that look where one is not listed.
+fn lists_all(form: &Form<'_>, value: &Value) -> bool {
+    match form {
+        Form::Record(_, rows) => match value.as_object() {
+            Some(members) => are_listed(rows, members),
+            None => false,
+        },
+        _ => true,
+    }
+}
+
+fn are_listed(rows: &[Row<'_>], members: &Map<String, Value>) -> bool {
+    for (name, _) in members.iter() {
+        if !is_listed(rows, name.as_str()) {
+            return false;
+        }
+    }
+    true
+}
+
+fn is_listed(rows: &[Row<'_>], name: &str) -> bool {
+    for row in rows {
+        if row.name == name {
+            return true;
+        }
+    }
+    false
+}
+
+/// Whether the value is written as it stands.
+#[cycle(keeps)]
+fn is_kept(form: &Form<'_>, value: &Value) -> bool
     requires { IsSound (shape_of form.now) }
     ensures { IsTrue result → IsNormal (shape_of form.now) (view value.now) }
 {
@@ -51,7 +89,7 @@ fn are_normal(form: &Form<'_>, items: &Vec<Value>) -> bool
     ensures { IsTrue result → AreNormal (shape_of form.now) (items_view items.now.items) }
 {
     for item in items {
-        if !is_normal(form, item) {
+        if !is_kept(form, item) {
             return false;
         }
     }
@@ -64,7 +102,7 @@ fn hold_normal(form: &Form<'_>, members: &Map<String, Value>) -> bool
     ensures { IsTrue result → HoldNormal (shape_of form.now) (members_view members.now.entries) }
 {
     for (_, member) in members.iter() {
-        if !is_normal(form, member) {
+        if !is_kept(form, member) {
             return false;
         }
     }
@@ -78,36 +116,6 @@ fn are_normal_members(rows: &[Row<'_>], members: &Map<String, Value>) -> bool
     ensures { IsTrue result → AreNormalMembers (rows_of rows.now) (members_view members.now.entries) }
 {
     has_all(rows, members) && are_of_rows(rows, members)
-}
-
-/// Whether each member of a record is listed under its first name, which is seen without a look at any value; of other forms it says
-/// yes. It spares `is_normal` that look where a member is not listed.
-pub fn may_be_normal(form: &Form<'_>, value: &Value) -> bool {
-    match form {
-        Form::Record(_, rows) => match value.as_object() {
-            Some(members) => are_listed(rows, members),
-            None => false,
-        },
-        _ => true,
-    }
-}
-
-fn are_listed(rows: &[Row<'_>], members: &Map<String, Value>) -> bool {
-    for (name, _) in members.iter() {
-        if !is_listed(rows, name.as_str()) {
-            return false;
-        }
-    }
-    true
-}
-
-fn is_listed(rows: &[Row<'_>], name: &str) -> bool {
-    for row in rows {
-        if row.name == name {
-            return true;
-        }
-    }
-    false
 }
 
 /// Whether all that is always written stands there.
@@ -169,12 +177,12 @@ fn is_normal_member(form: &Form<'_>, presence: &Presence, value: &Value) -> bool
 {
     match presence {
         Presence::Required | Presence::Defaulted(_) | Presence::DefaultedRecord(_) => {
-            is_normal(form, value)
+            is_kept(form, value)
         }
-        Presence::Optional => !value.is_null() && is_normal(form, value),
-        Presence::Nullable => value.is_null() || is_normal(form, value),
+        Presence::Optional => !value.is_null() && is_kept(form, value),
+        Presence::Nullable => value.is_null() || is_kept(form, value),
         Presence::UnlessEmpty => {
-            !value.is_null() && !has_no_items(value) && is_normal(form, value)
+            !value.is_null() && !has_no_items(value) && is_kept(form, value)
         }
     }
 }

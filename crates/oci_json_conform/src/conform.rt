@@ -17,7 +17,7 @@ ghost use Rattle.oci_json_form.specs.Tables.{shape_of, presence_of, name_of, row
 
 use crate::absent::conform_absent;
 use crate::normal::{conform_leaf, unless_no_items};
-use oci_json_check::kept::{has_member, is_normal, may_be_normal};
+use oci_json_check::kept::{has_member, is_normal};
 use oci_json_form::{Form, Presence, Row};
 use oci_json_schema::fault::{placed, refused};
 use oci_json_schema::owned::{into_items, into_members};
@@ -46,7 +46,7 @@ fn conform_value(form: &Form<'_>, value: Value, alloc: Global) -> Result<Value>
     ensures err { IfErr result (λ e. IsSchema e → accepts (shape_of form.now) (view value) ≡ false) }
     ensures kind { IfErr result IsMemoryOrSchema }
 {
-    if may_be_normal(form, &value) && is_normal(form, &value) {
+    if is_normal(form, &value) {
         return Ok(value);
     }
     match form {

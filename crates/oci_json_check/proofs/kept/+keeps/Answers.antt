@@ -17,8 +17,8 @@ are_of_rows-returns-then-not-is_of_row-clause-ordered t c = in_order _ c.iter-na
 pub are_of_rows-returns-clause-ordered : goal.are_of_rows-returns-clause-ordered
 are_of_rows-returns-clause-ordered t c = in_order _ c.iter-name-items.ensures.ordered
 
-pub is_normal-are_normal_members-requires : goal.is_normal-are_normal_members-requires
-is_normal-are_normal_members-requires t c = (search (rules, the_lemmas), subst IsSound (record_is _ _ c.in-Record.rows c.in-Record.is) c.requires)
+pub is_kept-are_normal_members-requires : goal.is_kept-are_normal_members-requires
+is_kept-are_normal_members-requires t c = (search (rules, the_lemmas), subst IsSound (record_is _ _ c.in-Record.rows c.in-Record.is) c.requires)
 
-pub is_normal-returns-in-Some-as_object-2 : goal.is_normal-returns-in-Some-as_object-2
-is_normal-returns-in-Some-as_object-2 t c = λ h. record_normal _ (rows_of c.in-Record.rows.now) _ _ (record_is _ _ c.in-Record.rows c.in-Record.is) c.in-Some-as_object-2.ensures (c.are_normal_members.ensures h)
+pub is_kept-returns-in-Some-as_object-2 : goal.is_kept-returns-in-Some-as_object-2
+is_kept-returns-in-Some-as_object-2 t c = λ h. record_normal _ (rows_of c.in-Record.rows.now) _ _ (record_is _ _ c.in-Record.rows c.in-Record.is) c.in-Some-as_object-2.ensures (c.are_normal_members.ensures h)
