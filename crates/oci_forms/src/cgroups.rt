@@ -1,10 +1,13 @@
 //! The forms of the records of `oci_cgroups`.
-use crate::Formed;
-use crate::cgroups_devices::{LINUX_BLOCK_IO, LINUX_DEVICE_CGROUP};
-use crate::cgroups_network::{LINUX_NETWORK, LINUX_RDMA};
+use crate::made::{list_of, map_of, map_of_texts, record};
+use crate::{Formed, Tabled};
+use bumpalo::Bump;
 use oci_cgroups::{LinuxCpu, LinuxHugepageLimit, LinuxMemory, LinuxPids, LinuxResources};
+use oci_cgroups_devices::{LinuxBlockIo, LinuxDeviceCgroup};
+use oci_cgroups_network::{LinuxNetwork, LinuxRdma};
 use oci_json_form::forms::{I64, TEXT, TRUTH, U64};
 use oci_json_form::{Absent, Form, Presence, Row};
+use std::alloc::AllocError;
 
 /// How much of the huge pages of one size a container may use (runtime specification, "Linux Container Configuration", "Huge page limits").
 pub const LINUX_HUGEPAGE_LIMIT: Form<'static> = Form::Record(
@@ -86,33 +89,31 @@ impl Formed for LinuxCpu {
 }
 
 /// What a container may use of its host (runtime specification, "Linux Container Configuration", "Control groups").
-pub const LINUX_RESOURCES: Form<'static> = Form::Record(
-    "LinuxResources",
-    &[
-        row!(
-            "devices",
-            Presence::Optional,
-            Form::List(&LINUX_DEVICE_CGROUP)
-        ),
-        row!("memory", Presence::Optional, LINUX_MEMORY),
-        row!("cpu", Presence::Optional, LINUX_CPU),
-        row!("pids", Presence::Optional, LINUX_PIDS),
-        row!("blockIO", Presence::Optional, LINUX_BLOCK_IO),
-        row!(
-            "hugepageLimits",
-            Presence::Optional,
-            Form::List(&LINUX_HUGEPAGE_LIMIT)
-        ),
-        row!("network", Presence::Optional, LINUX_NETWORK),
-        row!("rdma", Presence::Optional, Form::Map(&LINUX_RDMA)),
-        row!("unified", Presence::Optional, Form::Map(&TEXT)),
-    ],
-);
-
-static LINUX_RESOURCES_FORM: Form<'static> = LINUX_RESOURCES;
-
-impl Formed for LinuxResources {
-    fn form() -> &'static Form<'static> {
-        &LINUX_RESOURCES_FORM
+impl Tabled for LinuxResources {
+    fn table<'a>(room: &'a Bump) -> Result<&'a Form<'a>, AllocError> {
+        let devices = list_of::<LinuxDeviceCgroup>(room)?;
+        let memory = LinuxMemory::table(room)?;
+        let cpu = LinuxCpu::table(room)?;
+        let pids = LinuxPids::table(room)?;
+        let block_io = LinuxBlockIo::table(room)?;
+        let hugepage_limits = list_of::<LinuxHugepageLimit>(room)?;
+        let network = LinuxNetwork::table(room)?;
+        let rdma = map_of::<LinuxRdma>(room)?;
+        let unified = map_of_texts(room)?;
+        record(
+            room,
+            "LinuxResources",
+            &[
+                row!("devices", Presence::Optional, *devices),
+                row!("memory", Presence::Optional, *memory),
+                row!("cpu", Presence::Optional, *cpu),
+                row!("pids", Presence::Optional, *pids),
+                row!("blockIO", Presence::Optional, *block_io),
+                row!("hugepageLimits", Presence::Optional, *hugepage_limits),
+                row!("network", Presence::Optional, *network),
+                row!("rdma", Presence::Optional, *rdma),
+                row!("unified", Presence::Optional, *unified),
+            ],
+        )
     }
 }

@@ -31,7 +31,7 @@ pub mod normal;
 pub mod platforms;
 pub mod platforms_windows;
 pub mod pretty;
-pub mod process;
+mod process;
 pub mod process_parts;
 pub mod reference;
 pub mod runtime_lifecycle;

@@ -1,21 +1,40 @@
 //! Parts of tables that are made where they are used.
 ghost use Rattle.std.specs.Prelude.{◌≡◌, IfOk};
-ghost use Rattle.oci_json_schema.specs.Shape.{text as text_shape, list as list_shape, map as map_shape, rows as rows_shape};
+ghost use Rattle.oci_json_schema.specs.Shape.{text as text_shape, truth as truth_shape, list as list_shape, map as map_shape, rows as rows_shape};
+ghost use Rattle.oci_json_schema.specs.Types.{i32};
 ghost use Rattle.oci_json_form.specs.Tables.{shape_of, rows_of};
 
 use crate::Tabled;
 use bumpalo::Bump;
-use oci_json_form::forms::TEXT;
+use oci_json_form::forms::{I32, TEXT, TRUTH};
 use oci_json_form::{Form, Row};
 use std::alloc::AllocError;
 
 static TEXT_FORM: Form<'static> = TEXT;
+
+static TRUTH_FORM: Form<'static> = TRUTH;
+
+static I32_FORM: Form<'static> = I32;
 
 /// A text.
 pub fn text<'a>() -> &'a Form<'a>
     ensures { shape_of result.now ≡ text_shape }
 {
     &TEXT_FORM
+}
+
+/// A truth value.
+pub fn truth<'a>() -> &'a Form<'a>
+    ensures { shape_of result.now ≡ truth_shape }
+{
+    &TRUTH_FORM
+}
+
+/// A signed number of 32 bits.
+pub fn signed_32<'a>() -> &'a Form<'a>
+    ensures { shape_of result.now ≡ i32 }
+{
+    &I32_FORM
 }
 
 /// A list of texts.
