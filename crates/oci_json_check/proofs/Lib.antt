@@ -1,0 +1,2 @@
+mod Normal
+mod Steps

@@ -1,14 +1,16 @@
 //! All that a form refuses in a value.
-ghost use Rattle.std.specs.Prelude.{◌≡◌, ◌↔◌, ◌∷◌, ◌++◌, [], map, option_map, IfOk, OnOk};
+ghost use Rattle.std.specs.Prelude.{◌≡◌, ◌↔◌, ◌∷◌, ◌++◌, [], None, map, option_map, IfOk, OnOk};
 ghost use Rattle.serde_json.specs.View.{view, items_view, members_view};
 ghost use Rattle.oci_json_schema.specs.Plain.{Plain};
 ghost use Rattle.oci_json_schema.specs.Means.{Means};
-ghost use Rattle.oci_json_form.specs.Faults.{told, faults as all_faults, each_faults, each_member_faults, rows_faults, listed_faults, member_faults, want_of};
-ghost use Rattle.oci_json_form.specs.Tables.{shape_of, presence_of, rows_of};
+ghost use Rattle.oci_json_form.specs.Faults.{told, faults as all_faults, each_faults, each_member_faults, rows_faults, listed_faults, member_faults, want_of, kind_of, other_value, no_second};
+ghost use Rattle.oci_json_form.specs.Places.{under_name as under};
+ghost use Rattle.oci_json_form.specs.Tables.{shape_of, leaf_shape, presence_of, rows_of};
+ghost use Rattle.oci_json_check.specs.Null.{may_be_null};
 
 use oci_json_form::leaf::leaf_allows;
 use oci_json_form::place::{under_index, under_name};
-use oci_json_form::{Fault, Form, Presence, Row, Wanted};
+use oci_json_form::{Expected, Fault, Form, Leaf, Presence, Row, Wanted};
 use serde_json::{Map, Value};
 use std::alloc::{AllocError, Global};
 
@@ -31,6 +33,33 @@ fn push(at: &str, wanted: Wanted, found: &mut Vec<Fault>, alloc: Global) -> Resu
     Ok(())
 }
 
+/// Lists that such a value was wanted, in place of the one that stands there.
+fn refuse(
+    form: &Form<'_>,
+    at: &str,
+    found: &mut Vec<Fault>,
+    alloc: Global,
+) -> Result<(), AllocError>
+    ensures { OnOk result (map told found.new.items ≡ map told found.old.items ++ (at.now, other_value (kind_of (shape_of form.now))) ∷ []) }
+{
+    push(at, Wanted::Value(form.expected()), found, alloc)
+}
+
+fn add_leaf(
+    leaf: &Leaf,
+    value: &Value,
+    at: &str,
+    found: &mut Vec<Fault>,
+    alloc: Global,
+) -> Result<(), AllocError>
+    ensures { OnOk result (map told found.new.items ≡ map told found.old.items ++ all_faults (leaf_shape leaf.now) at.now (view value.now)) }
+{
+    if leaf_allows(leaf, value) {
+        return Ok(());
+    }
+    push(at, Wanted::Value(Expected::Leaf(*leaf)), found, alloc)
+}
+
 #[cycle(faults)]
 fn add(
     form: &Form<'_>,
@@ -42,26 +71,20 @@ fn add(
     ensures { OnOk result (map told found.new.items ≡ map told found.old.items ++ all_faults (shape_of form.now) at.now (view value.now)) }
 {
     match form {
-        Form::Leaf(leaf) => {
-            if leaf_allows(leaf, value) {
-                Ok(())
-            } else {
-                push(at, Wanted::Value(form.expected()), found, alloc)
-            }
-        }
+        Form::Leaf(leaf) => add_leaf(leaf, value, at, found, alloc),
         Form::List(inner) => match value.as_array() {
             Some(items) => add_items(inner, items, at, found, alloc),
-            None => push(at, Wanted::Value(form.expected()), found, alloc),
+            None => refuse(form, at, found, alloc),
         },
         Form::Map(inner) => match value.as_object() {
             Some(members) => add_members(inner, members, at, found, alloc),
-            None => push(at, Wanted::Value(form.expected()), found, alloc),
+            None => refuse(form, at, found, alloc),
         },
         Form::Record(_, rows) => {
             if value.is_object() {
                 add_rows(rows, value, at, found, alloc)
             } else {
-                push(at, Wanted::Value(form.expected()), found, alloc)
+                refuse(form, at, found, alloc)
             }
         }
     }
@@ -127,58 +150,79 @@ fn add_row(
 ) -> Result<(), AllocError>
     ensures { OnOk result (map told found.new.items ≡ map told found.old.items ++ listed_faults row.now at.now (view value.now)) }
 {
-    let place = under_name(alloc, at, row.name)?;
     let there = value.get(row.name);
-    match row.second {
-        None => add_member(row.form, &row.presence, there, place.as_str(), found, alloc),
-        Some(second) => match value.get(second) {
-            None => add_member(row.form, &row.presence, there, place.as_str(), found, alloc),
-            Some(other) => {
-                if there.is_some() {
-                    push(place.as_str(), Wanted::NoSecond(second), found, alloc)
-                } else {
-                    let place = under_name(alloc, at, second)?;
-                    add_member(
-                        row.form,
-                        &row.presence,
-                        Some(other),
-                        place.as_str(),
-                        found,
-                        alloc,
-                    )
-                }
-            }
-        },
+    let Some(second) = row.second else {
+        return add_member(row, row.name, there, at, found, alloc);
+    };
+    let other = value.get(second);
+    if other.is_none() {
+        add_member(row, row.name, there, at, found, alloc)
+    } else if there.is_none() {
+        add_member(row, second, other, at, found, alloc)
+    } else {
+        add_second(row, second, at, found, alloc)
     }
 }
 
+/// Lists that a member stands under both of its names.
+fn add_second(
+    row: &Row<'_>,
+    second: &'static str,
+    at: &str,
+    found: &mut Vec<Fault>,
+    alloc: Global,
+) -> Result<(), AllocError>
+    ensures { OnOk result (map told found.new.items ≡ map told found.old.items ++ (under at.now row.now.name.now, no_second second.now) ∷ []) }
+{
+    let place = under_name(alloc, at, row.name)?;
+    push(place.as_str(), Wanted::NoSecond(second), found, alloc)
+}
+
+/// What is refused in a member at this name of it.
 #[cycle(faults)]
 fn add_member(
-    form: &Form<'_>,
-    presence: &Presence,
+    row: &Row<'_>,
+    name: &'static str,
     there: Option<&Value>,
     at: &str,
     found: &mut Vec<Fault>,
     alloc: Global,
 ) -> Result<(), AllocError>
-    ensures { OnOk result (map told found.new.items ≡ map told found.old.items ++ member_faults (presence_of presence.now) (shape_of form.now) (all_faults (shape_of form.now)) at.now (option_map (λ v. view v.now) there.entry)) }
+    ensures { OnOk result (map told found.new.items ≡ map told found.old.items ++ member_faults (presence_of row.now.presence) (shape_of row.now.form.now) (all_faults (shape_of row.now.form.now)) (under at.now name.now) (option_map (λ v. view v.now) there.entry)) }
 {
+    let place = under_name(alloc, at, name)?;
     match there {
-        None => match presence {
-            Presence::Required => push(at, Wanted::Member(form.expected()), found, alloc),
-            _ => Ok(()),
-        },
-        Some(value) => match presence {
-            Presence::Required | Presence::Defaulted(_) | Presence::DefaultedRecord(_) => {
-                add(form, value, at, found, alloc)
+        None => add_absent(row, place.as_str(), found, alloc),
+        Some(value) => {
+            if value.is_null() && lets_null(&row.presence) {
+                return Ok(());
             }
-            Presence::Optional | Presence::Nullable | Presence::UnlessEmpty => {
-                if value.is_null() {
-                    Ok(())
-                } else {
-                    add(form, value, at, found, alloc)
-                }
-            }
-        },
+            add(row.form, value, place.as_str(), found, alloc)
+        }
+    }
+}
+
+/// What is refused where a member is absent.
+fn add_absent(
+    row: &Row<'_>,
+    at: &str,
+    found: &mut Vec<Fault>,
+    alloc: Global,
+) -> Result<(), AllocError>
+    ensures { OnOk result (map told found.new.items ≡ map told found.old.items ++ member_faults (presence_of row.now.presence) (shape_of row.now.form.now) (all_faults (shape_of row.now.form.now)) at.now None) }
+{
+    match row.presence {
+        Presence::Required => push(at, Wanted::Member(row.form.expected()), found, alloc),
+        _ => Ok(()),
+    }
+}
+
+/// Whether null means that the member is absent.
+fn lets_null(presence: &Presence) -> bool
+    ensures { result ≡ may_be_null (presence_of presence.now) }
+{
+    match presence {
+        Presence::Required | Presence::Defaulted(_) | Presence::DefaultedRecord(_) => false,
+        Presence::Optional | Presence::Nullable | Presence::UnlessEmpty => true,
     }
 }
