@@ -11,7 +11,7 @@ use Rattle.oci_json_form.specs.Normal.{IsNormal, AreNormal, HoldNormal, IsOfRow,
 use Rattle.oci_json_form.specs.Tables.{rows_of}
 use Rattle.oci_json_form.specs.declared.form.Row.{Row}
 use Rattle.oci_json_form.proofs.Decides.{both}
-use Rattle.oci_json_check.proofs.Steps.{cut_at}
+use Rattle.oci_json_form.proofs.Listed.{cut_at}
 
 item_normal : (s : Shape) (d : Data) (ds : Items) → IsNormal s d → AreNormal s ds → AreNormal s (item d ds)
 item_normal s d ds h t = (both (accepts s d) _ h.0 t.0, ap (λ x. item x (each_conformed (conformed s) ds)) h.1 ∙ ap (item d) t.1)

@@ -6,11 +6,7 @@ use Rattle.serde_json.specs.declared.value.Value.{Value}
 use Rattle.serde_json.proofs.Views.{Entry}
 use Rattle.oci_json_form.specs.Faults.{Told, each_faults, each_member_faults}
 use Rattle.oci_json_form.specs.Places.{under_name, under_index}
-use Rattle.oci_json_form.proofs.Listed.{drop_at}
-
--- a list's end from here on, cut at its first part
-pub cut_at : {A : Type 0} (rs : List A) (i : ℕ) (x : A) → i < length rs → x ≡ slice_index_or rs i x → drop i rs ≡ x ∷ drop (i + 1) rs
-cut_at rs i x below is = drop_at rs i x below ∙ ap (λ z. z ∷ drop (i + 1) rs) (sym is)
+use Rattle.oci_json_form.proofs.Listed.{cut_at}
 
 pub item_more : (f : List ℕ → Data → List Told) (at place : List ℕ) (init found more : List Told) (vs all : List Value) (i : ℕ) (x : Value) → all ≡ vs → i < length all → x ≡ slice_index_or all i x
     → place ≡ under_index at i → found ++ each_faults f at i (items_view (drop i vs)) ≡ init → more ≡ found ++ f place (view x)

@@ -18,11 +18,15 @@ drop_at (r ∷ rs) (suc i) x below =
     let e : suc i + 1 ≡ suc (i + 1) = omega arith in
     drop_at rs i x (omega arith) ∙ ap (λ k. slice_index_or rs i x ∷ drop k (r ∷ rs)) (sym e)
 
+-- a list's end from here on, cut at its first part
+pub cut_at : {A : Type 0} (rs : List A) (i : ℕ) (x : A) → i < length rs → x ≡ slice_index_or rs i x → drop i rs ≡ x ∷ drop (i + 1) rs
+cut_at rs i x below is = drop_at rs i x below ∙ ap (λ z. z ∷ drop (i + 1) rs) (sym is)
+
 -- one row more
 pub rows_step : (init found more : List Told) (rs : List Row) (i : ℕ) (x : Row) (at : List ℕ) (d : Data) → i < length rs → x ≡ slice_index_or rs i x
     → found ++ rows_faults (rows_of (drop i rs)) at d ≡ init → more ≡ found ++ listed_faults x at d → more ++ rows_faults (rows_of (drop (i + 1) rs)) at d ≡ init
 rows_step init found more rs i x at d below is before e =
-    let cut : drop i rs ≡ x ∷ drop (i + 1) rs = drop_at rs i x below ∙ ap (λ z. z ∷ drop (i + 1) rs) (sym is) in
+    let cut : drop i rs ≡ x ∷ drop (i + 1) rs = cut_at rs i x below is in
     ap (λ z. z ++ rows_faults (rows_of (drop (i + 1) rs)) at d) e
     ∙ append_assoc found (listed_faults x at d) (rows_faults (rows_of (drop (i + 1) rs)) at d)
     ∙ ap (λ z. found ++ rows_faults (rows_of z) at d) (sym cut)

@@ -1,5 +1,5 @@
 -- Parts that are their own normal form.
-use Rattle.std.proofs.Common.{◌≡◌, refl, ap, ◌∙◌, sym, List, [], ◌∷◌, length, ℕ, true, false, Option, Some, None, is_some, option_map, nat_cmp, string_bytes, string_cmp, Less}
+use Rattle.std.proofs.Common.{◌≡◌, refl, ap, ◌∙◌, sym, List, [], ◌∷◌, length, ℕ, true, false, Option, Some, None, is_some, option_map, nat_cmp, string_bytes, string_cmp, Less, rules}
 use Rattle.std.specs.Prelude.{not, unwrap_or, ◌==◌}
 use Rattle.std.specs.BTreeMap.{is_at}
 use Rattle.std.specs.Cmp.Lexicographic.{slice_cmp}
@@ -7,7 +7,7 @@ use Rattle.std.specs.List.{AllByRecursion}
 use Rattle.std.specs.List.Sorted.{IsStrictlySortedBy}
 use Rattle.std.specs.Map.{keys_of, lookup}
 use Rattle.std.proofs.Math.Dec.{eqb-suc-zero}
-use Rattle.serde_json.specs.Data.{Data, null, boolean, number, string, array, object, no_items, item, Members, no_members, member}
+use Rattle.serde_json.specs.Data.{Data, null, boolean, number, string, array, object, Items, no_items, item, Members, no_members, member}
 use Rattle.serde_json.specs.Find.{as_null, as_array, as_object, get_member}
 use Rattle.serde_json.specs.Read.{read, max_depth}
 use Rattle.serde_json.specs.Written.{compact_text}
@@ -24,7 +24,7 @@ use Rattle.oci_json_form.specs.Allows.{allows, each_member_allowed}
 use Rattle.oci_json_form.proofs.Decides.{both}
 use Rattle.oci_json_form.specs.Conformed.{is_kept}
 use Rattle.oci_json_form.specs.Normal.{IsNormal, AreNormalMembers, AreEmptyObjects}
-use Rattle.oci_json_form.specs.Plain.{IsPlain}
+use Rattle.oci_json_form.specs.Plain.{IsPlain, ArePlain, HoldPlain}
 
 pub object_kept : (d : Data) (ms : Members) → as_object d ≡ Some ms → d ≡ object ms
 object_kept null t e = cc
@@ -110,3 +110,11 @@ detail_normal s d is there h =
 
 pub record_normal : (s : Shape) (rs : Rows) (d : Data) (ms : Members) → s ≡ shape.rows rs → Some ms ≡ as_object d → AreNormalMembers rs ms → IsNormal s d
 record_normal s rs d ms is there h = let seen : d ≡ object ms = object_kept d ms (sym there) in rw (is, seen) (h.0, ap object h.1)
+
+-- ---- values that are read again from their text
+
+pub item_plain : (n : ℕ) (d : Data) (ds : Items) → IsPlain n d → ArePlain n ds → ArePlain n (item d ds)
+item_plain n d ds h t = search (rules, h, t)
+
+pub member_plain : (n : ℕ) (k : List ℕ) (d : Data) (ms : Members) → IsPlain n d → HoldPlain n ms → HoldPlain n (member k d ms)
+member_plain n k d ms h t = search (rules, h, t)
