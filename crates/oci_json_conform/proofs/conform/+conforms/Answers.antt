@@ -13,6 +13,7 @@ use Rattle.oci_json_form.specs.Tables.{shape_of, rows_of, presence_of}
 use Rattle.oci_json_form.specs.declared.form.Form.{the_lemmas}
 use Rattle.oci_json_form.proofs.NormalParts.{object_kept}
 use Rattle.oci_json_form.proofs.Tables.{record_is}
+use Rattle.oci_json_conform.proofs.Accepted.{of_member}
 use Rattle.oci_json_conform.proofs.Given.{given_told, given_refused, absent_told, absent_refused, both_refused, one_allowed, ends, put_told}
 use Rattle.oci_json_conform.proofs.Moved.{moved_more, moved_refused, moved_all}
 use Rattle.oci_json_conform.proofs.Parts.{none_left, items_more, item_refused, leaf_is, items_all, members_more, array_kept, list_is, map_is, told_at, refused_at, no_list, no_map, no_record}
@@ -165,3 +166,9 @@ conform_row-returns-in-Ok-clause-accepts t c = ends _ _ (one_allowed _ _ _ _ _ _
 pub conform_row-returns-in-Err-clause-err : goal.conform_row-returns-in-Err-clause-err
 conform_row-returns-in-Err-clause-err t c = λ h.
     one_allowed _ _ _ _ _ _ c.in_ok-found.ensures.one c.in_ok-found.ensures.ok (c.in-Err.ensures.err (c.placed.ensures.schema h))
+
+pub conform_found-conform_value-requires : goal.conform_found-conform_value-requires
+conform_found-conform_value-requires t c = (search (rules, the_lemmas), of_member (presence_of c.args.presence.now) (shape_of c.args.form.now) c.requires)
+
+pub conform_value-returns-then-is_normal-clause-ok : goal.conform_value-returns-then-is_normal-clause-ok
+conform_value-returns-then-is_normal-clause-ok t c = let h = c.is_normal.ensures c.if-is_normal.true in (h.0, sym h.1)
