@@ -1,4 +1,6 @@
 pub mod Accepted
 pub mod Conforms
+pub mod Given
+pub mod Meant
 pub mod Moved
 pub mod Parts

@@ -1,15 +1,16 @@
 -- Parts of values, and of records that are taken apart.
 use Rattle.std.proofs.Common.{◌≡◌, refl, sym, ap, ◌∙◌, Bool, true, false, ◌&&◌, List, [], ◌∷◌, ◌++◌, length, Option, Some, None, is_some, nat_cmp, string_bytes, string_cmp, arith, Result, Ok, Err, Greater, Less}
-use Rattle.std.specs.Prelude.{IfOk, not}
+use Rattle.std.specs.Prelude.{IfOk, IfErr, not}
 use Rattle.std.specs.Cmp.Lexicographic.{slice_cmp}
+use Rattle.std.specs.Borrow.{Bor}
 use Rattle.std.specs.List.{AllByRecursion}
 use Rattle.std.specs.List.Sorted.{IsStrictlySortedBy}
 use Rattle.std.specs.Map.{keys_of}
 use Rattle.std.specs.BTreeMap.{insert_entry}
 use Rattle.std.specs.Ordering.{ordering_reverse}
 use Rattle.std.proofs.lemmas.Cmp.{nat_list_cmp_total}
-use Rattle.serde_json.specs.Data.{Data, null, boolean, number, string, array, object, Items, no_items, item, Members, no_members, member, put}
-use Rattle.serde_json.specs.Find.{as_null, as_object}
+use Rattle.serde_json.specs.Data.{Data, null, boolean, number, string, array, object, Items, no_items, item, member, put}
+use Rattle.serde_json.specs.Find.{as_null, as_array, as_object}
 use Rattle.serde_json.specs.Read.{read}
 use Rattle.serde_json.specs.Written.{has_float, compact_text}
 use Rattle.serde_json.specs.View.{view, items_view, members_view}
@@ -18,15 +19,21 @@ use Rattle.serde_json.proofs.Views.{Entry}
 use Rattle.oci_json_schema.specs.Means.{unless_null, Means}
 use Rattle.oci_json_schema.specs.Plain.{Plain, text_of}
 use Rattle.oci_json_schema.specs.Refused.{IsRefused}
+use Rattle.oci_text_base.specs.Refused.{IsSchema}
+use Rattle.oci_text_base.specs.declared.error.OciSpecError.{OciSpecError}
 use Rattle.oci_json_schema.specs.Shape as shape
 use Rattle.oci_json_schema.specs.Shape.{Shape, Rows, detail}
 use Rattle.oci_json_schema.specs.Value.{value}
 use Rattle.oci_json_schema.specs.Writable.{Writable}
 use Rattle.oci_json_schema.proofs.Writers.{inserted}
-use Rattle.oci_json_form.specs.Allows.{allows, each_allowed}
-use Rattle.oci_json_form.specs.Conformed.{is_kept, accepts, rows_accept, conformed, conformed_rows, chosen, is_one_there, each_conformed, each_member_conformed}
+use Rattle.oci_json_form.specs.Allows.{allows, each_allowed, items_allowed, members_allowed}
+use Rattle.oci_json_form.specs.Conformed.{is_kept, accepts, rows_accept, conformed, chosen, is_one_there, each_conformed, each_member_conformed}
+use Rattle.oci_json_form.specs.Tables.{shape_of, leaf_shape}
+use Rattle.oci_json_form.specs.declared.form.Leaf.{Leaf}
+use Rattle.oci_json_form.specs.declared.form.Form.{Form}
+use Rattle.oci_json_form.specs.declared.form.Form.TheVariants as form
 use Rattle.oci_json_form.proofs.Decides.{meant}
-use Rattle.oci_json_form.proofs.NormalParts.{object_kept}
+use Rattle.oci_json_form.proofs.Tables.{shape_leaf, shape_list, shape_map}
 use Rattle.oci_json_conform.proofs.Conforms.{told}
 
 -- ---- lists and nulls
@@ -72,6 +79,14 @@ both_there (Some c) None e h = cc
 both_there (Some c) (Some d) e h = refl
 
 -- ---- lists and maps, part by part
+
+pub array_kept : (d : Data) (ds : Items) → Some ds ≡ as_array d → d ≡ array ds
+array_kept null t e = cc
+array_kept (boolean b) t e = cc
+array_kept (number n) t e = cc
+array_kept (string s) t e = cc
+array_kept (array ds) t e = cc
+array_kept (object ms) t e = cc
 
 -- the one list before the other
 abbrev pub joined : Items → Items → Items
@@ -173,15 +188,32 @@ not_kept d p m lost = none_of (allows detail d) _ (here (read (compact_text d)) 
         told_by true h = refl
         told_by false h = absurd (lost (c, is_text ∙ e, h))
 
--- ---- records
+-- ---- values that are taken apart
 
-pub record_told : (s : Shape) (rs : Rows) (d c : Data) (ms made : Members) → s ≡ shape.rows rs → Some ms ≡ as_object d
-    → (rows_accept rs (object ms) ≡ true) × (made ≡ conformed_rows rs (object ms) no_members) → c ≡ object made → (accepts s d ≡ true) × (c ≡ conformed s d)
-record_told s rs d c ms made is there h e =
-    let seen : d ≡ object ms = object_kept d ms (sym there) in
-    rw (is, seen) (h.0, e ∙ ap object h.1)
+pub leaf_is : (f : Form) (l : Leaf) → f ≡ form.Leaf l → shape_of f ≡ leaf_shape l
+leaf_is f l is = ap shape_of is ∙ shape_leaf l
 
-pub record_refused : (s : Shape) (rs : Rows) (d : Data) (ms : Members) → s ≡ shape.rows rs → Some ms ≡ as_object d → rows_accept rs (object ms) ≡ false → accepts s d ≡ false
-record_refused s rs d ms is there h =
-    let seen : d ≡ object ms = object_kept d ms (sym there) in
-    rw (is, seen) h
+pub list_is : (f : Form) (inner : Bor Form) → f ≡ form.List inner → shape_of f ≡ shape.list (shape_of inner.now)
+list_is f inner is = ap shape_of is ∙ shape_list inner
+
+pub map_is : (f : Form) (inner : Bor Form) → f ≡ form.Map inner → shape_of f ≡ shape.map (shape_of inner.now)
+map_is f inner is = ap shape_of is ∙ shape_map inner
+
+-- of a shape and a value that are known
+pub told_at : {E : Type 0} (r : Result Value E) (s t : Shape) (d c : Data) → s ≡ t → d ≡ c → IfOk r (λ v. (accepts t c ≡ true) × (view v ≡ conformed t c))
+    → IfOk r (λ v. (accepts s d ≡ true) × (view v ≡ conformed s d))
+told_at (Ok v) s t d c is seen h = rw (is, seen) h
+told_at (Err e) s t d c is seen h = tt
+
+pub refused_at : {T : Type 0} (r : Result T OciSpecError) (s t : Shape) (d c : Data) → s ≡ t → d ≡ c → IfErr r (λ e. IsSchema e → accepts t c ≡ false) → IfErr r (λ e. IsSchema e → accepts s d ≡ false)
+refused_at (Ok v) s t d c is seen h = tt
+refused_at (Err e) s t d c is seen h = λ k. rw (is, seen) (h k)
+
+pub no_list : (s t : Shape) (d : Data) → s ≡ shape.list t → None ≡ as_array d → accepts s d ≡ false
+no_list s t d is none = ap (λ x. accepts x d) is ∙ ap (items_allowed (accepts t)) (sym none)
+
+pub no_map : (s t : Shape) (d : Data) → s ≡ shape.map t → None ≡ as_object d → accepts s d ≡ false
+no_map s t d is none = ap (λ x. accepts x d) is ∙ ap (members_allowed (accepts t)) (sym none)
+
+pub no_record : (s : Shape) (rs : Rows) (d : Data) → s ≡ shape.rows rs → None ≡ as_object d → accepts s d ≡ false
+no_record s rs d is none = ap (λ x. accepts x d) is ∙ ap (λ o. is_some o && rows_accept rs d) (sym none)

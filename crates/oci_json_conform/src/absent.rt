@@ -1,9 +1,9 @@
 //! What is written where members are absent.
 ghost use Rattle.std.specs.Prelude.{◌≡◌, true, false, None, map, option_map, IfOk, IfErr, OnOk};
-ghost use Rattle.serde_json.specs.Data.{no_members};
+ghost use Rattle.serde_json.specs.Data.{string, object, no_members};
 ghost use Rattle.serde_json.specs.View.{view, members_view};
 ghost use Rattle.oci_text_base.specs.Refused.{IsSchema, IsMemoryOrSchema};
-ghost use Rattle.oci_json_schema.specs.Plain.{document, slots};
+ghost use Rattle.oci_json_schema.specs.Plain.{document, slots, text as plain_text, whole as plain_whole};
 ghost use Rattle.oci_json_schema.specs.Fits.{Fits, FitsRows, FitsMember, IfFilled};
 ghost use Rattle.oci_json_schema.specs.Value.{value as json_of, with_rows, with_member, member_value};
 ghost use Rattle.oci_json_schema.specs.WellFormed.{WellFormed, AreWellFormed, MemberIsWellFormed};
@@ -12,7 +12,7 @@ ghost use Rattle.oci_json_form.specs.Allows.{member_allowed};
 ghost use Rattle.oci_json_form.specs.Conformed.{IsSound, accepts, conformed, conformed_member};
 ghost use Rattle.oci_json_form.specs.Tables.{shape_of, presence_of, rows_of, absent_plain, absent_slot};
 
-use crate::normal::unless_no_items;
+use crate::member::{put_member, written, written_for_none};
 use oci_json_form::{Absent, Form, Leaf, Presence, Row};
 use oci_json_kinds::{Detail, OciKind};
 use oci_json_schema::fault::refused;
@@ -32,8 +32,14 @@ pub fn conform_absent(form: &Form<'_>, presence: &Presence, alloc: Global) -> Re
         Presence::Required => Err(refused("", "")),
         Presence::Optional | Presence::UnlessEmpty => Ok(None),
         Presence::Nullable => Ok(Some(Value::Null)),
-        Presence::Defaulted(absent) => Ok(Some(absent_value(form, absent, alloc)?)),
-        Presence::DefaultedRecord(given) => Ok(Some(absent_record(form, given, alloc)?)),
+        Presence::Defaulted(absent) => match absent_value(form, absent, alloc) {
+            Ok(value) => Ok(Some(value)),
+            Err(fault) => Err(fault),
+        },
+        Presence::DefaultedRecord(given) => match absent_record(form, given, alloc) {
+            Ok(value) => Ok(Some(value)),
+            Err(fault) => Err(fault),
+        },
     }
 }
 
@@ -47,17 +53,50 @@ fn absent_value(form: &Form<'_>, absent: &Absent, alloc: Global) -> Result<Value
     ensures kind { IfErr result IsMemoryOrSchema }
 {
     match absent {
-        Absent::Text(text) => match form {
-            Form::Leaf(Leaf::Detail) => Detail::write(&String::from_str(alloc, text)?, alloc),
-            _ => Ok(Value::String(String::from_str(alloc, text)?)),
-        },
-        Absent::Variant(text) => Ok(Value::String(String::from_str(alloc, text)?)),
+        Absent::Text(text) => absent_text(form, text, alloc),
+        Absent::Variant(text) => text_value(text, alloc),
         Absent::Truth(truth) => Ok(Value::Bool(*truth)),
-        Absent::Whole(whole) => match Number::from_i128(*whole) {
-            Some(number) => Ok(Value::Number(number)),
-            None => unreachable!(),
-        },
+        Absent::Whole(whole) => Ok(absent_whole(form, *whole)),
         Absent::NoItems => Ok(Value::Array(Vec::new(alloc))),
+    }
+}
+
+/// The value of a text that is meant where a member is absent.
+fn absent_text(form: &Form<'_>, text: &str, alloc: Global) -> Result<Value>
+    requires fits { Fits (shape_of form.now) (plain_text text.now) }
+    requires writable { Writable (shape_of form.now) (plain_text text.now) }
+    ensures ok { IfOk result (λ v. view v ≡ json_of (shape_of form.now) (plain_text text.now)) }
+    ensures err { IfErr result (λ e. ¬ IsSchema e) }
+    ensures kind { IfErr result IsMemoryOrSchema }
+{
+    match form {
+        Form::Leaf(Leaf::Detail) => {
+            let text = String::from_str(alloc, text)?;
+            Detail::write(&text, alloc)
+        }
+        _ => text_value(text, alloc),
+    }
+}
+
+/// The value that is a text.
+fn text_value(text: &str, alloc: Global) -> Result<Value>
+    ensures ok { IfOk result (λ v. view v ≡ string text.now) }
+    ensures err { IfErr result (λ e. ¬ IsSchema e) }
+    ensures kind { IfErr result IsMemoryOrSchema }
+{
+    let text = String::from_str(alloc, text)?;
+    Ok(Value::String(text))
+}
+
+/// The value of a whole number that is meant where a member is absent.
+fn absent_whole(form: &Form<'_>, whole: i128) -> Value
+    requires sound { IsSound (shape_of form.now) }
+    requires fits { Fits (shape_of form.now) (plain_whole whole) }
+    ensures { view result ≡ json_of (shape_of form.now) (plain_whole whole) }
+{
+    match Number::from_i128(whole) {
+        Some(number) => Value::Number(number),
+        None => unreachable!(),
     }
 }
 
@@ -71,20 +110,17 @@ fn absent_record(form: &Form<'_>, given: &[Option<Absent>], alloc: Global) -> Re
     ensures kind { IfErr result IsMemoryOrSchema }
 {
     match form {
-        Form::Record(_, rows) => Ok(Value::Object(absent_rows(rows, given, alloc)?)),
+        Form::Record(_, rows) => absent_rows(rows, given, alloc),
         _ => unreachable!(),
     }
 }
 
-fn absent_rows(
-    rows: &[Row<'_>],
-    given: &[Option<Absent>],
-    alloc: Global,
-) -> Result<Map<String, Value>>
+/// The same, row by row.
+fn absent_rows(rows: &[Row<'_>], given: &[Option<Absent>], alloc: Global) -> Result<Value>
     requires well { AreWellFormed (rows_of rows.now) }
     requires fits { FitsRows (rows_of rows.now) (slots (map absent_slot given.now)) }
     requires writable { AreWritable (rows_of rows.now) (slots (map absent_slot given.now)) }
-    ensures ok { IfOk result (λ m. members_view m.entries ≡ with_rows (rows_of rows.now) (slots (map absent_slot given.now)) no_members) }
+    ensures ok { IfOk result (λ v. view v ≡ object (with_rows (rows_of rows.now) (slots (map absent_slot given.now)) no_members)) }
     ensures err { IfErr result (λ e. ¬ IsSchema e) }
     ensures kind { IfErr result IsMemoryOrSchema }
 {
@@ -92,9 +128,10 @@ fn absent_rows(
     for i in 0..rows.len() {
         absent_row(&rows[i], &given[i], &mut made, alloc)?;
     }
-    Ok(made)
+    Ok(Value::Object(made))
 }
 
+/// Puts what a row's member means where the record is absent.
 fn absent_row(
     row: &Row<'_>,
     given: &Option<Absent>,
@@ -109,14 +146,8 @@ fn absent_row(
     ensures err { IfErr result (λ e. ¬ IsSchema e) }
     ensures kind { IfErr result IsMemoryOrSchema }
 {
-    match absent_member(row.form, &row.presence, given, alloc)? {
-        Some(member) => {
-            let name = String::from_str(alloc, row.name)?;
-            drop(made.insert(name, member)?);
-            Ok(())
-        }
-        None => Ok(()),
-    }
+    let member = absent_member(row.form, &row.presence, given, alloc)?;
+    put_member(made, row.name, member, alloc)
 }
 
 /// What is written for a member that is this or nothing.
@@ -134,16 +165,10 @@ fn absent_member(
     ensures kind { IfErr result IsMemoryOrSchema }
 {
     match given {
-        Some(absent) => {
-            let value = absent_value(form, absent, alloc)?;
-            match presence {
-                Presence::UnlessEmpty => Ok(unless_no_items(value)),
-                _ => Ok(Some(value)),
-            }
-        }
-        None => match presence {
-            Presence::Nullable => Ok(Some(Value::Null)),
-            _ => Ok(None),
+        Some(absent) => match absent_value(form, absent, alloc) {
+            Ok(value) => Ok(written(presence, value)),
+            Err(fault) => Err(fault),
         },
+        None => Ok(written_for_none(presence)),
     }
 }

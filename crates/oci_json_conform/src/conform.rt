@@ -1,22 +1,23 @@
 //! The normal form of a value.
-ghost use Rattle.std.specs.Prelude.{◌≡◌, ◌⊎◌, true, false, map, option_map, is_some, IfOk, IfErr, OnOk, IsTrue, bytes_eq};
-ghost use Rattle.serde_json.specs.Data.{object, no_members};
+ghost use Rattle.std.specs.Prelude.{◌≡◌, true, false, option_map, is_some, IfOk, IfErr, OnOk, IsTrue, bytes_eq};
+ghost use Rattle.serde_json.specs.Data.{array, object};
 ghost use Rattle.serde_json.specs.Find.{get_member};
 ghost use Rattle.serde_json.specs.View.{view, items_view, members_view};
 ghost use Rattle.oci_text_base.specs.Names.{no_text_twice, is_listed};
 ghost use Rattle.oci_text_base.specs.Refused.{IsSchema, IsMemoryOrSchema};
 ghost use Rattle.oci_json_schema.specs.Plain.{Plain};
 ghost use Rattle.oci_json_schema.specs.Means.{Means, get_second};
-ghost use Rattle.oci_json_schema.specs.Shape.{names};
+ghost use Rattle.oci_json_schema.specs.Shape.{names, list, map, rows as record_of};
 ghost use Rattle.oci_json_schema.specs.Value.{value as json_of, with_member};
 ghost use Rattle.oci_json_schema.specs.WellFormed.{WellFormed, AreWellFormed, MemberIsWellFormed};
 ghost use Rattle.oci_json_schema.specs.Writable.{Writable};
-ghost use Rattle.oci_json_form.specs.Allows.{each_allowed, each_member_allowed, member_allowed};
-ghost use Rattle.oci_json_form.specs.Conformed.{IsSound, IsNotConformed, accepts, rows_accept, row_accepts, conformed, each_conformed, each_member_conformed, conformed_member, conformed_rows, row_conformed, chosen, is_one_of, is_one_there};
+ghost use Rattle.oci_json_form.specs.Allows.{member_allowed};
+ghost use Rattle.oci_json_form.specs.Conformed.{IsSound, IsNotConformed, accepts, row_accepts, conformed, conformed_member, row_conformed, chosen, is_one_of, is_one_there};
 ghost use Rattle.oci_json_form.specs.Tables.{shape_of, presence_of, name_of, rows_of};
 
 use crate::absent::conform_absent;
-use crate::normal::{conform_leaf, unless_no_items};
+use crate::member::{given, put_member, written};
+use crate::normal::conform_leaf;
 use oci_json_check::kept::{has_member, is_normal};
 use oci_json_form::{Form, Presence, Row};
 use oci_json_schema::fault::{placed, refused};
@@ -52,45 +53,41 @@ fn conform_value(form: &Form<'_>, value: Value, alloc: Global) -> Result<Value>
     match form {
         Form::Leaf(leaf) => conform_leaf(leaf, value, alloc),
         Form::List(inner) => match into_items(value) {
-            Some(items) => Ok(Value::Array(conform_items(inner, items, alloc)?)),
+            Some(items) => conform_items(inner, items, alloc),
             None => Err(refused("", "")),
         },
         Form::Map(inner) => match into_members(value) {
-            Some(members) => Ok(Value::Object(conform_members(inner, members, alloc)?)),
+            Some(members) => conform_members(inner, members, alloc),
             None => Err(refused("", "")),
         },
         Form::Record(owner, rows) => match into_members(value) {
-            Some(members) => Ok(Value::Object(conform_rows(rows, *owner, members, alloc)?)),
+            Some(members) => conform_rows(rows, *owner, members, alloc),
             None => Err(refused(*owner, "")),
         },
     }
 }
 
+/// The normal form of a list, item by item.
 #[cycle(conforms)]
-fn conform_items(form: &Form<'_>, items: Vec<Value>, alloc: Global) -> Result<Vec<Value>>
+fn conform_items(form: &Form<'_>, items: Vec<Value>, alloc: Global) -> Result<Value>
     requires { IsSound (shape_of form.now) }
-    ensures ok { IfOk result (λ v. (each_allowed (accepts (shape_of form.now)) (items_view items.items) ≡ true)
-        × (items_view v.items ≡ each_conformed (conformed (shape_of form.now)) (items_view items.items))) }
-    ensures err { IfErr result (λ e. IsSchema e → each_allowed (accepts (shape_of form.now)) (items_view items.items) ≡ false) }
+    ensures ok { IfOk result (λ v. (accepts (list (shape_of form.now)) (array (items_view items.items)) ≡ true) × (view v ≡ conformed (list (shape_of form.now)) (array (items_view items.items)))) }
+    ensures err { IfErr result (λ e. IsSchema e → accepts (list (shape_of form.now)) (array (items_view items.items)) ≡ false) }
     ensures kind { IfErr result IsMemoryOrSchema }
 {
     let mut made = Vec::with_capacity(alloc, items.len())?;
     for item in items {
         made.push(conform_value(form, item, alloc)?)?;
     }
-    Ok(made)
+    Ok(Value::Array(made))
 }
 
+/// The normal form of a map, member by member.
 #[cycle(conforms)]
-fn conform_members(
-    form: &Form<'_>,
-    members: Map<String, Value>,
-    alloc: Global,
-) -> Result<Map<String, Value>>
+fn conform_members(form: &Form<'_>, members: Map<String, Value>, alloc: Global) -> Result<Value>
     requires { IsSound (shape_of form.now) }
-    ensures ok { IfOk result (λ m. (each_member_allowed (accepts (shape_of form.now)) (members_view members.entries) ≡ true)
-        × (members_view m.entries ≡ each_member_conformed (conformed (shape_of form.now)) (members_view members.entries))) }
-    ensures err { IfErr result (λ e. IsSchema e → each_member_allowed (accepts (shape_of form.now)) (members_view members.entries) ≡ false) }
+    ensures ok { IfOk result (λ v. (accepts (map (shape_of form.now)) (object (members_view members.entries)) ≡ true) × (view v ≡ conformed (map (shape_of form.now)) (object (members_view members.entries)))) }
+    ensures err { IfErr result (λ e. IsSchema e → accepts (map (shape_of form.now)) (object (members_view members.entries)) ≡ false) }
     ensures kind { IfErr result IsMemoryOrSchema }
 {
     let mut made = Map::new(alloc);
@@ -98,28 +95,28 @@ fn conform_members(
         let member = conform_value(form, member, alloc)?;
         drop(made.insert(name, member)?);
     }
-    Ok(made)
+    Ok(Value::Object(made))
 }
 
+/// The normal form of a record, row by row.
 #[cycle(conforms)]
 fn conform_rows(
     rows: &[Row<'_>],
     owner: &'static str,
     mut members: Map<String, Value>,
     alloc: Global,
-) -> Result<Map<String, Value>>
+) -> Result<Value>
     requires distinct { IsTrue (no_text_twice (names (rows_of rows.now))) }
     requires well { AreWellFormed (rows_of rows.now) }
-    ensures ok { IfOk result (λ m. (rows_accept (rows_of rows.now) (object (members_view members.entries)) ≡ true)
-        × (members_view m.entries ≡ conformed_rows (rows_of rows.now) (object (members_view members.entries)) no_members)) }
-    ensures err { IfErr result (λ e. IsSchema e → rows_accept (rows_of rows.now) (object (members_view members.entries)) ≡ false) }
+    ensures ok { IfOk result (λ v. (accepts (record_of (rows_of rows.now)) (object (members_view members.entries)) ≡ true) × (view v ≡ conformed (record_of (rows_of rows.now)) (object (members_view members.entries)))) }
+    ensures err { IfErr result (λ e. IsSchema e → accepts (record_of (rows_of rows.now)) (object (members_view members.entries)) ≡ false) }
     ensures kind { IfErr result IsMemoryOrSchema }
 {
     let mut made = Map::new(alloc);
     for row in rows {
         conform_row(row, owner, &mut members, &mut made, alloc)?;
     }
-    Ok(made)
+    Ok(Value::Object(made))
 }
 
 /// Moves what a row lists from the one object to the other. Where its value is refused as a whole, the fault is the row's.
@@ -138,40 +135,19 @@ fn conform_row(
     ensures err { IfErr result (λ e. IsSchema e → row_accepts row.now (object (members_view members.old.entries)) ≡ false) }
     ensures kind { IfErr result IsMemoryOrSchema }
 {
-    match move_row(row, members, made, alloc) {
-        Ok(()) => Ok(()),
+    let found = take_row(row, owner, members)?;
+    match conform_found(row.form, &row.presence, found, alloc) {
+        Ok(member) => put_member(made, row.name, member, alloc),
         Err(fault) => Err(placed(fault, owner, row.name)),
     }
 }
 
-/// The same, where a refused value has no place yet.
-#[cycle(conforms)]
-fn move_row(
+/// Takes what stands under a row's names; refused as the row's where something stands under both.
+fn take_row(
     row: &Row<'_>,
+    owner: &'static str,
     members: &mut Map<String, Value>,
-    made: &mut Map<String, Value>,
-    alloc: Global,
-) -> Result<()>
-    requires { MemberIsWellFormed (presence_of row.now.presence) (shape_of row.now.form.now) (WellFormed (shape_of row.now.form.now)) }
-    ensures ok { OnOk result (members_view made.new.entries ≡ with_member row.now.name.now (row_conformed row.now (object (members_view members.old.entries))) (members_view made.old.entries)) }
-    ensures accepts { OnOk result (row_accepts row.now (object (members_view members.old.entries)) ≡ true) }
-    ensures others { (q : _) → is_one_of q row.now.name.now (name_of row.now.second) ≡ false → get_member q (members_view members.new.entries) ≡ get_member q (members_view members.old.entries) }
-    ensures err { IfErr result (λ e. IsSchema e → row_accepts row.now (object (members_view members.old.entries)) ≡ false) }
-    ensures kind { IfErr result IsMemoryOrSchema }
-{
-    let found = take_row(row, members)?;
-    match conform_found(row.form, &row.presence, found, alloc)? {
-        Some(member) => {
-            let name = String::from_str(alloc, row.name)?;
-            drop(made.insert(name, member)?);
-            Ok(())
-        }
-        None => Ok(()),
-    }
-}
-
-/// Takes what stands under a row's names; refused where something stands under both.
-fn take_row(row: &Row<'_>, members: &mut Map<String, Value>) -> Result<Option<Value>>
+) -> Result<Option<Value>>
     ensures ok { IfOk result (λ o. option_map view o ≡ chosen (get_member row.now.name.now (members_view members.old.entries)) (get_second (name_of row.now.second) (object (members_view members.old.entries)))) }
     ensures one { OnOk result (is_one_there (get_member row.now.name.now (members_view members.old.entries)) (get_second (name_of row.now.second) (object (members_view members.old.entries))) ≡ true) }
     ensures err { IfErr result (λ e. is_one_there (get_member row.now.name.now (members_view members.old.entries)) (get_second (name_of row.now.second) (object (members_view members.old.entries))) ≡ false) }
@@ -184,7 +160,7 @@ fn take_row(row: &Row<'_>, members: &mut Map<String, Value>) -> Result<Option<Va
             if !has_member(members, second) {
                 Ok(take_member(members, row.name))
             } else if has_member(members, row.name) {
-                Err(refused("", ""))
+                Err(refused(owner, row.name))
             } else {
                 Ok(take_member(members, second))
             }
@@ -214,30 +190,11 @@ fn conform_found(
     ensures err { IfErr result (λ e. IsSchema e → member_allowed (presence_of presence.now) (accepts (shape_of form.now)) (option_map view found) ≡ false) }
     ensures kind { IfErr result IsMemoryOrSchema }
 {
-    let Some(value) = found else {
-        return conform_absent(form, presence, alloc);
-    };
-    match presence {
-        Presence::Required | Presence::Defaulted(_) | Presence::DefaultedRecord(_) => {
-            Ok(Some(conform_value(form, value, alloc)?))
-        }
-        Presence::Optional => {
-            if value.is_null() {
-                return Ok(None);
-            }
-            Ok(Some(conform_value(form, value, alloc)?))
-        }
-        Presence::Nullable => {
-            if value.is_null() {
-                return Ok(Some(Value::Null));
-            }
-            Ok(Some(conform_value(form, value, alloc)?))
-        }
-        Presence::UnlessEmpty => {
-            if value.is_null() {
-                return Ok(None);
-            }
-            Ok(unless_no_items(conform_value(form, value, alloc)?))
-        }
+    match given(presence, found) {
+        Some(value) => match conform_value(form, value, alloc) {
+            Ok(member) => Ok(written(presence, member)),
+            Err(fault) => Err(fault),
+        },
+        None => conform_absent(form, presence, alloc),
     }
 }

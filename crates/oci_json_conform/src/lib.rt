@@ -3,4 +3,5 @@
 
 pub mod absent;
 pub mod conform;
+mod member;
 pub mod normal;

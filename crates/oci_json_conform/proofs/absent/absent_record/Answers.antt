@@ -1,6 +1,6 @@
-use Rattle.std.proofs.Common.{map, sym, ap, ◌∙◌, subst}
-use Rattle.serde_json.specs.Data.{object}
-use Rattle.serde_json.proofs.Views.{view-Object}
+use Rattle.std.proofs.Common.{◌≡◌, map, sym, subst}
+use Rattle.std.specs.Prelude.{IfOk}
+use Rattle.serde_json.specs.View.{view}
 use Rattle.oci_json_schema.specs.Fits.{Fits}
 use Rattle.oci_json_schema.specs.Plain.{document, slots}
 use Rattle.oci_json_schema.specs.Value.{value}
@@ -26,6 +26,4 @@ absent_rows-requires-clause-writable c =
 
 pub returns-clause-ok : goal.returns-clause-ok
 returns-clause-ok c =
-    let m = c.in_ok-absent_rows-in-Record.field-0 in
-    view-Object m ∙ ap object c.in_ok-absent_rows-in-Record.ensures.ok
-    ∙ sym (ap (λ s. value s (document (slots (map absent_slot c.args.given.now)))) (record_is _ _ c.in-Record.rows c.in-Record.is))
+    subst (λ s. IfOk c.absent_rows.result (λ v. view v ≡ value s (document (slots (map absent_slot c.args.given.now))))) (sym (record_is _ _ c.in-Record.rows c.in-Record.is)) c.absent_rows.ensures.ok

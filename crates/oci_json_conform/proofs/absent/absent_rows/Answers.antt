@@ -1,5 +1,7 @@
-use Rattle.std.proofs.Common.{ap}
+use Rattle.std.proofs.Common.{ap, ◌∙◌}
+use Rattle.serde_json.specs.Data.{object}
 use Rattle.serde_json.specs.View.{members_view}
+use Rattle.serde_json.proofs.Views.{view-Object}
 use Rattle.oci_json_conform.proofs.Moved.{filled_below, filled_none, filled_well, filled_fits, filled_writable, filled_more, filled_all}
 use Rattle.oci_json_conform.proofs.absent.absent_rows.Goals as goal
 
@@ -26,4 +28,4 @@ loop-i-preserved c =
     filled_more _ c.args.rows.now c.args.given.now c.loop-i.i c.index-rows-i.result _ c.loop-i-test.true c.index-rows-i.is c.loop-i.invariant _ c.in_ok-absent_row.ensures.ok
 
 pub returns-clause-ok : goal.returns-clause-ok
-returns-clause-ok c = filled_all _ c.args.rows.now c.args.given.now c.loop-i.i _ c.loop-i-test.false c.loop-i.invariant
+returns-clause-ok c = view-Object c.loop-i.made ∙ ap object (filled_all _ c.args.rows.now c.args.given.now c.loop-i.i _ c.loop-i-test.false c.loop-i.invariant)
