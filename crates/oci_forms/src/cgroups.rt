@@ -1,5 +1,5 @@
 //! The forms of the records of `oci_cgroups`.
-use crate::made::{list_of, map_of, map_of_texts, record};
+use crate::made::{Member, list_of, map_of, map_of_texts, record};
 use crate::{Formed, Tabled};
 use bumpalo::Bump;
 use oci_cgroups::{LinuxCpu, LinuxHugepageLimit, LinuxMemory, LinuxPids, LinuxResources};
@@ -88,31 +88,36 @@ impl Formed for LinuxCpu {
     }
 }
 
+/// The members of `LinuxResources`.
+const LINUX_RESOURCES_MEMBERS: &[Member] = &[
+    ("devices", Presence::Optional),
+    ("memory", Presence::Optional),
+    ("cpu", Presence::Optional),
+    ("pids", Presence::Optional),
+    ("blockIO", Presence::Optional),
+    ("hugepageLimits", Presence::Optional),
+    ("network", Presence::Optional),
+    ("rdma", Presence::Optional),
+    ("unified", Presence::Optional),
+];
+
 /// What a container may use of its host (runtime specification, "Linux Container Configuration", "Control groups").
 impl Tabled for LinuxResources {
     fn table<'a>(room: &'a Bump) -> Result<&'a Form<'a>, AllocError> {
-        let devices = list_of::<LinuxDeviceCgroup>(room)?;
-        let memory = LinuxMemory::table(room)?;
-        let cpu = LinuxCpu::table(room)?;
-        let pids = LinuxPids::table(room)?;
-        let block_io = LinuxBlockIo::table(room)?;
-        let hugepage_limits = list_of::<LinuxHugepageLimit>(room)?;
-        let network = LinuxNetwork::table(room)?;
-        let rdma = map_of::<LinuxRdma>(room)?;
-        let unified = map_of_texts(room)?;
         record(
             room,
             "LinuxResources",
+            LINUX_RESOURCES_MEMBERS,
             &[
-                row!("devices", Presence::Optional, *devices),
-                row!("memory", Presence::Optional, *memory),
-                row!("cpu", Presence::Optional, *cpu),
-                row!("pids", Presence::Optional, *pids),
-                row!("blockIO", Presence::Optional, *block_io),
-                row!("hugepageLimits", Presence::Optional, *hugepage_limits),
-                row!("network", Presence::Optional, *network),
-                row!("rdma", Presence::Optional, *rdma),
-                row!("unified", Presence::Optional, *unified),
+                list_of::<LinuxDeviceCgroup>(room),
+                LinuxMemory::table(room),
+                LinuxCpu::table(room),
+                LinuxPids::table(room),
+                LinuxBlockIo::table(room),
+                list_of::<LinuxHugepageLimit>(room),
+                LinuxNetwork::table(room),
+                map_of::<LinuxRdma>(room),
+                map_of_texts(room),
             ],
         )
     }

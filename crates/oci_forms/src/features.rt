@@ -1,64 +1,81 @@
-//! The forms of the records of `oci_features`.
-use crate::Formed;
-use crate::features_linux::{
-    APPARMOR, CGROUP, INTEL_RDT, MEMORY_POLICY, MOUNT_EXTENSIONS, NET_DEVICES, SECCOMP, SELINUX,
-};
+//! The tables of the records of `oci_features`.
+use crate::Tabled;
+use crate::made::{Member, list, map_of_texts, record, text, texts};
 use crate::names::LINUX_NAMESPACE_TYPE;
+use bumpalo::Bump;
 use oci_features::{Features, LinuxFeature};
-use oci_json_form::forms::TEXT;
-use oci_json_form::{Form, Presence, Row};
+use oci_features_linux::{
+    Apparmor, Cgroup, IntelRdt, MemoryPolicy, MountExtensions, NetDevices, Seccomp, Selinux,
+};
+use oci_json_form::{Form, Presence};
+use std::alloc::AllocError;
+
+static LINUX_NAMESPACE_TYPE_FORM: Form<'static> = LINUX_NAMESPACE_TYPE;
+
+/// The members of `LinuxFeature`.
+const LINUX_FEATURE_MEMBERS: &[Member] = &[
+    ("namespaces", Presence::Nullable),
+    ("capabilities", Presence::Nullable),
+    ("cgroup", Presence::Nullable),
+    ("seccomp", Presence::Nullable),
+    ("apparmor", Presence::Nullable),
+    ("selinux", Presence::Nullable),
+    ("intelRdt", Presence::Nullable),
+    ("memoryPolicy", Presence::Nullable),
+    ("mountExtensions", Presence::Nullable),
+    ("netDevices", Presence::Nullable),
+];
 
 /// What a runtime can do on Linux (runtime specification, "Linux Features Structure").
-pub const LINUX_FEATURE: Form<'static> = Form::Record(
-    "LinuxFeature",
-    &[
-        row!(
-            "namespaces",
-            Presence::Nullable,
-            Form::List(&LINUX_NAMESPACE_TYPE)
-        ),
-        row!("capabilities", Presence::Nullable, Form::List(&TEXT)),
-        row!("cgroup", Presence::Nullable, CGROUP),
-        row!("seccomp", Presence::Nullable, SECCOMP),
-        row!("apparmor", Presence::Nullable, APPARMOR),
-        row!("selinux", Presence::Nullable, SELINUX),
-        row!("intelRdt", Presence::Nullable, INTEL_RDT),
-        row!("memoryPolicy", Presence::Nullable, MEMORY_POLICY),
-        row!("mountExtensions", Presence::Nullable, MOUNT_EXTENSIONS),
-        row!("netDevices", Presence::Nullable, NET_DEVICES),
-    ],
-);
-
-static LINUX_FEATURE_FORM: Form<'static> = LINUX_FEATURE;
-
-impl Formed for LinuxFeature {
-    fn form() -> &'static Form<'static> {
-        &LINUX_FEATURE_FORM
+impl Tabled for LinuxFeature {
+    fn table<'a>(room: &'a Bump) -> Result<&'a Form<'a>, AllocError> {
+        record(
+            room,
+            "LinuxFeature",
+            LINUX_FEATURE_MEMBERS,
+            &[
+                list(room, &LINUX_NAMESPACE_TYPE_FORM),
+                texts(room),
+                Cgroup::table(room),
+                Seccomp::table(room),
+                Apparmor::table(room),
+                Selinux::table(room),
+                IntelRdt::table(room),
+                MemoryPolicy::table(room),
+                MountExtensions::table(room),
+                NetDevices::table(room),
+            ],
+        )
     }
 }
 
+/// The members of `Features`.
+const FEATURES_MEMBERS: &[Member] = &[
+    ("ociVersionMin", Presence::Required),
+    ("ociVersionMax", Presence::Required),
+    ("hooks", Presence::Nullable),
+    ("mountOptions", Presence::Nullable),
+    ("linux", Presence::Nullable),
+    ("annotations", Presence::Nullable),
+    ("potentiallyUnsafeConfigAnnotations", Presence::Nullable),
+];
+
 /// What a runtime can do (runtime specification, "Features Structure").
-pub const FEATURES: Form<'static> = Form::Record(
-    "Features",
-    &[
-        row!("ociVersionMin", Presence::Required, TEXT),
-        row!("ociVersionMax", Presence::Required, TEXT),
-        row!("hooks", Presence::Nullable, Form::List(&TEXT)),
-        row!("mountOptions", Presence::Nullable, Form::List(&TEXT)),
-        row!("linux", Presence::Nullable, LINUX_FEATURE),
-        row!("annotations", Presence::Nullable, Form::Map(&TEXT)),
-        row!(
-            "potentiallyUnsafeConfigAnnotations",
-            Presence::Nullable,
-            Form::List(&TEXT)
-        ),
-    ],
-);
-
-static FEATURES_FORM: Form<'static> = FEATURES;
-
-impl Formed for Features {
-    fn form() -> &'static Form<'static> {
-        &FEATURES_FORM
+impl Tabled for Features {
+    fn table<'a>(room: &'a Bump) -> Result<&'a Form<'a>, AllocError> {
+        record(
+            room,
+            "Features",
+            FEATURES_MEMBERS,
+            &[
+                Ok(text()),
+                Ok(text()),
+                texts(room),
+                texts(room),
+                LinuxFeature::table(room),
+                map_of_texts(room),
+                texts(room),
+            ],
+        )
     }
 }

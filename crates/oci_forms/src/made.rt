@@ -1,13 +1,16 @@
 //! Parts of tables that are made where they are used.
-ghost use Rattle.std.specs.Prelude.{◌≡◌, IfOk};
-ghost use Rattle.oci_json_schema.specs.Shape.{text as text_shape, truth as truth_shape, list as list_shape, map as map_shape, rows as rows_shape};
+ghost use Rattle.std.specs.Prelude.{◌≡◌, Some, IfOk};
+ghost use Rattle.std.specs.List.{zip};
+ghost use Rattle.oci_json_schema.specs.Shape.{text as text_shape, truth as truth_shape, list as list_shape, map as map_shape};
 ghost use Rattle.oci_json_schema.specs.Types.{i32};
 ghost use Rattle.oci_json_form.specs.Tables.{shape_of, rows_of};
+ghost use Rattle.oci_forms.specs.Made.{made_rows, IsRecordOf};
 
 use crate::Tabled;
 use bumpalo::Bump;
+use bumpalo::collections::into_bump_slice;
 use oci_json_form::forms::{I32, TEXT, TRUTH};
-use oci_json_form::{Form, Row};
+use oci_json_form::{Form, Presence, Row};
 use std::alloc::AllocError;
 
 static TEXT_FORM: Form<'static> = TEXT;
@@ -65,19 +68,44 @@ pub fn map_of<'a, T: Tabled>(room: &'a Bump) -> Result<&'a Form<'a>, AllocError>
     map(room, T::table(room)?)
 }
 
-/// A record of this name, with these members.
+/// A listed member's name, and how it is asked for.
+pub type Member = (&'static str, Presence);
+
+/// A record of this name, with these members, each of which has the form at its own place.
 pub fn record<'a>(
     room: &'a Bump,
     name: &'static str,
-    rows: &[Row<'a>],
+    members: &[Member],
+    forms: &[Result<&'a Form<'a>, AllocError>],
 ) -> Result<&'a Form<'a>, AllocError>
-    ensures { IfOk result (λ f. shape_of f.now ≡ rows_shape (rows_of rows.now)) }
+    ensures { IfOk result (λ f. IsRecordOf (zip members.now forms.now) (shape_of f.now)) }
 {
-    let rows = room.try_alloc_slice_copy(rows)?;
+    let rows = into_bump_slice(rows(room, members, forms)?);
     Ok(room.try_alloc(Form::Record(name, rows))?)
 }
 
-fn list<'a>(room: &'a Bump, item: &'a Form<'a>) -> Result<&'a Form<'a>, AllocError>
+/// The rows of these members, each of which has the form at its own place.
+fn rows<'a>(
+    room: &'a Bump,
+    members: &[Member],
+    forms: &[Result<&'a Form<'a>, AllocError>],
+) -> Result<Vec<Row<'a>, &'a Bump>, AllocError>
+    ensures { IfOk result (λ v. made_rows (zip members.now forms.now) ≡ Some (rows_of v.items)) }
+{
+    let mut rows = Vec::new(room);
+    for (member, form) in members.iter().zip(forms) {
+        rows.push(Row {
+            name: member.0,
+            second: None,
+            presence: member.1,
+            form: (*form)?,
+        })?;
+    }
+    Ok(rows)
+}
+
+/// A list of what has this form.
+pub fn list<'a>(room: &'a Bump, item: &'a Form<'a>) -> Result<&'a Form<'a>, AllocError>
     ensures { IfOk result (λ f. shape_of f.now ≡ list_shape (shape_of item.now)) }
 {
     Ok(room.try_alloc(Form::List(item))?)

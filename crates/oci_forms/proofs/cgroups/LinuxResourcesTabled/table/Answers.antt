@@ -1,16 +1,15 @@
-use Rattle.std.proofs.Common.{refl}
-use Rattle.oci_forms.proofs.Rooms.{◌▹◌, is_made}
+use Rattle.oci_forms.proofs.Rooms.{◌▹◌, no_part, is_made}
 use Rattle.oci_forms.proofs.cgroups.LinuxResourcesTabled.table.Goals as goal
 
 pub returns : goal.returns
 returns c = is_made c.record.result c.record.ensures (
-    c.in_ok-devices.ensures ▹
-    c.in_ok-memory.ensures ▹
-    c.in_ok-cpu.ensures ▹
-    c.in_ok-pids.ensures ▹
-    c.in_ok-block_io.ensures ▹
-    c.in_ok-hugepage_limits.ensures ▹
-    c.in_ok-network.ensures ▹
-    c.in_ok-rdma.ensures ▹
-    c.in_ok-unified.ensures ▹
-    refl)
+    c.list_of.ensures ▹
+    c.table.ensures ▹
+    c.table-2.ensures ▹
+    c.table-3.ensures ▹
+    c.table-4.ensures ▹
+    c.list_of-2.ensures ▹
+    c.table-5.ensures ▹
+    c.map_of.ensures ▹
+    c.map_of_texts.ensures ▹
+    no_part)
