@@ -1,10 +1,11 @@
 -- That a table that was made where it is used stands for a shape.
-use Rattle.std.proofs.Common.{◌≡◌, refl, ap, sym, subst, ◌∙◌, ℕ, List, [], ◌∷◌, ◌++◌, Option, Some, None, Bor, Result, Ok, Err, length, arith, IfOk, IfSome}
+use Rattle.std.proofs.Common.{◌≡◌, refl, ap, sym, subst, ◌∙◌, ℕ, List, [], ◌∷◌, ◌++◌, Option, Some, None, Bor, Result, Ok, Err, length, drop, slice_index_or, zero, suc, ◌+◌, ◌<◌, ◌≤◌, min, arith, IfOk, IfSome}
 use Rattle.std.specs.List.{zip}
 use Rattle.oci_json_schema.specs.Shape as shape
 use Rattle.oci_json_schema.specs.Shape.{Shape, Rows, no_rows, row}
 use Rattle.oci_json_form.specs.Tables.{shape_of, rows_of, presence_of, name_of}
 use Rattle.oci_json_form.specs.declared.form.Form.{Form}
+use Rattle.oci_json_form.proofs.Listed.{drop_at}
 use Rattle.oci_json_form.proofs.Stands.{StandsFor}
 use Rattle.oci_json_form.specs.declared.form.Row.{Row}
 use Rattle.oci_forms.specs.Made.{Part, made_row, made_rows, record_shape, IsRecordOf}
@@ -41,18 +42,26 @@ one_more all xs ys ps qs n presence r f told first is made =
     step None = refl
     step (Some rs) = ap Some (sym (before_rows xs _ rs))
 
--- what stands side by side at the front of two lists, and at their end
-pub zip_more : {A B : Type 0} {xs xs' : List A} {ys ys' : List B} {x : A} {y : B} → xs ≡ x ∷ xs' → ys ≡ y ∷ ys' → zip xs ys ≡ (x, y) ∷ zip xs' ys'
-zip_more {A} {B} {xs} {xs'} {ys} {ys'} {x} {y} e f = ap (λ z. zip z ys) e ∙ ap (zip (x ∷ xs')) f
+-- what stands side by side from one place on
+pub pair_more : {A B : Type 0} (xs : List A) (ys : List B) (i end : ℕ) (x d : A) (y : B) → i < end → end ≡ min (length xs) (length ys) → x ≡ slice_index_or xs i d → y ≡ slice_index_or ys i y
+    → zip (drop i xs) (drop i ys) ≡ (x, y) ∷ zip (drop (i + 1) xs) (drop (i + 1) ys)
+pair_more xs ys i end x d y below is at_x at_y =
+    let cut : drop i xs ≡ x ∷ drop (i + 1) xs = drop_at xs i d (omega arith) ∙ ap (λ z. z ∷ drop (i + 1) xs) (sym at_x) in
+    let and_cut : drop i ys ≡ y ∷ drop (i + 1) ys = drop_at ys i y (omega arith) ∙ ap (λ z. z ∷ drop (i + 1) ys) (sym at_y) in
+    ap (λ z. zip z (drop i ys)) cut ∙ ap (zip (x ∷ drop (i + 1) xs)) and_cut
 
-pub none_first : {A B : Type 0} (xs : List A) (ys : List B) → length xs ≡ 0 → zip xs ys ≡ []
-none_first [] ys none = refl
-none_first (x ∷ xs) ys none = absurd (omega arith)
-
-pub none_second : {A B : Type 0} (xs : List A) (ys : List B) → length ys ≡ 0 → zip xs ys ≡ []
-none_second [] ys none = refl
-none_second (x ∷ xs) [] none = refl
-none_second (x ∷ xs) (y ∷ ys) none = absurd (omega arith)
+-- and from the place on where one of the lists ends
+pub no_pair : {A B : Type 0} (xs : List A) (ys : List B) (i end : ℕ) → end ≤ i → end ≡ min (length xs) (length ys) → zip (drop i xs) (drop i ys) ≡ []
+no_pair [] ys zero end above is = refl
+no_pair [] ys (suc i) end above is = refl
+no_pair (x ∷ xs) [] zero end above is = refl
+no_pair (x ∷ xs) (y ∷ ys) zero end above is = absurd (omega arith)
+no_pair (x ∷ xs) [] (suc i) end above is = nothing (drop i xs)
+  where
+    nothing : {A B : Type 0} (zs : List A) → zip {K = A} {X = B} zs [] ≡ []
+    nothing [] = refl
+    nothing (z ∷ zs) = refl
+no_pair (x ∷ xs) (y ∷ ys) (suc i) end above is = no_pair xs ys i (min (length xs) (length ys)) (omega arith) refl
 
 -- all parts were made
 pub all_made : (xs : List Row) → before xs (Some no_rows) ≡ Some (rows_of xs)

@@ -3,8 +3,8 @@ ghost use Rattle.std.specs.Prelude.{◌≡◌, Some, IfOk};
 ghost use Rattle.std.specs.List.{zip};
 ghost use Rattle.oci_json_schema.specs.Shape.{text as text_shape, truth as truth_shape, list as list_shape, map as map_shape};
 ghost use Rattle.oci_json_schema.specs.Types.{i32};
-ghost use Rattle.oci_json_form.specs.Tables.{shape_of, rows_of};
-ghost use Rattle.oci_forms.specs.Made.{made_rows, IsRecordOf};
+ghost use Rattle.oci_json_form.specs.Tables.{shape_of};
+ghost use Rattle.oci_forms.specs.Made.{IsRecordOf};
 
 use crate::Tabled;
 use bumpalo::Bump;
@@ -80,28 +80,17 @@ pub fn record<'a>(
 ) -> Result<&'a Form<'a>, AllocError>
     ensures { IfOk result (λ f. IsRecordOf (zip members.now forms.now) (shape_of f.now)) }
 {
-    let rows = into_bump_slice(rows(room, members, forms)?);
-    Ok(room.try_alloc(Form::Record(name, rows))?)
-}
-
-/// The rows of these members, each of which has the form at its own place.
-fn rows<'a>(
-    room: &'a Bump,
-    members: &[Member],
-    forms: &[Result<&'a Form<'a>, AllocError>],
-) -> Result<Vec<Row<'a>, &'a Bump>, AllocError>
-    ensures { IfOk result (λ v. made_rows (zip members.now forms.now) ≡ Some (rows_of v.items)) }
-{
     let mut rows = Vec::new(room);
-    for (member, form) in members.iter().zip(forms) {
+    for i in 0..members.len().min(forms.len()) {
+        let member = &members[i];
         rows.push(Row {
             name: member.0,
             second: None,
             presence: member.1,
-            form: (*form)?,
+            form: forms[i]?,
         })?;
     }
-    Ok(rows)
+    Ok(room.try_alloc(Form::Record(name, into_bump_slice(rows)))?)
 }
 
 /// A list of what has this form.
