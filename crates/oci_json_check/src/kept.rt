@@ -27,7 +27,7 @@ pub fn is_normal(form: &Form<'_>, value: &Value) -> bool
     requires { IsSound (shape_of form.now) }
     ensures { IsTrue result → IsNormal (shape_of form.now) (view value.now) }
 {
-    lists_all(form, value) && is_kept(form, value)
+    lists_all(form, value) && stands_as_written(form, value)
 }
 
 /// Whether each member of a record is listed under its first name; of other forms it says yes. This is seen without a look at the
@@ -62,7 +62,7 @@ fn is_listed(rows: &[Row<'_>], name: &str) -> bool {
 
 /// Whether the value is written as it stands.
 #[cycle(keeps)]
-fn is_kept(form: &Form<'_>, value: &Value) -> bool
+fn stands_as_written(form: &Form<'_>, value: &Value) -> bool
     requires { IsSound (shape_of form.now) }
     ensures { IsTrue result → IsNormal (shape_of form.now) (view value.now) }
 {
@@ -89,7 +89,7 @@ fn are_normal(form: &Form<'_>, items: &Vec<Value>) -> bool
     ensures { IsTrue result → AreNormal (shape_of form.now) (items_view items.now.items) }
 {
     for item in items {
-        if !is_kept(form, item) {
+        if !stands_as_written(form, item) {
             return false;
         }
     }
@@ -102,7 +102,7 @@ fn hold_normal(form: &Form<'_>, members: &Map<String, Value>) -> bool
     ensures { IsTrue result → HoldNormal (shape_of form.now) (members_view members.now.entries) }
 {
     for (_, member) in members.iter() {
-        if !is_kept(form, member) {
+        if !stands_as_written(form, member) {
             return false;
         }
     }
@@ -177,12 +177,12 @@ fn is_normal_member(form: &Form<'_>, presence: &Presence, value: &Value) -> bool
 {
     match presence {
         Presence::Required | Presence::Defaulted(_) | Presence::DefaultedRecord(_) => {
-            is_kept(form, value)
+            stands_as_written(form, value)
         }
-        Presence::Optional => !value.is_null() && is_kept(form, value),
-        Presence::Nullable => value.is_null() || is_kept(form, value),
+        Presence::Optional => !value.is_null() && stands_as_written(form, value),
+        Presence::Nullable => value.is_null() || stands_as_written(form, value),
         Presence::UnlessEmpty => {
-            !value.is_null() && !has_no_items(value) && is_kept(form, value)
+            !value.is_null() && !has_no_items(value) && stands_as_written(form, value)
         }
     }
 }

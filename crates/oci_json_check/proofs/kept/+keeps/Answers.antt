@@ -19,20 +19,20 @@ are_of_rows-returns-then-not-is_of_row-clause-ordered t c = in_order _ c.iter-na
 pub are_of_rows-returns-clause-ordered : goal.are_of_rows-returns-clause-ordered
 are_of_rows-returns-clause-ordered t c = in_order _ c.iter-name-items.ensures.ordered
 
-pub is_kept-are_normal_members-requires : goal.is_kept-are_normal_members-requires
-is_kept-are_normal_members-requires t c = (search (rules, the_lemmas), subst IsSound (record_is _ _ c.in-Record.rows c.in-Record.is) c.requires)
+pub stands_as_written-are_normal_members-requires : goal.stands_as_written-are_normal_members-requires
+stands_as_written-are_normal_members-requires t c = (search (rules, the_lemmas), subst IsSound (record_is _ _ c.in-Record.rows c.in-Record.is) c.requires)
 
-pub is_kept-returns-in-Some-as_object-2 : goal.is_kept-returns-in-Some-as_object-2
-is_kept-returns-in-Some-as_object-2 t c = λ h. record_normal _ (rows_of c.in-Record.rows.now) _ _ (record_is _ _ c.in-Record.rows c.in-Record.is) c.in-Some-as_object-2.ensures (c.are_normal_members.ensures h)
+pub stands_as_written-returns-in-Some-as_object-2 : goal.stands_as_written-returns-in-Some-as_object-2
+stands_as_written-returns-in-Some-as_object-2 t c = λ h. record_normal _ (rows_of c.in-Record.rows.now) _ _ (record_is _ _ c.in-Record.rows c.in-Record.is) c.in-Some-as_object-2.ensures (c.are_normal_members.ensures h)
 
 pub are_normal-loop-item-preserved : goal.are_normal-loop-item-preserved
 are_normal-loop-item-preserved t c =
-    item_kept (shape_of c.args.form.now) _ c.loop-item.item-index c.item-item.result c.loop-item-test.true c.item-item.is c.loop-item.invariant (c.is_kept.ensures c.if-not-is_kept.false)
+    item_kept (shape_of c.args.form.now) _ c.loop-item.item-index c.item-item.result c.loop-item-test.true c.item-item.is c.loop-item.invariant (c.stands_as_written.ensures c.if-not-stands_as_written.false)
 
 pub hold_normal-loop-member-preserved : goal.hold_normal-loop-member-preserved
 hold_normal-loop-member-preserved t c =
     member_kept (shape_of c.args.form.now) _ c.next.new.self (c.in-Some.field-0-0.now, c.in-Some.member.now) c.in-Some.ensures.steps c.loop-member.invariant
-    (c.is_kept.ensures c.if-not-is_kept.false)
+    (c.stands_as_written.ensures c.if-not-stands_as_written.false)
 
 pub are_of_rows-loop-name-preserved : goal.are_of_rows-loop-name-preserved
 are_of_rows-loop-name-preserved t c =
