@@ -7,13 +7,13 @@ use anyhow::{Context, Result};
 use oci_distribution::{ErrorResponse, RepositoryList, TagList};
 use oci_doc_run::Kind;
 use oci_features::Features;
-use oci_forms::{Tabled, normalize};
 use oci_image_config::ImageConfiguration;
 use oci_image_descriptor::Descriptor;
 use oci_image_manifest::{ArtifactManifest, ImageIndex, ImageManifest, OciLayout};
 use oci_json_engines::{from_slice, to_string};
 use oci_reference::Reference;
 use oci_runtime::{ContainerProcessState, Spec, State};
+use oci_spec::forms::{Tabled, normalize};
 use serde_json::Value;
 use std::alloc::Global;
 

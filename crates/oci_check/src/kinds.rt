@@ -4,17 +4,14 @@ ghost use Rattle.oci_json_form.specs.Tables.{shape_of as form_shape};
 ghost use Rattle.oci_doc_run.specs.Kinds.{shape_of};
 
 use bumpalo::Bump;
-use oci_distribution::{ErrorResponse, RepositoryList, TagList};
 use oci_doc_run::Kind;
-use oci_features::Features;
-use oci_forms::Tabled;
-use oci_image_config::ImageConfiguration;
-use oci_image_descriptor::Descriptor;
-use oci_image_manifest::{ArtifactManifest, ImageIndex, ImageManifest, OciLayout};
 use oci_json_form::Form;
-use oci_reference::Reference;
-use oci_runtime_lifecycle::{ContainerProcessState, State};
-use oci_runtime_spec::Spec;
+use oci_spec::distribution::{ErrorResponse, Reference, RepositoryList, TagList};
+use oci_spec::forms::Tabled;
+use oci_spec::image::{
+    ArtifactManifest, Descriptor, ImageConfiguration, ImageIndex, ImageManifest, OciLayout,
+};
+use oci_spec::runtime::{ContainerProcessState, Features, Spec, State};
 use std::alloc::AllocError;
 
 /// The form of a kind's documents. What of it is no constant is made in the room.

@@ -4,7 +4,7 @@ ghost use Rattle.oci_json_schema.specs.Plain.{Plain};
 ghost use Rattle.oci_json_engines.specs.Engines.{MeansBytes};
 ghost use Rattle.oci_json_form.specs.Tables.{shape_of};
 
-use oci_json_check::find::faults;
+use oci_json_check::faults;
 use oci_json_form::{Fault, Form};
 use oci_text_base::{OciSpecError, Result};
 use serde_json::Value;

@@ -3,7 +3,7 @@ use Rattle.std.specs.Prelude.{ℕ, List, [], ◌∷◌, ◌++◌, codes, Option,
 use Rattle.oci_spec.specs.Descriptor.{descriptor, descriptor_plain}
 use Rattle.oci_spec.specs.declared.image.Descriptor.{Descriptor}
 use Rattle.oci_spec.specs.Engines.{MeansBytes, WritesDocument}
-use Rattle.oci_forms.specs.Pretty.{WritesPretty}
+use Rattle.oci_spec.specs.Pretty.{WritesPretty}
 use Rattle.oci_spec.specs.Accepted.{Accepted}
 use Rattle.oci_spec.specs.Parts.{Parts, resolved}
 use Rattle.oci_spec.specs.Replaced.{pinned}

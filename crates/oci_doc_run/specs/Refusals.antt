@@ -12,7 +12,7 @@ use Rattle.oci_spec.specs.Engines.{AppendsSome, WritesDocument, IsNoJson, IsNoDo
 use Rattle.oci_spec.specs.declared.distribution.ParseError.{ParseError}
 use Rattle.oci_spec.specs.declared.distribution.ParseError.TheVariants as parse
 use Rattle.oci_spec.specs.Accepted as reference_texts
-use Rattle.oci_forms.specs.Pretty.{WritesPretty}
+use Rattle.oci_spec.specs.Pretty.{WritesPretty}
 use Rattle.oci_doc_run.specs.declared.refusal.Refusal.{Refusal}
 use Rattle.oci_doc_run.specs.declared.refusal.Refusal.TheVariants.{Other, Io, Json, Schema, Builder, Memory, Reference}
 use Rattle.oci_doc_run.specs.Commands.{Asked, norm, pretty, reference, digest, pin}

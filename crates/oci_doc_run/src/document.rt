@@ -2,14 +2,14 @@
 ghost use Rattle.std.specs.Prelude.{OnOk, IfErr};
 ghost use Rattle.std.specs.Io.KnownBytes.{Appends};
 ghost use Rattle.oci_spec.specs.Engines.{WritesDocument};
-ghost use Rattle.oci_forms.specs.Pretty.{WritesPretty};
+ghost use Rattle.oci_spec.specs.Pretty.{WritesPretty};
 ghost use Rattle.oci_doc_run.specs.Kinds.{shape_of};
 ghost use Rattle.oci_doc_run.specs.Refusals.{TellsOfNormal, TellsOfPretty};
 
 use crate::kind::Kind;
 use crate::refusal::Refusal;
-use oci_forms::{Tabled, normalize, normalize_pretty};
 use oci_spec::distribution::{ErrorResponse, Reference, RepositoryList, TagList};
+use oci_spec::forms::{Tabled, normalize, normalize_pretty};
 use oci_spec::image::{
     ArtifactManifest, Descriptor, ImageConfiguration, ImageIndex, ImageManifest, OciLayout,
 };

@@ -1,2 +1,0 @@
-mod Normal
-mod Steps

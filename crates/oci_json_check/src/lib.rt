@@ -1,6 +1,8 @@
-//! What a form says of a value that is looked at and stays as it is: all that is refused in it, and whether it is its own normal
-//! form, so that it need not be made anew.
+//! What is done by a form: all that it refuses in a value, and the value's normal form.
 #![tactic(auto)]
 
-pub mod find;
-pub mod kept;
+mod find;
+mod normal;
+
+pub use find::faults;
+pub use normal::conform;

@@ -1,13 +1,20 @@
+pub mod Accepted
+pub mod Conforms
 pub mod Decides
 pub mod Empty
+pub mod Given
 pub mod Listed
 pub mod Listing
+pub mod Meant
+pub mod Moved
 pub mod NormalMembers
 pub mod NormalParts
+pub mod Parts
 pub mod Pointers
 pub mod Processors
 pub mod Replacing
 pub mod Stands
+mod Steps
 pub mod Tables
 pub mod Texts
 pub mod Wants

@@ -5,7 +5,7 @@ use Rattle.oci_json_schema.specs.Means.{is_object}
 use Rattle.oci_json_form.specs.Allows.{allows, rows_allow}
 use Rattle.oci_json_form.specs.Faults.{faults, rows_faults}
 use Rattle.oci_json_schema.specs.Shape as shape
-use Rattle.oci_json_schema.specs.Shape.{Shape, row}
+use Rattle.oci_json_schema.specs.Shape.{Shape}
 use Rattle.oci_json_form.specs.Tables.{leaf_shape, shape_of, shape_step, row_step, lines, rows_of, Line}
 use Rattle.oci_json_form.specs.declared.form.Leaf.{Leaf}
 use Rattle.oci_json_form.specs.declared.form.Row.{Row}

@@ -1,6 +1,7 @@
 pub mod Allows
 pub mod Conformed
 pub mod Faults
+pub mod Given
 pub mod Leads
 pub mod Normal
 pub mod Places

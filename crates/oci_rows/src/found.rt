@@ -1,9 +1,14 @@
 //! What is found of a text, in the form of a row's last line.
+ghost use Rattle.oci_json_schema.specs.WellFormed.{WellFormed};
+ghost use Rattle.oci_json_form.specs.Tables.{shape_of};
 
 use anyhow::Result;
-use oci_forms::{Tabled, conform_as, faults_of};
+use oci_image::OciLayout;
+use oci_json_check::{conform, faults};
 use oci_json_engines::{from_slice, to_string};
+use oci_json_form::Form;
 use oci_json_schema::OciRecord;
+use oci_spec::forms::{conform_as, faults_of};
 use oci_text_base::{OciSpecError, SerDeError};
 use serde_json::Value;
 use std::alloc::Global;
@@ -50,15 +55,17 @@ fn refused(alloc: Global, fault: &OciSpecError) -> Result<String> {
     }
 }
 
-/// What is found by the record's table, with no document between: the compact text of the value's normal form, or the place
+/// What is found by a record's form, with no document between: the compact text of the value's normal form, or the place
 /// that refuses the text. Faults are listed exactly where it is refused.
-pub fn by_table<T: Tabled>(alloc: Global, text: &str) -> Result<String> {
+pub fn by_form(form: &Form<'_>, alloc: Global, text: &str) -> Result<String>
+    requires { WellFormed (shape_of form.now) }
+{
     let value = match Value::from_str(alloc, text) {
         Ok(value) => value,
         Err(fault) => return refused(alloc, &OciSpecError::from(fault)),
     };
-    let is_faulty = !faults_of::<T>(alloc, &value)?.is_empty();
-    let answer = conform_as::<T>(value, alloc);
+    let is_faulty = !faults(form, &value, alloc)?.is_empty();
+    let answer = conform(form, value, alloc);
     if is_faulty != answer.is_err() {
         return Ok(String::from_str(alloc, "faults are listed, or not")?);
     }
@@ -69,6 +76,16 @@ pub fn by_table<T: Tabled>(alloc: Global, text: &str) -> Result<String> {
         }
         Err(fault) => refused(alloc, &fault),
     }
+}
+
+/// What the calls by a record's type find: how many faults of a layout with no members, and the normal form of one with a member
+/// that is not listed.
+pub fn by_type(alloc: Global) -> Result<String> {
+    let empty = Value::from_str(alloc, "{}")?;
+    let count = faults_of::<OciLayout>(alloc, &empty)?.len();
+    let more = Value::from_str(alloc, "{\"more\":1,\"imageLayoutVersion\":\"1.0.0\"}")?;
+    let normal = conform_as::<OciLayout>(more, alloc)?.to_string(alloc)?;
+    Ok(format!(in alloc; "{count} fault, {normal}")?)
 }
 
 /// The compact text of the document of a text.

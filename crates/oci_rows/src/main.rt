@@ -14,7 +14,7 @@
 mod found;
 mod rows;
 
-use rows::rows;
+use rows::{check_type, rows};
 use std::rt::Files;
 
 fn image<R: Files + Print + AllocGlobal>(rt: &R) {
@@ -133,4 +133,5 @@ fn main(rt: HostRuntime) {
     platforms(&rt);
     features(&rt);
     containers(&rt);
+    check_type(&rt);
 }

@@ -1,9 +1,13 @@
 //! The rows of one record.
+ghost use Rattle.oci_json_schema.specs.WellFormed.{WellFormed};
+ghost use Rattle.oci_json_form.specs.Tables.{shape_of};
 
-use crate::found::{Reading, by_table};
+use crate::found::{Reading, by_form, by_type};
 use anyhow::{Context, Result};
-use oci_forms::Tabled;
+use bumpalo::Bump;
+use oci_json_form::Form;
 use oci_json_schema::OciRecord;
+use oci_spec::forms::Tabled;
 use std::fs;
 use std::rt::Files;
 
@@ -15,6 +19,20 @@ pub fn rows<T: Tabled, R: Files + Print + AllocGlobal>(rt: &R, record: &str) {
     if let Err(fault) = check_table::<T, R>(rt, record) {
         let _ = println!(rt; "{record}, by its table: {fault}");
     }
+}
+
+fn check_table<T: Tabled, R: Files + Print + AllocGlobal>(rt: &R, record: &str) -> Result<()> {
+    let room = Bump::new(rt.alloc());
+    let form = T::table(&room)?;
+    check_form(rt, record, form)
+}
+
+/// Prints what the calls by a record's type find; the rows make these calls by a record's form.
+pub fn check_type<R: Print + AllocGlobal>(rt: &R) {
+    let _ = match by_type(rt.alloc()) {
+        Ok(found) => println!(rt; "by type: {found}"),
+        Err(fault) => println!(rt; "by type: {fault}"),
+    };
 }
 
 fn read<R: Files + AllocGlobal>(rt: &R, record: &str) -> Result<String> {
@@ -50,12 +68,15 @@ fn check_row<T: OciRecord, R: Files + Print + AllocGlobal>(
     Ok(())
 }
 
-fn check_table<T: Tabled, R: Files + Print + AllocGlobal>(rt: &R, record: &str) -> Result<()> {
+/// The same by a form, one function for all records.
+fn check_form<R: Files + Print + AllocGlobal>(rt: &R, record: &str, form: &Form<'_>) -> Result<()>
+    requires { WellFormed (shape_of form.now) }
+{
     let text = read(rt, record)?;
     for row in text.as_str().trim().split("\n\n") {
         if !row.starts_with('#') {
             let (text, expected) = row.rsplit_once('\n').context("a row has one line")?;
-            let found = by_table::<T>(rt.alloc(), text)?;
+            let found = by_form(form, rt.alloc(), text)?;
             if found.as_str() != expected {
                 println!(rt; "{record}: by its table, of {text}\nfound {found}")?;
             }

@@ -1,3 +1,5 @@
+pub mod Made
+pub mod Pretty
 pub use Rattle.oci_cgroups.specs.LinuxCpu
 pub use Rattle.oci_cgroups.specs.LinuxHugepageLimit
 pub use Rattle.oci_cgroups.specs.LinuxMemory

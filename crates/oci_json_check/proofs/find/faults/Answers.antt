@@ -9,4 +9,4 @@ pub returns-clause-none : goal.returns-clause-none
 returns-clause-none c =
     let s = shape_of c.args.form.now in
     let d = view c.args.value.now in
-    empty_is_meant s d c.add.new.found.items (c.in_ok-add.ensures ∙ ap (λ v. map told v ++ faults s [] d) c.new-found.ensures.items)
+    empty_is_meant s d c.add_faults.new.found.items (c.in_ok-add_faults.ensures ∙ ap (λ v. map told v ++ faults s [] d) c.new-found.ensures.items)

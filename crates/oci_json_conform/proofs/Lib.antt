@@ -1,6 +1,0 @@
-pub mod Accepted
-pub mod Conforms
-pub mod Given
-pub mod Meant
-pub mod Moved
-pub mod Parts

@@ -1,0 +1,15 @@
+use Rattle.std.proofs.Common.{subst}
+use Rattle.std.specs.Io.KnownBytes.{Appends}
+use Rattle.serde_json.specs.View.{view}
+use Rattle.oci_spec.proofs.Means.{bytes_mean}
+use Rattle.oci_spec.proofs.forms.pretty.normalize_pretty.Goals as goal
+
+pub returns-clause-ok : goal.returns-clause-ok
+returns-clause-ok g c =
+    let made = c.in_ok-text.ensures.ok in
+    let old = g.W.Write.contents c.args.writer.now in
+    let new = g.W.Write.contents c.write_text.new.writer in (
+      made.0,
+      bytes_mean g.T.OciRecord.shape (g.R.Read.remaining c.args.reader) (view c.in_ok-value.value) made.0 c.in_ok-value.ensures.ok made.1,
+      (_, made.2, subst (Appends old new) c.as_bytes.ensures.value c.in_ok-write_text.ensures.ok),
+    )

@@ -1,0 +1,43 @@
+//! The forms of all records, each record's table as a value, and what is done by them: all faults of a document, and its normal
+//! form.
+
+/// A listed member of a table: its name, with a second one behind a bar where it has one, how it is asked for, and its form.
+macro_rules! row {
+    ($name:literal | $second:literal, $presence:expr, $form:expr) => {
+        Row { name: $name, second: Some($second), presence: $presence, form: &$form }
+    };
+    ($name:literal, $presence:expr, $form:expr) => {
+        Row { name: $name, second: None, presence: $presence, form: &$form }
+    };
+}
+
+pub mod cgroups;
+pub mod cgroups_devices;
+pub mod cgroups_network;
+pub mod distribution;
+pub mod features;
+pub mod features_linux;
+pub mod image_config;
+pub mod image_descriptor;
+pub mod image_manifest;
+pub mod image_platform;
+mod linux;
+pub mod linux_namespaces;
+pub mod linux_policies;
+mod made;
+pub mod names;
+pub mod normal;
+pub mod platforms;
+pub mod platforms_windows;
+pub mod pretty;
+mod process;
+pub mod process_parts;
+pub mod reference;
+pub mod runtime_lifecycle;
+pub mod runtime_mounts;
+mod runtime_spec;
+pub mod tabled;
+
+pub use normal::{conform_as, normalize};
+pub use pretty::normalize_pretty;
+pub use tabled::{Formed, Tabled, faults_of};
