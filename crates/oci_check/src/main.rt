@@ -3,12 +3,10 @@
 //! something is, and in 2 where its one word names no kind.
 #![tactic(auto)]
 
-mod kinds;
 mod report;
 
 use anyhow::Result;
 use bumpalo::Bump;
-use kinds::form_of;
 use oci_doc_run::Kind;
 use report::judge;
 use std::env;
@@ -38,7 +36,7 @@ fn run(rt: &HostRuntime) -> Result<u8> {
     let mut bytes = Vec::new(rt.alloc());
     rt.stdin().read_to_end(&mut bytes)?;
     let room = Bump::new(rt.alloc());
-    let form = form_of(kind, &room)?;
+    let form = kind.form(&room)?;
     let found = judge(form, bytes.as_slice(), rt.alloc())?;
     let lines = found.lines.as_str();
     print!(rt; "{lines}")?;

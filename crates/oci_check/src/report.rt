@@ -1,12 +1,11 @@
 //! What a form refuses in the bytes of a document.
 ghost use Rattle.std.specs.Prelude.{◌≡◌, ◌↔◌, true, IfOk};
-ghost use Rattle.oci_json_schema.specs.Plain.{Plain};
-ghost use Rattle.oci_json_engines.specs.Engines.{MeansBytes};
-ghost use Rattle.oci_json_form.specs.Tables.{shape_of};
+ghost use Rattle.oci_spec.specs.Plain.{Plain};
+ghost use Rattle.oci_spec.specs.Engines.{MeansBytes};
+ghost use Rattle.oci_spec.specs.Tables.{shape_of};
 
-use oci_json_check::faults;
-use oci_json_form::{Fault, Form};
-use oci_text_base::{OciSpecError, Result};
+use oci_spec::forms::{Fault, Form, faults};
+use oci_spec::{OciSpecError, Result};
 use serde_json::Value;
 use std::alloc::{AllocError, Global};
 

@@ -1,6 +1,17 @@
 //! The kinds of documents.
-ghost use Rattle.std.specs.Prelude.{◌≡◌};
-ghost use Rattle.oci_doc_run.specs.Kinds.{kind_of};
+ghost use Rattle.std.specs.Prelude.{◌≡◌, IfOk};
+ghost use Rattle.oci_spec.specs.WellFormed.{WellFormed};
+ghost use Rattle.oci_spec.specs.Tables.{shape_of as form_shape};
+ghost use Rattle.oci_doc_run.specs.Kinds.{kind_of, shape_of};
+
+use bumpalo::Bump;
+use oci_spec::distribution::{ErrorResponse, Reference, RepositoryList, TagList};
+use oci_spec::forms::{Form, form_of};
+use oci_spec::image::{
+    ArtifactManifest, Descriptor, ImageConfiguration, ImageIndex, ImageManifest, OciLayout,
+};
+use oci_spec::runtime::{ContainerProcessState, Features, Spec, State};
+use std::alloc::AllocError;
 
 /// A kind of document, which the program names by one word.
 #[derive(Clone, Copy, Debug, PartialEq, Eq)]
@@ -56,6 +67,29 @@ impl Kind {
             "process-state" => Some(Kind::ProcessState),
             "features" => Some(Kind::Features),
             _ => None,
+        }
+    }
+
+    /// The form of the kind's documents. What of it is no constant is made in the room.
+    pub fn form<'a>(self, room: &'a Bump) -> Result<&'a Form<'a>, AllocError>
+        ensures shape { IfOk result (λ f. form_shape f.now ≡ shape_of self) }
+        ensures well { IfOk result (λ f. WellFormed (form_shape f.now)) }
+    {
+        match self {
+            Kind::Manifest => form_of::<ImageManifest>(room),
+            Kind::Index => form_of::<ImageIndex>(room),
+            Kind::Config => form_of::<ImageConfiguration>(room),
+            Kind::Artifact => form_of::<ArtifactManifest>(room),
+            Kind::Layout => form_of::<OciLayout>(room),
+            Kind::Descriptor => form_of::<Descriptor>(room),
+            Kind::Error => form_of::<ErrorResponse>(room),
+            Kind::Repositories => form_of::<RepositoryList>(room),
+            Kind::Tags => form_of::<TagList>(room),
+            Kind::Reference => form_of::<Reference>(room),
+            Kind::Spec => form_of::<Spec>(room),
+            Kind::State => form_of::<State>(room),
+            Kind::ProcessState => form_of::<ContainerProcessState>(room),
+            Kind::Features => form_of::<Features>(room),
         }
     }
 }

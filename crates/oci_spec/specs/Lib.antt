@@ -48,6 +48,9 @@ pub use Rattle.oci_image_manifest.specs.OciLayoutBuilder
 pub use Rattle.oci_image_platform.specs.Platform
 pub use Rattle.oci_image_platform.specs.PlatformBuilder
 pub use Rattle.oci_json_engines.specs.Engines
+pub use Rattle.oci_json_form.specs.Conformed
+pub use Rattle.oci_json_form.specs.Faults
+pub use Rattle.oci_json_form.specs.Tables
 pub use Rattle.oci_json_kinds.specs.DefaultMembers
 pub use Rattle.oci_json_kinds.specs.Keys
 pub use Rattle.oci_json_schema.specs.Built
@@ -57,6 +60,7 @@ pub use Rattle.oci_json_schema.specs.Plain
 pub use Rattle.oci_json_schema.specs.Shape
 pub use Rattle.oci_json_schema.specs.Types
 pub use Rattle.oci_json_schema.specs.Value
+pub use Rattle.oci_json_schema.specs.WellFormed
 pub use Rattle.oci_json_schema.specs.Writable
 pub use Rattle.oci_linux.specs.DefaultResources
 pub use Rattle.oci_linux.specs.Linux

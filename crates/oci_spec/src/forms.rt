@@ -38,6 +38,8 @@ pub mod runtime_mounts;
 mod runtime_spec;
 pub mod tabled;
 
-pub use normal::{conform_as, normalize};
-pub use pretty::normalize_pretty;
-pub use tabled::{Formed, Tabled, faults_of};
+pub use normal::{conform_as, normal_from_reader, normalize, normalize_by_form};
+pub use oci_json_check::{conform, faults};
+pub use oci_json_form::{Absent, Expected, Fault, Form, Leaf, Presence, Row, Wanted};
+pub use pretty::{normalize_pretty, normalize_pretty_by_form};
+pub use tabled::{Formed, Tabled, faults_of, form_of};

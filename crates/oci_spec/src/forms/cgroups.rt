@@ -117,7 +117,7 @@ impl Tabled for LinuxResources {
                 list_of::<LinuxHugepageLimit>(room),
                 LinuxNetwork::table(room),
                 map_of::<LinuxRdma>(room),
-                map_of_texts(room),
+                Ok(map_of_texts()),
             ],
         )
     }

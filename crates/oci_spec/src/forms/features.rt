@@ -35,7 +35,7 @@ impl Tabled for LinuxFeature {
             LINUX_FEATURE_MEMBERS,
             &[
                 list(room, &LINUX_NAMESPACE_TYPE_FORM),
-                texts(room),
+                Ok(texts()),
                 Cgroup::table(room),
                 Seccomp::table(room),
                 Apparmor::table(room),
@@ -70,11 +70,11 @@ impl Tabled for Features {
             &[
                 Ok(text()),
                 Ok(text()),
-                texts(room),
-                texts(room),
+                Ok(texts()),
+                Ok(texts()),
                 LinuxFeature::table(room),
-                map_of_texts(room),
-                texts(room),
+                Ok(map_of_texts()),
+                Ok(texts()),
             ],
         )
     }

@@ -19,6 +19,10 @@ static TRUTH_FORM: Form<'static> = TRUTH;
 
 static I32_FORM: Form<'static> = I32;
 
+static TEXTS_FORM: Form<'static> = Form::List(&TEXT);
+
+static MAP_OF_TEXTS_FORM: Form<'static> = Form::Map(&TEXT);
+
 /// A text.
 pub fn text<'a>() -> &'a Form<'a>
     ensures { shape_of result.now ≡ text_shape }
@@ -41,17 +45,17 @@ pub fn signed_32<'a>() -> &'a Form<'a>
 }
 
 /// A list of texts.
-pub fn texts<'a>(room: &'a Bump) -> Result<&'a Form<'a>, AllocError>
-    ensures { IfOk result (λ f. shape_of f.now ≡ list_shape text_shape) }
+pub fn texts<'a>() -> &'a Form<'a>
+    ensures { shape_of result.now ≡ list_shape text_shape }
 {
-    list(room, text())
+    &TEXTS_FORM
 }
 
 /// An object of texts.
-pub fn map_of_texts<'a>(room: &'a Bump) -> Result<&'a Form<'a>, AllocError>
-    ensures { IfOk result (λ f. shape_of f.now ≡ map_shape text_shape) }
+pub fn map_of_texts<'a>() -> &'a Form<'a>
+    ensures { shape_of result.now ≡ map_shape text_shape }
 {
-    map(room, text())
+    &MAP_OF_TEXTS_FORM
 }
 
 /// A list of a record's documents.

@@ -1,4 +1,4 @@
-//! Normal forms by a record's table, with no document between.
+//! Normal forms by a table, with no document between.
 ghost use Rattle.std.specs.Prelude.{◌≡◌, ◌⊎◌, IfOk, IfErr, IfSome, OnOk};
 ghost use Rattle.std.specs.Io.KnownBytes.{Appends, Keeps};
 ghost use Rattle.serde_json.specs.View.{view};
@@ -6,14 +6,17 @@ ghost use Rattle.oci_text_base.specs.Refused.{IsSchema, IsJson, IsMemoryOrSchema
 ghost use Rattle.oci_json_schema.specs.Plain.{Plain};
 ghost use Rattle.oci_json_schema.specs.Means.{Means};
 ghost use Rattle.oci_json_schema.specs.Value.{value as json_of};
+ghost use Rattle.oci_json_schema.specs.WellFormed.{WellFormed};
 ghost use Rattle.oci_json_schema.specs.Writable.{Writable};
-ghost use Rattle.oci_json_engines.specs.Engines.{AppendsSome, KeepsUnlessIo, IsCompactText, WritesDocument, ReadsBack, ReadsBackDocument, IsNotNormalized, IsNoJson};
+ghost use Rattle.oci_json_engines.specs.Engines.{AppendsSome, KeepsUnlessIo, MeansBytes, WritesDocument, ReadsBackDocument, IsNotNormalized, IsNoJson};
 ghost use Rattle.oci_json_form.specs.Conformed.{IsNotConformed};
+ghost use Rattle.oci_json_form.specs.Tables.{shape_of};
 
-use crate::forms::Tabled;
+use crate::forms::{Tabled, form_of};
 use bumpalo::Bump;
 use oci_json_check::conform;
 use oci_json_engines::{value_from_reader, write_text};
+use oci_json_form::Form;
 use oci_text_base::Result;
 use serde_json::Value;
 use std::alloc::Global;
@@ -28,18 +31,48 @@ pub fn conform_as<T: Tabled>(value: Value, alloc: Global) -> Result<Value>
     ensures kind { IfErr result IsMemoryOrSchema }
 {
     let room = Bump::new(alloc);
-    let form = T::table(&room)?;
+    let form = form_of::<T>(&room)?;
     conform(form, value, alloc)
 }
 
-/// The compact text of the document that the value means; refused as by `conform_as`.
-fn text_of<T: Tabled>(value: Value, alloc: Global) -> Result<String>
-    ensures ok { IfOk result (λ s. (p : Plain) × Means T.shape (view value) p × IsCompactText (json_of T.shape p) s × ReadsBack (json_of T.shape p)) }
-    ensures err { IfErr result (λ e. IsSchema e → IsNotConformed T.shape (view value)) }
-    ensures kind { IfErr result IsMemoryOrSchema }
+/// Reads a document, and gives the value that is written for it, by its form. Refused as by `from_reader` and `to_value`.
+pub fn normal_from_reader<R: Read + Drop>(
+    form: &Form<'_>,
+    alloc: Global,
+    reader: R,
+) -> Result<Value>
+    requires { WellFormed (shape_of form.now) }
+    ensures ok { IfOk result (λ v. (p : Plain) × IfSome (R.remaining reader) (λ bytes. MeansBytes (shape_of form.now) bytes p)
+        × Writable (shape_of form.now) p × (view v ≡ json_of (shape_of form.now) p)) }
+    ensures json { IfErr result (λ e. IsJson e → IfSome (R.remaining reader) IsNoJson) }
+    ensures schema { IfErr result (λ e. IsSchema e → IfSome (R.remaining reader) (IsNotNormalized (shape_of form.now))) }
+    ensures kind { IfErr result IsMemorySerDeOrIo }
 {
-    let normal = conform_as::<T>(value, alloc)?;
-    Ok(normal.to_string(alloc)?)
+    let value = value_from_reader(alloc, reader)?;
+    conform(form, value, alloc)
+}
+
+/// Reads a document, and writes its compact text, by its form. Refused as by `from_reader` and `to_writer`.
+pub fn normalize_by_form<R: Read + Drop, W: Write>(
+    form: &Form<'_>,
+    alloc: Global,
+    reader: R,
+    writer: &mut W,
+) -> Result<()>
+    requires { WellFormed (shape_of form.now) }
+    ensures ok { OnOk result (WritesDocument (shape_of form.now) (R.remaining reader) (λ text. Appends (W.contents writer.old) (W.contents writer.new) text)) }
+    ensures reads_back { OnOk result (ReadsBackDocument (shape_of form.now) (R.remaining reader)) }
+    ensures json { IfErr result (λ e. IsJson e → IfSome (R.remaining reader) IsNoJson) }
+    ensures schema { IfErr result (λ e. IsSchema e → IfSome (R.remaining reader) (IsNotNormalized (shape_of form.now))) }
+    ensures begun { IfErr result (λ e. IsIo e → Keeps (W.contents writer.old) (W.contents writer.new)
+        ⊎ WritesDocument (shape_of form.now) (R.remaining reader) (λ text. AppendsSome (W.contents writer.old) (W.contents writer.new) text)) }
+    ensures unwritten { IfErr result (KeepsUnlessIo (W.contents writer.old) (W.contents writer.new)) }
+    ensures kind { IfErr result IsMemorySerDeOrIo }
+{
+    let normal = normal_from_reader(form, alloc, reader)?;
+    let text = normal.to_string(alloc)?;
+    write_text(text.as_bytes(), writer)?;
+    Ok(())
 }
 
 /// Reads a document, and writes its compact text: members that are not listed are left out, the others stand in byte order of
@@ -58,8 +91,7 @@ pub fn normalize<T: Tabled, R: Read + Drop, W: Write>(
     ensures unwritten { IfErr result (KeepsUnlessIo (W.contents writer.old) (W.contents writer.new)) }
     ensures kind { IfErr result IsMemorySerDeOrIo }
 {
-    let value = value_from_reader(alloc, reader)?;
-    let text = text_of::<T>(value, alloc)?;
-    write_text(text.as_bytes(), writer)?;
-    Ok(())
+    let room = Bump::new(alloc);
+    let form = form_of::<T>(&room)?;
+    normalize_by_form(form, alloc, reader, writer)
 }

@@ -1,30 +1,40 @@
-//! Pretty texts by a record's table, with no document between.
-ghost use Rattle.std.specs.Prelude.{◌⊎◌, IfOk, IfErr, IfSome, OnOk};
+//! Pretty texts by a table, with no document between.
+ghost use Rattle.std.specs.Prelude.{◌⊎◌, IfErr, IfSome, OnOk};
 ghost use Rattle.std.specs.Io.KnownBytes.{Appends, Keeps};
-ghost use Rattle.serde_json.specs.View.{view};
-ghost use Rattle.oci_text_base.specs.Refused.{IsSchema, IsJson, IsMemoryOrSchema, IsMemorySerDeOrIo, IsIo};
-ghost use Rattle.oci_json_schema.specs.Plain.{Plain};
-ghost use Rattle.oci_json_schema.specs.Means.{Means};
-ghost use Rattle.oci_json_schema.specs.Value.{value as json_of};
-ghost use Rattle.oci_json_engines.specs.Engines.{AppendsSome, KeepsUnlessIo, IsPrettyText, IsNotNormalized, IsNoJson};
-ghost use Rattle.oci_json_form.specs.Conformed.{IsNotConformed};
+ghost use Rattle.oci_text_base.specs.Refused.{IsSchema, IsJson, IsMemorySerDeOrIo, IsIo};
+ghost use Rattle.oci_json_schema.specs.WellFormed.{WellFormed};
+ghost use Rattle.oci_json_engines.specs.Engines.{AppendsSome, KeepsUnlessIo, IsNotNormalized, IsNoJson};
+ghost use Rattle.oci_json_form.specs.Tables.{shape_of};
 ghost use Rattle.oci_spec.specs.Pretty.{WritesPretty};
 
-use crate::forms::{Tabled, conform_as};
-use oci_json_engines::{value_from_reader, write_text};
+use crate::forms::{Tabled, form_of, normal_from_reader};
+use bumpalo::Bump;
+use oci_json_engines::write_text;
+use oci_json_form::Form;
 use oci_text_base::Result;
-use serde_json::Value;
 use std::alloc::Global;
 use std::io::{Read, Write};
 
-/// A pretty text of the document that the value means; refused as by `conform_as`.
-fn pretty_text_of<T: Tabled>(value: Value, alloc: Global) -> Result<String>
-    ensures ok { IfOk result (λ s. (p : Plain) × Means T.shape (view value) p × IsPrettyText (json_of T.shape p) s) }
-    ensures err { IfErr result (λ e. IsSchema e → IsNotConformed T.shape (view value)) }
-    ensures kind { IfErr result IsMemoryOrSchema }
+/// Reads a document, and writes its pretty text, by its form. Refused as by `normalize_by_form`.
+pub fn normalize_pretty_by_form<R: Read + Drop, W: Write>(
+    form: &Form<'_>,
+    alloc: Global,
+    reader: R,
+    writer: &mut W,
+) -> Result<()>
+    requires { WellFormed (shape_of form.now) }
+    ensures ok { OnOk result (WritesPretty (shape_of form.now) (R.remaining reader) (λ text. Appends (W.contents writer.old) (W.contents writer.new) text)) }
+    ensures json { IfErr result (λ e. IsJson e → IfSome (R.remaining reader) IsNoJson) }
+    ensures schema { IfErr result (λ e. IsSchema e → IfSome (R.remaining reader) (IsNotNormalized (shape_of form.now))) }
+    ensures begun { IfErr result (λ e. IsIo e → Keeps (W.contents writer.old) (W.contents writer.new)
+        ⊎ WritesPretty (shape_of form.now) (R.remaining reader) (λ text. AppendsSome (W.contents writer.old) (W.contents writer.new) text)) }
+    ensures unwritten { IfErr result (KeepsUnlessIo (W.contents writer.old) (W.contents writer.new)) }
+    ensures kind { IfErr result IsMemorySerDeOrIo }
 {
-    let normal = conform_as::<T>(value, alloc)?;
-    Ok(normal.to_string_pretty(alloc)?)
+    let normal = normal_from_reader(form, alloc, reader)?;
+    let text = normal.to_string_pretty(alloc)?;
+    write_text(text.as_bytes(), writer)?;
+    Ok(())
 }
 
 /// Reads a document, and writes its pretty text: its normal form, a line a member or item and two spaces a level. Refused as by
@@ -42,8 +52,7 @@ pub fn normalize_pretty<T: Tabled, R: Read + Drop, W: Write>(
     ensures unwritten { IfErr result (KeepsUnlessIo (W.contents writer.old) (W.contents writer.new)) }
     ensures kind { IfErr result IsMemorySerDeOrIo }
 {
-    let value = value_from_reader(alloc, reader)?;
-    let text = pretty_text_of::<T>(value, alloc)?;
-    write_text(text.as_bytes(), writer)?;
-    Ok(())
+    let room = Bump::new(alloc);
+    let form = form_of::<T>(&room)?;
+    normalize_pretty_by_form(form, alloc, reader, writer)
 }

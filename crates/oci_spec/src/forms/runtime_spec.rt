@@ -47,7 +47,7 @@ impl Tabled for Spec {
                 Ok(text()),
                 Ok(text()),
                 Hooks::table(room),
-                map_of_texts(room),
+                Ok(map_of_texts()),
                 Linux::table(room),
                 Solaris::table(room),
                 Windows::table(room),

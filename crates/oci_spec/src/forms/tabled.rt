@@ -3,6 +3,7 @@ ghost use Rattle.std.specs.Prelude.{◌≡◌, ◌↔◌, [], map, IfOk};
 ghost use Rattle.serde_json.specs.View.{view};
 ghost use Rattle.oci_json_schema.specs.Plain.{Plain};
 ghost use Rattle.oci_json_schema.specs.Means.{Means};
+ghost use Rattle.oci_json_schema.specs.WellFormed.{WellFormed};
 ghost use Rattle.oci_json_form.specs.Faults.{told, faults as all_faults};
 ghost use Rattle.oci_json_form.specs.Tables.{shape_of};
 
@@ -33,6 +34,14 @@ impl<T: Formed> Tabled for T {
     }
 }
 
+/// The form of a record's documents. What of it is no constant is made in the room.
+pub fn form_of<'a, T: Tabled>(room: &'a Bump) -> Result<&'a Form<'a>, AllocError>
+    ensures shape { IfOk result (λ f. shape_of f.now ≡ T.shape) }
+    ensures well { IfOk result (λ f. WellFormed (shape_of f.now)) }
+{
+    T::table(room)
+}
+
 /// All that a record's table refuses in the value, in the order of the table. None is listed exactly where the value is
 /// such a document.
 pub fn faults_of<T: Tabled>(alloc: Global, value: &Value) -> Result<Vec<Fault>, AllocError>
@@ -40,6 +49,6 @@ pub fn faults_of<T: Tabled>(alloc: Global, value: &Value) -> Result<Vec<Fault>, 
     ensures none { IfOk result (λ v. (v.items ≡ []) ↔ ((p : Plain) × Means T.shape (view value.now) p)) }
 {
     let room = Bump::new(alloc);
-    let form = T::table(&room)?;
+    let form = form_of::<T>(&room)?;
     faults(form, value, alloc)
 }

@@ -6,8 +6,8 @@ use Rattle.oci_json_form.specs.Faults.{told, faults}
 use Rattle.oci_spec.proofs.forms.tabled.faults_of.Goals as goal
 
 pub returns-clause-all : goal.returns-clause-all
-returns-clause-all g c = subst (λ s. IfOk c.faults.result (λ v. map told v.items ≡ faults s [] (view c.args.value.now))) c.in_ok-form.ensures c.faults.ensures.all
+returns-clause-all g c = subst (λ s. IfOk c.faults.result (λ v. map told v.items ≡ faults s [] (view c.args.value.now))) c.in_ok-form.ensures.shape c.faults.ensures.all
 
 pub returns-clause-none : goal.returns-clause-none
 returns-clause-none g c =
-    subst (λ s. IfOk c.faults.result (λ v. (v.items ≡ []) ↔ ((p : Plain) × Means s (view c.args.value.now) p))) c.in_ok-form.ensures c.faults.ensures.none
+    subst (λ s. IfOk c.faults.result (λ v. (v.items ≡ []) ↔ ((p : Plain) × Means s (view c.args.value.now) p))) c.in_ok-form.ensures.shape c.faults.ensures.none
