@@ -2,7 +2,7 @@
 ghost use Rattle.std.specs.Prelude.{◌≡◌, ◌↔◌, true, IfOk};
 ghost use Rattle.oci_spec.specs.Plain.{Plain};
 ghost use Rattle.oci_spec.specs.Engines.{MeansBytes};
-ghost use Rattle.oci_spec.specs.Tables.{shape_of};
+ghost use Rattle.oci_json_form.specs.Tables.{shape_of};
 
 use oci_spec::forms::{Fault, Form, faults};
 use oci_spec::{OciSpecError, Result};

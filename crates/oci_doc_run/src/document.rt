@@ -1,7 +1,7 @@
 //! The commands on documents.
 ghost use Rattle.std.specs.Prelude.{OnOk, IfErr};
 ghost use Rattle.std.specs.Io.KnownBytes.{Appends};
-ghost use Rattle.oci_spec.specs.Tables.{shape_of as form_shape};
+ghost use Rattle.oci_json_form.specs.Tables.{shape_of as form_shape};
 ghost use Rattle.oci_spec.specs.WellFormed.{WellFormed};
 ghost use Rattle.oci_spec.specs.Engines.{WritesDocument};
 ghost use Rattle.oci_spec.specs.Pretty.{WritesPretty};

@@ -1,7 +1,7 @@
 //! The kinds of documents.
 ghost use Rattle.std.specs.Prelude.{◌≡◌, IfOk};
 ghost use Rattle.oci_spec.specs.WellFormed.{WellFormed};
-ghost use Rattle.oci_spec.specs.Tables.{shape_of as form_shape};
+ghost use Rattle.oci_json_form.specs.Tables.{shape_of as form_shape};
 ghost use Rattle.oci_doc_run.specs.Kinds.{kind_of, shape_of};
 
 use bumpalo::Bump;
