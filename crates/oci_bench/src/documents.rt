@@ -7,7 +7,7 @@ use anyhow::{Context, Result};
 use oci_distribution::{ErrorResponse, RepositoryList, TagList};
 use oci_doc_run::Kind;
 use oci_features::Features;
-use oci_image_config::ImageConfiguration;
+use oci_image::ImageConfiguration;
 use oci_image_descriptor::Descriptor;
 use oci_image_manifest::{ArtifactManifest, ImageIndex, ImageManifest, OciLayout};
 use oci_json_engines::{from_slice, to_string};

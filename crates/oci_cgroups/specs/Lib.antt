@@ -1,12 +1,13 @@
+pub mod Display
+pub mod LinuxBlockIo
 pub mod LinuxCpu
+pub mod LinuxDeviceCgroup
 pub mod LinuxHugepageLimit
 pub mod LinuxMemory
 pub mod LinuxPids
 pub mod LinuxResources
-pub use Rattle.oci_cgroups_devices.specs.LinuxBlockIo
-pub use Rattle.oci_cgroups_devices.specs.LinuxDeviceCgroup
-pub use Rattle.oci_cgroups_devices.specs.LinuxThrottleDevice
-pub use Rattle.oci_cgroups_devices.specs.LinuxWeightDevice
+pub mod LinuxThrottleDevice
+pub mod LinuxWeightDevice
 pub use Rattle.oci_cgroups_network.specs.LinuxInterfacePriority
 pub use Rattle.oci_cgroups_network.specs.LinuxNetwork
 pub use Rattle.oci_cgroups_network.specs.LinuxRdma

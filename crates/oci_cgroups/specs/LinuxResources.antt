@@ -7,9 +7,9 @@ use Rattle.oci_json_schema.specs.Plain.{Plain, document, slots, empty}
 use Rattle.oci_json_schema.specs.Shape.{Shape, rows, no_rows, listed, optional, text, list, map}
 use Rattle.oci_json_schema.specs.Types.{perhaps, text_plain, list_plain, map_plain}
 use Rattle.oci_json_schema.specs.Lent.{text_row, option_row, list_row, map_row}
-use Rattle.oci_cgroups_devices.specs.LinuxDeviceCgroup.{linux_device_cgroup, linux_device_cgroup_plain}
-use Rattle.oci_cgroups_devices.specs.declared.linux_device_cgroup.LinuxDeviceCgroup.{LinuxDeviceCgroup}
-use Rattle.oci_cgroups_devices.specs.contracts.linux_device_cgroup.LinuxDeviceCgroup as linux_device_cgroup
+use Rattle.oci_cgroups.specs.LinuxDeviceCgroup.{linux_device_cgroup, linux_device_cgroup_plain}
+use Rattle.oci_cgroups.specs.declared.linux_device_cgroup.LinuxDeviceCgroup.{LinuxDeviceCgroup}
+use Rattle.oci_cgroups.specs.contracts.linux_device_cgroup.LinuxDeviceCgroup as linux_device_cgroup
 use Rattle.oci_cgroups.specs.LinuxMemory.{linux_memory, linux_memory_plain}
 use Rattle.oci_cgroups.specs.declared.linux_memory.LinuxMemory.{LinuxMemory}
 use Rattle.oci_cgroups.specs.contracts.linux_memory.LinuxMemory as linux_memory
@@ -19,9 +19,9 @@ use Rattle.oci_cgroups.specs.contracts.linux_cpu.LinuxCpu as linux_cpu
 use Rattle.oci_cgroups.specs.LinuxPids.{linux_pids, linux_pids_plain}
 use Rattle.oci_cgroups.specs.declared.linux_pids.LinuxPids.{LinuxPids}
 use Rattle.oci_cgroups.specs.contracts.linux_pids.LinuxPids as linux_pids
-use Rattle.oci_cgroups_devices.specs.LinuxBlockIo.{linux_block_io, linux_block_io_plain}
-use Rattle.oci_cgroups_devices.specs.declared.linux_block_io.LinuxBlockIo.{LinuxBlockIo}
-use Rattle.oci_cgroups_devices.specs.contracts.linux_block_io.LinuxBlockIo as linux_block_io
+use Rattle.oci_cgroups.specs.LinuxBlockIo.{linux_block_io, linux_block_io_plain}
+use Rattle.oci_cgroups.specs.declared.linux_block_io.LinuxBlockIo.{LinuxBlockIo}
+use Rattle.oci_cgroups.specs.contracts.linux_block_io.LinuxBlockIo as linux_block_io
 use Rattle.oci_cgroups.specs.LinuxHugepageLimit.{linux_hugepage_limit, linux_hugepage_limit_plain}
 use Rattle.oci_cgroups.specs.declared.linux_hugepage_limit.LinuxHugepageLimit.{LinuxHugepageLimit}
 use Rattle.oci_cgroups.specs.contracts.linux_hugepage_limit.LinuxHugepageLimit as linux_hugepage_limit

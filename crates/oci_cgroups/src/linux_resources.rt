@@ -3,12 +3,13 @@ ghost use Rattle.std.specs.Prelude.{◌≡◌, IfOk, IfErr};
 
 pub mod builder;
 
+use crate::linux_block_io::LinuxBlockIo;
 use crate::linux_cpu::LinuxCpu;
+use crate::linux_device_cgroup::LinuxDeviceCgroup;
 use crate::linux_hugepage_limit::LinuxHugepageLimit;
 use crate::linux_memory::LinuxMemory;
 use crate::linux_pids::LinuxPids;
 pub use builder::LinuxResourcesBuilder;
-use oci_cgroups_devices::{LinuxBlockIo, LinuxDeviceCgroup};
 use oci_cgroups_network::{LinuxNetwork, LinuxRdma};
 use oci_json_schema::{
     OciRecord, all_2, all_3, all_4, all_5, copy_optional, fault, optional, write_optional,
@@ -304,11 +305,11 @@ impl OciRecord for LinuxResources {
     ghost use Rattle.oci_json_kinds.specs.DefaultMembers.{default_number, default_text, default_truth};
     ghost use Rattle.oci_json_schema.specs.Same.{same_document, same_more, same_last, same_perhaps, same_texts, same_lists, same_maps};
     ghost use Rattle.oci_cgroups.specs.LinuxResources.{linux_resources, linux_resources_plain};
-    ghost use Rattle.oci_cgroups_devices.specs.contracts.linux_device_cgroup.LinuxDeviceCgroupOciRecord.TheImpl.Laws.{same-law as linux_device_cgroup_same};
+    ghost use Rattle.oci_cgroups.specs.contracts.linux_device_cgroup.LinuxDeviceCgroupOciRecord.TheImpl.Laws.{same-law as linux_device_cgroup_same};
     ghost use Rattle.oci_cgroups.specs.contracts.linux_memory.LinuxMemoryOciRecord.TheImpl.Laws.{same-law as linux_memory_same};
     ghost use Rattle.oci_cgroups.specs.contracts.linux_cpu.LinuxCpuOciRecord.TheImpl.Laws.{same-law as linux_cpu_same};
     ghost use Rattle.oci_cgroups.specs.contracts.linux_pids.LinuxPidsOciRecord.TheImpl.Laws.{same-law as linux_pids_same};
-    ghost use Rattle.oci_cgroups_devices.specs.contracts.linux_block_io.LinuxBlockIoOciRecord.TheImpl.Laws.{same-law as linux_block_io_same};
+    ghost use Rattle.oci_cgroups.specs.contracts.linux_block_io.LinuxBlockIoOciRecord.TheImpl.Laws.{same-law as linux_block_io_same};
     ghost use Rattle.oci_cgroups.specs.contracts.linux_hugepage_limit.LinuxHugepageLimitOciRecord.TheImpl.Laws.{same-law as linux_hugepage_limit_same};
     ghost use Rattle.oci_cgroups_network.specs.contracts.linux_network.LinuxNetworkOciRecord.TheImpl.Laws.{same-law as linux_network_same};
     ghost use Rattle.oci_cgroups_network.specs.contracts.linux_rdma.LinuxRdmaOciRecord.TheImpl.Laws.{same-law as linux_rdma_same};

@@ -5,9 +5,9 @@
 
 mod report;
 
-use anyhow::Result;
 use bumpalo::Bump;
 use oci_doc_run::Kind;
+use oci_spec::Result;
 use report::judge;
 use std::env;
 use std::io::Read;

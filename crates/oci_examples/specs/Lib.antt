@@ -1,1 +1,3 @@
+pub mod PinnedLines
+pub mod Platforms
 pub mod Policy

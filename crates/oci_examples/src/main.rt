@@ -1,11 +1,12 @@
-//! Five small programs over the public calls of the facade, one after the other: a manifest is put together, a registry's error
-//! reply is told, a bundle's specification is checked by a policy, tightened and checked again, and one without privileges is
-//! printed. Their inputs stand in `data/`.
+//! Six small programs over the public calls, one after the other: a manifest is put together, a registry's error reply is told, a
+//! reference is pinned to what an index has for a platform, a bundle's specification is checked by a policy, tightened and checked
+//! again, and one without privileges is printed. Their inputs stand in `data/`.
 #![tactic(auto)]
 
 mod build_manifest;
 mod check_policy;
 mod error_reply;
+mod pin_reference;
 mod rootless_spec;
 mod tighten_bundle;
 
@@ -17,6 +18,7 @@ use std::rt::Files;
 fn all<R: Files + Print + AllocGlobal>(rt: &R) -> Result<()> {
     build_manifest::print(rt)?;
     error_reply::print(rt, "reply.json")?;
+    pin_reference::print(rt, "ghcr.io/ciderglen/tools:1.4", "index.json")?;
     check_policy::print(rt, "config.json")?;
     tighten_bundle::print(rt, "/bundles/./web", "config.json", "tightened.json")?;
     check_policy::print(rt, "tightened.json")?;

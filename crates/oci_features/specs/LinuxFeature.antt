@@ -9,30 +9,30 @@ use Rattle.oci_linux_names.specs.contracts.linux_namespace_type.LinuxNamespaceTy
 use Rattle.oci_json_schema.specs.Shape.{Shape, rows, no_rows, listed, nullable, text, named, list}
 use Rattle.oci_json_schema.specs.Types.{perhaps, text_plain, variant_plain, list_plain}
 use Rattle.oci_json_schema.specs.Lent.{text_row, option_row, list_row}
-use Rattle.oci_features_linux.specs.Cgroup.{cgroup, cgroup_plain}
-use Rattle.oci_features_linux.specs.declared.cgroup.Cgroup.{Cgroup}
-use Rattle.oci_features_linux.specs.contracts.cgroup.Cgroup as cgroup
-use Rattle.oci_features_linux.specs.Seccomp.{seccomp, seccomp_plain}
-use Rattle.oci_features_linux.specs.declared.seccomp.Seccomp.{Seccomp}
-use Rattle.oci_features_linux.specs.contracts.seccomp.Seccomp as seccomp
-use Rattle.oci_features_linux.specs.Apparmor.{apparmor, apparmor_plain}
-use Rattle.oci_features_linux.specs.declared.apparmor.Apparmor.{Apparmor}
-use Rattle.oci_features_linux.specs.contracts.apparmor.Apparmor as apparmor
-use Rattle.oci_features_linux.specs.Selinux.{selinux, selinux_plain}
-use Rattle.oci_features_linux.specs.declared.selinux.Selinux.{Selinux}
-use Rattle.oci_features_linux.specs.contracts.selinux.Selinux as selinux
-use Rattle.oci_features_linux.specs.IntelRdt.{intel_rdt, intel_rdt_plain}
-use Rattle.oci_features_linux.specs.declared.intel_rdt.IntelRdt.{IntelRdt}
-use Rattle.oci_features_linux.specs.contracts.intel_rdt.IntelRdt as intel_rdt
-use Rattle.oci_features_linux.specs.MemoryPolicy.{memory_policy, memory_policy_plain}
-use Rattle.oci_features_linux.specs.declared.memory_policy.MemoryPolicy.{MemoryPolicy}
-use Rattle.oci_features_linux.specs.contracts.memory_policy.MemoryPolicy as memory_policy
-use Rattle.oci_features_linux.specs.MountExtensions.{mount_extensions, mount_extensions_plain}
-use Rattle.oci_features_linux.specs.declared.mount_extensions.MountExtensions.{MountExtensions}
-use Rattle.oci_features_linux.specs.contracts.mount_extensions.MountExtensions as mount_extensions
-use Rattle.oci_features_linux.specs.NetDevices.{net_devices, net_devices_plain}
-use Rattle.oci_features_linux.specs.declared.net_devices.NetDevices.{NetDevices}
-use Rattle.oci_features_linux.specs.contracts.net_devices.NetDevices as net_devices
+use Rattle.oci_features.specs.Cgroup.{cgroup, cgroup_plain}
+use Rattle.oci_features.specs.declared.cgroup.Cgroup.{Cgroup}
+use Rattle.oci_features.specs.contracts.cgroup.Cgroup as cgroup
+use Rattle.oci_features.specs.Seccomp.{seccomp, seccomp_plain}
+use Rattle.oci_features.specs.declared.seccomp.Seccomp.{Seccomp}
+use Rattle.oci_features.specs.contracts.seccomp.Seccomp as seccomp
+use Rattle.oci_features.specs.Apparmor.{apparmor, apparmor_plain}
+use Rattle.oci_features.specs.declared.apparmor.Apparmor.{Apparmor}
+use Rattle.oci_features.specs.contracts.apparmor.Apparmor as apparmor
+use Rattle.oci_features.specs.Selinux.{selinux, selinux_plain}
+use Rattle.oci_features.specs.declared.selinux.Selinux.{Selinux}
+use Rattle.oci_features.specs.contracts.selinux.Selinux as selinux
+use Rattle.oci_features.specs.IntelRdt.{intel_rdt, intel_rdt_plain}
+use Rattle.oci_features.specs.declared.intel_rdt.IntelRdt.{IntelRdt}
+use Rattle.oci_features.specs.contracts.intel_rdt.IntelRdt as intel_rdt
+use Rattle.oci_features.specs.MemoryPolicy.{memory_policy, memory_policy_plain}
+use Rattle.oci_features.specs.declared.memory_policy.MemoryPolicy.{MemoryPolicy}
+use Rattle.oci_features.specs.contracts.memory_policy.MemoryPolicy as memory_policy
+use Rattle.oci_features.specs.MountExtensions.{mount_extensions, mount_extensions_plain}
+use Rattle.oci_features.specs.declared.mount_extensions.MountExtensions.{MountExtensions}
+use Rattle.oci_features.specs.contracts.mount_extensions.MountExtensions as mount_extensions
+use Rattle.oci_features.specs.NetDevices.{net_devices, net_devices_plain}
+use Rattle.oci_features.specs.declared.net_devices.NetDevices.{NetDevices}
+use Rattle.oci_features.specs.contracts.net_devices.NetDevices as net_devices
 use Rattle.oci_features.specs.declared.linux_feature.LinuxFeature.{LinuxFeature}
 use Rattle.oci_features.specs.contracts.linux_feature.LinuxFeature.{the_row}
 

@@ -3,10 +3,15 @@ ghost use Rattle.std.specs.Prelude.{◌≡◌, IfOk, IfErr};
 
 pub mod builder;
 
+use crate::apparmor::Apparmor;
+use crate::cgroup::Cgroup;
+use crate::intel_rdt::IntelRdt;
+use crate::memory_policy::MemoryPolicy;
+use crate::mount_extensions::MountExtensions;
+use crate::net_devices::NetDevices;
+use crate::seccomp::Seccomp;
+use crate::selinux::Selinux;
 pub use builder::LinuxFeatureBuilder;
-use oci_features_linux::{
-    Apparmor, Cgroup, IntelRdt, MemoryPolicy, MountExtensions, NetDevices, Seccomp, Selinux,
-};
 use oci_json_kinds::{nullable, write_nullable};
 use oci_json_schema::{OciRecord, all_2, all_5, copy_optional, fault};
 use oci_linux_names::LinuxNamespaceType;
@@ -324,14 +329,14 @@ impl OciRecord for LinuxFeature {
     ghost use Rattle.oci_linux_names.specs.LinuxNamespaceType.{linux_namespace_type_same};
     ghost use Rattle.oci_json_schema.specs.Same.{same_document, same_more, same_last, same_perhaps, same_texts, same_lists, same_variants};
     ghost use Rattle.oci_features.specs.LinuxFeature.{linux_feature, linux_feature_plain};
-    ghost use Rattle.oci_features_linux.specs.contracts.cgroup.CgroupOciRecord.TheImpl.Laws.{same-law as cgroup_same};
-    ghost use Rattle.oci_features_linux.specs.contracts.seccomp.SeccompOciRecord.TheImpl.Laws.{same-law as seccomp_same};
-    ghost use Rattle.oci_features_linux.specs.contracts.apparmor.ApparmorOciRecord.TheImpl.Laws.{same-law as apparmor_same};
-    ghost use Rattle.oci_features_linux.specs.contracts.selinux.SelinuxOciRecord.TheImpl.Laws.{same-law as selinux_same};
-    ghost use Rattle.oci_features_linux.specs.contracts.intel_rdt.IntelRdtOciRecord.TheImpl.Laws.{same-law as intel_rdt_same};
-    ghost use Rattle.oci_features_linux.specs.contracts.memory_policy.MemoryPolicyOciRecord.TheImpl.Laws.{same-law as memory_policy_same};
-    ghost use Rattle.oci_features_linux.specs.contracts.mount_extensions.MountExtensionsOciRecord.TheImpl.Laws.{same-law as mount_extensions_same};
-    ghost use Rattle.oci_features_linux.specs.contracts.net_devices.NetDevicesOciRecord.TheImpl.Laws.{same-law as net_devices_same};
+    ghost use Rattle.oci_features.specs.contracts.cgroup.CgroupOciRecord.TheImpl.Laws.{same-law as cgroup_same};
+    ghost use Rattle.oci_features.specs.contracts.seccomp.SeccompOciRecord.TheImpl.Laws.{same-law as seccomp_same};
+    ghost use Rattle.oci_features.specs.contracts.apparmor.ApparmorOciRecord.TheImpl.Laws.{same-law as apparmor_same};
+    ghost use Rattle.oci_features.specs.contracts.selinux.SelinuxOciRecord.TheImpl.Laws.{same-law as selinux_same};
+    ghost use Rattle.oci_features.specs.contracts.intel_rdt.IntelRdtOciRecord.TheImpl.Laws.{same-law as intel_rdt_same};
+    ghost use Rattle.oci_features.specs.contracts.memory_policy.MemoryPolicyOciRecord.TheImpl.Laws.{same-law as memory_policy_same};
+    ghost use Rattle.oci_features.specs.contracts.mount_extensions.MountExtensionsOciRecord.TheImpl.Laws.{same-law as mount_extensions_same};
+    ghost use Rattle.oci_features.specs.contracts.net_devices.NetDevicesOciRecord.TheImpl.Laws.{same-law as net_devices_same};
 
     ghost shape = { linux_feature };
 

@@ -1,7 +1,7 @@
-pub use Rattle.oci_image_config.specs.Config
-pub use Rattle.oci_image_config.specs.History
-pub use Rattle.oci_image_config.specs.ImageConfiguration
-pub use Rattle.oci_image_config.specs.RootFs
+pub mod Config
+pub mod History
+pub mod ImageConfiguration
+pub mod RootFs
 pub use Rattle.oci_image_descriptor.specs.Descriptor
 pub use Rattle.oci_image_descriptor.specs.DescriptorBuilder
 pub use Rattle.oci_image_manifest.specs.ArtifactManifest

@@ -1,18 +1,23 @@
-//! The image documents, the keys of annotations and the version of the image specification.
+//! The image documents: configurations and their parts, and what stands behind this crate, descriptors, manifests, indexes and
+//! layouts; the keys of annotations and the version of the image specification.
 #![tactic(auto)]
 
+pub mod annotations;
+pub mod config;
+pub mod history;
+pub mod image_configuration;
+pub mod root_fs;
 pub mod versions;
 
-pub use oci_image_config::annotations::{
+pub use annotations::{
     ANNOTATION_AUTHORS, ANNOTATION_BASE_IMAGE_DIGEST, ANNOTATION_BASE_IMAGE_NAME,
     ANNOTATION_CREATED, ANNOTATION_DESCRIPTION, ANNOTATION_DOCUMENTATION, ANNOTATION_LICENSES,
     ANNOTATION_REF_NAME, ANNOTATION_REVISION, ANNOTATION_SOURCE, ANNOTATION_TITLE, ANNOTATION_URL,
     ANNOTATION_VENDOR, ANNOTATION_VERSION,
 };
-pub use oci_image_config::{
-    Config, ConfigBuilder, History, HistoryBuilder, ImageConfiguration, ImageConfigurationBuilder,
-    LABEL_VERSION, RootFs, RootFsBuilder, annotations,
-};
+pub use config::{Config, ConfigBuilder};
+pub use history::{History, HistoryBuilder};
+pub use image_configuration::{ImageConfiguration, ImageConfigurationBuilder, LABEL_VERSION};
 pub use oci_image_descriptor::{Descriptor, DescriptorBuilder};
 pub use oci_image_manifest::{
     ArtifactManifest, ArtifactManifestBuilder, ImageIndex, ImageIndexBuilder, ImageManifest,
@@ -20,6 +25,7 @@ pub use oci_image_manifest::{
 };
 pub use oci_image_platform::{Platform, PlatformBuilder};
 pub use oci_text::{Arch, Digest, DigestAlgorithm, MediaType, Os, Sha256Digest, ToDockerV2S2};
+pub use root_fs::{RootFs, RootFsBuilder};
 pub use versions::{
     SCHEMA_VERSION, VERSION, VERSION_DEV, VERSION_MAJOR, VERSION_MINOR, VERSION_PATCH, version,
 };

@@ -10,9 +10,9 @@ ghost use Rattle.oci_json_form.specs.Tables.{leaf_shape, names_of};
 
 use crate::form::Leaf;
 use oci_json_kinds::number::{has_other_numbers, members_have_other_numbers};
+use oci_json_schema::JsonName;
 use oci_process_texts::{Capability, is_cpu_list};
 use oci_text::is_digest;
-use oci_text_closed::JsonName;
 use serde_json::{Map, Value};
 
 /// Whether the leaf allows the value.

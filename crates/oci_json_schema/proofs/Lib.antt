@@ -1,4 +1,5 @@
 pub mod AlwaysWritable
+pub mod ClosedMembers
 pub mod FoundAll
 pub mod Lists
 pub mod Maps
@@ -6,5 +7,6 @@ pub mod NoFloat
 pub mod Readers
 pub mod Refusals
 pub mod Removed
+pub mod Tables
 pub mod Together
 pub mod Writers

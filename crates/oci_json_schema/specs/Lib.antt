@@ -1,4 +1,5 @@
 pub mod Built
+pub mod ClosedNames
 pub mod Erased
 pub mod Fits
 pub mod Found
@@ -11,5 +12,7 @@ pub mod Same
 pub mod Shape
 pub mod Types
 pub mod Value
+pub mod Variants
 pub mod WellFormed
 pub mod Writable
+pub use Rattle.oci_text_base.specs.Names

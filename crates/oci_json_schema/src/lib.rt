@@ -1,8 +1,12 @@
-//! The model of documents, what a document type can do, and the readers and writers of a record's members.
+//! The model of documents, what a document type can do, and the readers and writers of a record's members. Closed names, whose
+//! values are those of one table, are members too: a type of such names is one `impl` of [`ClosedName`].
 #![tactic(auto)]
 
 pub mod all;
+pub mod closed;
+pub mod closed_name;
 pub mod fault;
+pub mod json_name;
 pub mod list;
 pub mod map;
 pub mod member;
@@ -14,6 +18,9 @@ pub mod text;
 pub mod truth;
 
 pub use all::{all_2, all_3, all_4, all_5};
+pub use closed::{read_name, write_name};
+pub use closed_name::{ClosedName, named, parse_name};
+pub use json_name::JsonName;
 pub use member::{
     copy_optional, optional, optional_either, required, write_optional, write_required,
 };

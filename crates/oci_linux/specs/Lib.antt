@@ -1,8 +1,6 @@
 pub mod DefaultResources
 pub mod Linux
 pub mod Rootless
-pub use Rattle.oci_linux_namespaces.specs.Defaults
-pub use Rattle.oci_linux_namespaces.specs.DeviceRule
 pub use Rattle.oci_linux_namespaces.specs.LinuxDevice
 pub use Rattle.oci_linux_namespaces.specs.LinuxIdMapping
 pub use Rattle.oci_linux_namespaces.specs.LinuxNamespace
@@ -15,3 +13,5 @@ pub use Rattle.oci_linux_policies.specs.LinuxPersonality
 pub use Rattle.oci_linux_policies.specs.LinuxSeccomp
 pub use Rattle.oci_linux_policies.specs.LinuxSeccompArg
 pub use Rattle.oci_linux_policies.specs.LinuxSyscall
+pub use Rattle.oci_runtime_parts.specs.Defaults
+pub use Rattle.oci_runtime_parts.specs.DeviceRule

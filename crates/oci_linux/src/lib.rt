@@ -8,11 +8,13 @@ pub use linux::{Linux, LinuxBuilder};
 pub use oci_linux_namespaces::{
     LinuxDevice, LinuxDeviceBuilder, LinuxIdMapping, LinuxIdMappingBuilder, LinuxNamespace,
     LinuxNamespaceBuilder, LinuxNetDevice, LinuxNetDeviceBuilder, LinuxTimeOffset,
-    LinuxTimeOffsetBuilder, cgroup_of, get_default_maskedpaths, get_default_namespaces,
-    get_default_readonly_paths,
+    LinuxTimeOffsetBuilder,
 };
 pub use oci_linux_policies::{
     LinuxIntelRdt, LinuxIntelRdtBuilder, LinuxMemoryPolicy, LinuxMemoryPolicyBuilder,
     LinuxPersonality, LinuxPersonalityBuilder, LinuxSeccomp, LinuxSeccompArg,
     LinuxSeccompArgBuilder, LinuxSeccompBuilder, LinuxSyscall, LinuxSyscallBuilder,
+};
+pub use oci_runtime_parts::{
+    cgroup_of, get_default_maskedpaths, get_default_namespaces, get_default_readonly_paths,
 };

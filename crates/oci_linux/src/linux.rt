@@ -11,9 +11,11 @@ use oci_cgroups::LinuxResources;
 use oci_json_schema::{OciRecord, all_4, all_5, copy_optional, fault, optional, write_optional};
 use oci_linux_namespaces::{
     LinuxDevice, LinuxIdMapping, LinuxNamespace, LinuxNetDevice, LinuxTimeOffset,
-    get_default_maskedpaths, get_default_namespaces, get_default_readonly_paths,
 };
 use oci_linux_policies::{LinuxIntelRdt, LinuxMemoryPolicy, LinuxPersonality, LinuxSeccomp};
+use oci_runtime_parts::{
+    get_default_maskedpaths, get_default_namespaces, get_default_readonly_paths,
+};
 use oci_text_base::{OciSpecError, Result};
 use serde_json::{Map, Value};
 use std::alloc::Global;

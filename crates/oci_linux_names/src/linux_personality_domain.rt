@@ -3,9 +3,8 @@ ghost use Rattle.std.specs.Prelude.{◌≡◌, IfOk, IfErr};
 ghost use Rattle.oci_linux_names.specs.declared.linux_personality_domain.LinuxPersonalityDomain.{LinuxPersonalityDomain};
 ghost use Rattle.oci_linux_names.specs.LinuxPersonalityDomain.{linux_personality_domain_name};
 
-use oci_json_schema::OciMember;
+use oci_json_schema::{ClosedName, OciMember, parse_name, read_name, write_name};
 use oci_text_base::{Result, UnknownName};
-use oci_text_closed::{ClosedName, parse_name, read_name, write_name};
 use serde_json::Value;
 use std::alloc::Global;
 use std::fmt;
@@ -71,7 +70,7 @@ impl ClosedName for LinuxPersonalityDomain {
 impl OciMember for LinuxPersonalityDomain {
     ghost use Rattle.std.specs.Prelude.{refl};
     ghost use Rattle.oci_json_schema.specs.Shape.{named};
-    ghost use Rattle.oci_text_closed.specs.ClosedNames.{same_variants, variant_plain};
+    ghost use Rattle.oci_json_schema.specs.ClosedNames.{same_variants, variant_plain};
     ghost use Rattle.oci_linux_names.specs.LinuxPersonalityDomain.{linux_personality_domain_same, linux_personality_domain_table};
 
     ghost shape = { named linux_personality_domain_table };

@@ -3,9 +3,8 @@ ghost use Rattle.std.specs.Prelude.{◌≡◌, IfOk, IfErr};
 ghost use Rattle.oci_linux_names.specs.declared.linux_seccomp_filter_flag.LinuxSeccompFilterFlag.{LinuxSeccompFilterFlag};
 ghost use Rattle.oci_linux_names.specs.LinuxSeccompFilterFlag.{linux_seccomp_filter_flag_name};
 
-use oci_json_schema::OciMember;
+use oci_json_schema::{ClosedName, OciMember, parse_name, read_name, write_name};
 use oci_text_base::{Result, UnknownName};
-use oci_text_closed::{ClosedName, parse_name, read_name, write_name};
 use serde_json::Value;
 use std::alloc::Global;
 use std::fmt;
@@ -80,7 +79,7 @@ impl ClosedName for LinuxSeccompFilterFlag {
 impl OciMember for LinuxSeccompFilterFlag {
     ghost use Rattle.std.specs.Prelude.{refl};
     ghost use Rattle.oci_json_schema.specs.Shape.{named};
-    ghost use Rattle.oci_text_closed.specs.ClosedNames.{same_variants, variant_plain};
+    ghost use Rattle.oci_json_schema.specs.ClosedNames.{same_variants, variant_plain};
     ghost use Rattle.oci_linux_names.specs.LinuxSeccompFilterFlag.{linux_seccomp_filter_flag_same, linux_seccomp_filter_flag_table};
 
     ghost shape = { named linux_seccomp_filter_flag_table };

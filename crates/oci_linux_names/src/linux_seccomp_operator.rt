@@ -3,9 +3,8 @@ ghost use Rattle.std.specs.Prelude.{◌≡◌, IfOk, IfErr};
 ghost use Rattle.oci_linux_names.specs.declared.linux_seccomp_operator.LinuxSeccompOperator.{LinuxSeccompOperator};
 ghost use Rattle.oci_linux_names.specs.LinuxSeccompOperator.{linux_seccomp_operator_name, linux_seccomp_operator_number};
 
-use oci_json_schema::OciMember;
+use oci_json_schema::{ClosedName, OciMember, parse_name, read_name, write_name};
 use oci_text_base::{Result, UnknownName};
-use oci_text_closed::{ClosedName, parse_name, read_name, write_name};
 use serde_json::Value;
 use std::alloc::Global;
 use std::fmt;
@@ -103,7 +102,7 @@ impl ClosedName for LinuxSeccompOperator {
 impl OciMember for LinuxSeccompOperator {
     ghost use Rattle.std.specs.Prelude.{refl};
     ghost use Rattle.oci_json_schema.specs.Shape.{named};
-    ghost use Rattle.oci_text_closed.specs.ClosedNames.{same_variants, variant_plain};
+    ghost use Rattle.oci_json_schema.specs.ClosedNames.{same_variants, variant_plain};
     ghost use Rattle.oci_linux_names.specs.LinuxSeccompOperator.{linux_seccomp_operator_same, linux_seccomp_operator_table};
 
     ghost shape = { named linux_seccomp_operator_table };

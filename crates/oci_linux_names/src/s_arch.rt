@@ -3,9 +3,8 @@ ghost use Rattle.std.specs.Prelude.{◌≡◌, IfOk, IfErr};
 ghost use Rattle.oci_linux_names.specs.declared.s_arch.SArch.{SArch};
 ghost use Rattle.oci_linux_names.specs.SArch.{s_arch_name, s_arch_number};
 
-use oci_json_schema::OciMember;
+use oci_json_schema::{ClosedName, OciMember, parse_name, read_name, write_name};
 use oci_text_base::{Result, UnknownName};
-use oci_text_closed::{ClosedName, parse_name, read_name, write_name};
 use serde_json::Value;
 use std::alloc::Global;
 use std::fmt;
@@ -174,7 +173,7 @@ impl ClosedName for SArch {
 impl OciMember for SArch {
     ghost use Rattle.std.specs.Prelude.{refl};
     ghost use Rattle.oci_json_schema.specs.Shape.{named};
-    ghost use Rattle.oci_text_closed.specs.ClosedNames.{same_variants, variant_plain};
+    ghost use Rattle.oci_json_schema.specs.ClosedNames.{same_variants, variant_plain};
     ghost use Rattle.oci_linux_names.specs.SArch.{s_arch_same, s_arch_table};
 
     ghost shape = { named s_arch_table };

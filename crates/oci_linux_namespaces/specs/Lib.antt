@@ -1,5 +1,3 @@
-pub mod Defaults
-pub mod DeviceRule
 pub mod LinuxDevice
 pub mod LinuxIdMapping
 pub mod LinuxNamespace

@@ -1,7 +1,7 @@
 -- The types of namespaces of z/OS (runtime specification, `config-zos.md`, "Namespaces", `type`).
 use Rattle.std.specs.Prelude.{◌≡◌, ◌↔◌, ℕ, List, [], ◌∷◌, ◌++◌, true, Some, codes, map, refl}
 use denote.Enum.Bare.{sameb}
-use Rattle.oci_text_closed.specs.Variants.{variant_of, told_by_name}
+use Rattle.oci_json_schema.specs.Variants.{variant_of, told_by_name}
 use Rattle.oci_platforms.specs.contracts.zos_namespace_type.ZOSNamespaceType.{the_type}
 use Rattle.oci_platforms.specs.declared.zos_namespace_type.ZOSNamespaceType.{ZOSNamespaceType}
 use Rattle.oci_platforms.specs.declared.zos_namespace_type.ZOSNamespaceType.TheVariants.{Pid, Mount, Ipc, Uts}

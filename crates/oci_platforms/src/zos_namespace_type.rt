@@ -3,9 +3,8 @@ ghost use Rattle.std.specs.Prelude.{◌≡◌, IfOk, IfErr, string_bytes};
 ghost use Rattle.oci_platforms.specs.declared.zos_namespace_type.ZOSNamespaceType.{ZOSNamespaceType};
 ghost use Rattle.oci_platforms.specs.ZOSNamespaceType.{zos_namespace_type_name, zos_namespace_type_unknown};
 
-use oci_json_schema::OciMember;
+use oci_json_schema::{ClosedName, OciMember, parse_name, read_name, write_name};
 use oci_text_base::{OciSpecError, Result};
-use oci_text_closed::{ClosedName, parse_name, read_name, write_name};
 use serde_json::Value;
 use std::alloc::{AllocError, Global};
 use std::fmt;
@@ -89,7 +88,7 @@ impl ClosedName for ZOSNamespaceType {
 impl OciMember for ZOSNamespaceType {
     ghost use Rattle.std.specs.Prelude.{refl};
     ghost use Rattle.oci_json_schema.specs.Shape.{named};
-    ghost use Rattle.oci_text_closed.specs.ClosedNames.{same_variants, variant_plain};
+    ghost use Rattle.oci_json_schema.specs.ClosedNames.{same_variants, variant_plain};
     ghost use Rattle.oci_platforms.specs.ZOSNamespaceType.{zos_namespace_type_same, zos_namespace_type_table};
 
     ghost shape = { named zos_namespace_type_table };

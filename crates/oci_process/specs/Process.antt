@@ -7,15 +7,15 @@ use Rattle.oci_json_schema.specs.Plain.{Plain, document, slots, empty, filled}
 use Rattle.oci_json_schema.specs.Shape.{Shape, rows, no_rows, listed, required, optional, text, truth, list}
 use Rattle.oci_json_schema.specs.Types.{given, perhaps, text_plain, truth_plain, integer_plain, list_plain, i32}
 use Rattle.oci_json_schema.specs.Lent.{text_row, option_row, list_row}
-use Rattle.oci_process_parts.specs.Box.{console_box, console_box_plain}
-use Rattle.oci_process_parts.specs.User.{user, user_plain, default_user}
-use Rattle.oci_process_parts.specs.declared.user.User.{User}
-use Rattle.oci_process_parts.specs.contracts.user.User as user
-use Rattle.oci_process_parts.specs.LinuxCapabilities.{linux_capabilities, linux_capabilities_plain, default_linux_capabilities}
-use Rattle.oci_process_parts.specs.PosixRlimit.{posix_rlimit, posix_rlimit_plain}
-use Rattle.oci_process_parts.specs.LinuxIOPriority.{linux_io_priority, linux_io_priority_plain}
-use Rattle.oci_process_parts.specs.Scheduler.{scheduler, scheduler_plain}
-use Rattle.oci_process_parts.specs.ExecCPUAffinity.{exec_cpu_affinity, exec_cpu_affinity_plain}
+use Rattle.oci_process.specs.Box.{console_box, console_box_plain}
+use Rattle.oci_process.specs.User.{user, user_plain, default_user}
+use Rattle.oci_process.specs.declared.user.User.{User}
+use Rattle.oci_process.specs.contracts.user.User as user
+use Rattle.oci_process.specs.LinuxCapabilities.{linux_capabilities, linux_capabilities_plain, default_linux_capabilities}
+use Rattle.oci_process.specs.PosixRlimit.{posix_rlimit, posix_rlimit_plain}
+use Rattle.oci_process.specs.LinuxIOPriority.{linux_io_priority, linux_io_priority_plain}
+use Rattle.oci_process.specs.Scheduler.{scheduler, scheduler_plain}
+use Rattle.oci_process.specs.ExecCPUAffinity.{exec_cpu_affinity, exec_cpu_affinity_plain}
 use Rattle.oci_process.specs.ProcessDefaults.{default_args, default_cwd, default_env, default_rlimits}
 use Rattle.oci_process.specs.declared.process.Process.{Process}
 use Rattle.oci_process.specs.contracts.process.Process.{the_row}

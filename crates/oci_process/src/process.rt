@@ -4,14 +4,18 @@ ghost use Rattle.std.specs.Prelude.{◌≡◌, IfOk, IfErr};
 pub mod builder;
 mod fields;
 
+use crate::console_box::Box;
+use crate::exec_cpu_affinity::ExecCPUAffinity;
+use crate::linux_capabilities::LinuxCapabilities;
+use crate::linux_io_priority::LinuxIOPriority;
+use crate::posix_rlimit::PosixRlimit;
 use crate::process_defaults::{default_args, default_cwd, default_env, default_rlimits};
+use crate::scheduler::Scheduler;
+use crate::user::User;
 pub use builder::ProcessBuilder;
 use oci_json_schema::{
     OciMember, OciRecord, all_2, all_3, all_4, copy_optional, fault, optional, required,
     write_optional, write_required,
-};
-use oci_process_parts::{
-    Box, ExecCPUAffinity, LinuxCapabilities, LinuxIOPriority, PosixRlimit, Scheduler, User,
 };
 use oci_text_base::{OciSpecError, Result};
 use serde_json::{Map, Value};
@@ -116,13 +120,13 @@ impl OciRecord for Process {
     ghost use Rattle.oci_json_kinds.specs.DefaultMembers.{default_name, default_number};
     ghost use Rattle.oci_json_schema.specs.Same.{same_document, same_more, same_last, same_given, same_perhaps, same_texts, same_lists, same_integers, same_truths};
     ghost use Rattle.oci_process.specs.Process.{process, process_plain};
-    ghost use Rattle.oci_process_parts.specs.contracts.console_box.BoxOciRecord.TheImpl.Laws.{same-law as console_box_same};
-    ghost use Rattle.oci_process_parts.specs.contracts.user.UserOciRecord.TheImpl.Laws.{same-law as user_same};
-    ghost use Rattle.oci_process_parts.specs.contracts.linux_capabilities.LinuxCapabilitiesOciRecord.TheImpl.Laws.{same-law as linux_capabilities_same};
-    ghost use Rattle.oci_process_parts.specs.contracts.posix_rlimit.PosixRlimitOciRecord.TheImpl.Laws.{same-law as posix_rlimit_same};
-    ghost use Rattle.oci_process_parts.specs.contracts.linux_io_priority.LinuxIOPriorityOciRecord.TheImpl.Laws.{same-law as linux_io_priority_same};
-    ghost use Rattle.oci_process_parts.specs.contracts.scheduler.SchedulerOciRecord.TheImpl.Laws.{same-law as scheduler_same};
-    ghost use Rattle.oci_process_parts.specs.contracts.exec_cpu_affinity.ExecCPUAffinityOciRecord.TheImpl.Laws.{same-law as exec_cpu_affinity_same};
+    ghost use Rattle.oci_process.specs.contracts.console_box.BoxOciRecord.TheImpl.Laws.{same-law as console_box_same};
+    ghost use Rattle.oci_process.specs.contracts.user.UserOciRecord.TheImpl.Laws.{same-law as user_same};
+    ghost use Rattle.oci_process.specs.contracts.linux_capabilities.LinuxCapabilitiesOciRecord.TheImpl.Laws.{same-law as linux_capabilities_same};
+    ghost use Rattle.oci_process.specs.contracts.posix_rlimit.PosixRlimitOciRecord.TheImpl.Laws.{same-law as posix_rlimit_same};
+    ghost use Rattle.oci_process.specs.contracts.linux_io_priority.LinuxIOPriorityOciRecord.TheImpl.Laws.{same-law as linux_io_priority_same};
+    ghost use Rattle.oci_process.specs.contracts.scheduler.SchedulerOciRecord.TheImpl.Laws.{same-law as scheduler_same};
+    ghost use Rattle.oci_process.specs.contracts.exec_cpu_affinity.ExecCPUAffinityOciRecord.TheImpl.Laws.{same-law as exec_cpu_affinity_same};
 
     ghost shape = { process };
 

@@ -10,7 +10,7 @@ use Rattle.serde_json.specs.declared.value.Value.{Value, the_lemmas}
 use Rattle.serde_json.specs.declared.value.Value as value
 use denote.Enum.Bare.{same_true, true_same}
 use Rattle.oci_text_base.specs.Names.{is_listed}
-use Rattle.oci_text_closed.specs.Variants.{listed}
+use Rattle.oci_json_schema.specs.Variants.{listed}
 use Rattle.oci_process_texts.specs.declared.capability.Capability.{Capability}
 use Rattle.oci_process_texts.specs.declared.capability.Capability.TheVariants.{AuditWrite, Kill, NetBindService}
 use Rattle.oci_process_texts.specs.contracts.capability.Capability.{the_type}

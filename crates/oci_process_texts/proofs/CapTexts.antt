@@ -10,7 +10,7 @@ use Rattle.oci_process_texts.specs.declared.capability.Capability.{Capability}
 use Rattle.oci_text_base.specs.Capabilities.{ascii_upper, cap, repeated, CapText, is_capability_name}
 use Rattle.oci_process_texts.specs.BareTexts.{IsBare}
 use Rattle.oci_process_texts.specs.Capability.{capability_name, capability_table, all_capability, capability_back}
-use Rattle.oci_text_closed.specs.Variants.{listed}
+use Rattle.oci_json_schema.specs.Variants.{listed}
 
 -- once more in front
 pub repeated_more : (n : ℕ) (t : List ℕ) → repeated n cap ++ (cap ++ t) ≡ repeated (suc n) cap ++ t

@@ -1,7 +1,7 @@
 -- The capabilities of Linux (runtime specification, "Configuration", "Linux Process", `capabilities`).
 use Rattle.std.specs.Prelude.{◌≡◌, ◌↔◌, ℕ, List, [], ◌∷◌, true, Some, codes, map, refl}
 use denote.Enum.Bare.{sameb}
-use Rattle.oci_text_closed.specs.Variants.{variant_of, told_by_name}
+use Rattle.oci_json_schema.specs.Variants.{variant_of, told_by_name}
 use Rattle.oci_process_texts.specs.contracts.capability.Capability.{the_type}
 use Rattle.oci_process_texts.specs.declared.capability.Capability.{Capability}
 use Rattle.oci_process_texts.specs.declared.capability.Capability.TheVariants.{AuditControl, AuditRead, AuditWrite, BlockSuspend, Bpf, CheckpointRestore, Chown, DacOverride, DacReadSearch, Fowner, Fsetid, IpcLock, IpcOwner, Kill, Lease, LinuxImmutable, MacAdmin, MacOverride, Mknod, NetAdmin, NetBindService, NetBroadcast, NetRaw, Perfmon, Setgid, Setfcap, Setpcap, Setuid, SysAdmin, SysBoot, SysChroot, SysModule, SysNice, SysPacct, SysPtrace, SysRawio, SysResource, SysTime, SysTtyConfig, Syslog, WakeAlarm}

@@ -5,7 +5,7 @@ use Rattle.std.specs.HashSet.{HashSet, contains, hash_set_eq}
 use Rattle.std.specs.Cmp.{IsEquivalence, decided}
 use Rattle.std.proofs.lemmas.Map.Lookups.{hash_set_eq_decides}
 use denote.Enum.Bare.{sameb, same_true, true_same}
-use Rattle.oci_text_closed.specs.Variants.{variant_of}
+use Rattle.oci_json_schema.specs.Variants.{variant_of}
 use Rattle.oci_process_texts.specs.declared.capability.Capability.{Capability}
 use Rattle.oci_process_texts.specs.declared.capability.Capability.TheVariants.{AuditWrite, Kill, NetBindService}
 use Rattle.oci_process_texts.specs.contracts.capability.Capability.{the_type}

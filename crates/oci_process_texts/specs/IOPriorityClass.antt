@@ -1,7 +1,7 @@
 -- The classes of input and output priority (runtime specification, "Configuration", "Linux Process", `ioPriority`).
 use Rattle.std.specs.Prelude.{◌≡◌, ◌↔◌, ℕ, List, [], ◌∷◌, true, Some, codes, map, refl}
 use denote.Enum.Bare.{sameb}
-use Rattle.oci_text_closed.specs.Variants.{variant_of, told_by_name}
+use Rattle.oci_json_schema.specs.Variants.{variant_of, told_by_name}
 use Rattle.oci_process_texts.specs.contracts.io_priority_class.IOPriorityClass.{the_type}
 use Rattle.oci_process_texts.specs.declared.io_priority_class.IOPriorityClass.{IOPriorityClass}
 use Rattle.oci_process_texts.specs.declared.io_priority_class.IOPriorityClass.TheVariants.{IoprioClassRt, IoprioClassBe, IoprioClassIdle}

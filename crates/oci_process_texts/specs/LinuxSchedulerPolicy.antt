@@ -1,7 +1,7 @@
 -- The policies of the scheduler (runtime specification, "Configuration", "Linux Process", `scheduler`).
 use Rattle.std.specs.Prelude.{◌≡◌, ◌↔◌, ℕ, List, [], ◌∷◌, true, Some, codes, map, refl}
 use denote.Enum.Bare.{sameb}
-use Rattle.oci_text_closed.specs.Variants.{variant_of, told_by_name}
+use Rattle.oci_json_schema.specs.Variants.{variant_of, told_by_name}
 use Rattle.oci_process_texts.specs.contracts.linux_scheduler_policy.LinuxSchedulerPolicy.{the_type}
 use Rattle.oci_process_texts.specs.declared.linux_scheduler_policy.LinuxSchedulerPolicy.{LinuxSchedulerPolicy}
 use Rattle.oci_process_texts.specs.declared.linux_scheduler_policy.LinuxSchedulerPolicy.TheVariants.{SchedOther, SchedFifo, SchedRr, SchedBatch, SchedIso, SchedIdle, SchedDeadline}

@@ -1,7 +1,7 @@
 -- What a limit is on (runtime specification, "Configuration", "POSIX process", `rlimits`).
 use Rattle.std.specs.Prelude.{◌≡◌, ◌↔◌, ℕ, List, [], ◌∷◌, true, Some, codes, map, refl}
 use denote.Enum.Bare.{sameb}
-use Rattle.oci_text_closed.specs.Variants.{variant_of, told_by_name}
+use Rattle.oci_json_schema.specs.Variants.{variant_of, told_by_name}
 use Rattle.oci_process_texts.specs.contracts.posix_rlimit_type.PosixRlimitType.{the_type}
 use Rattle.oci_process_texts.specs.declared.posix_rlimit_type.PosixRlimitType.{PosixRlimitType}
 use Rattle.oci_process_texts.specs.declared.posix_rlimit_type.PosixRlimitType.TheVariants.{RlimitCpu, RlimitFsize, RlimitData, RlimitStack, RlimitCore, RlimitRss, RlimitNproc, RlimitNofile, RlimitMemlock, RlimitAs, RlimitLocks, RlimitSigpending, RlimitMsgqueue, RlimitNice, RlimitRtprio, RlimitRttime}

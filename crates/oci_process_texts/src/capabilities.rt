@@ -10,9 +10,9 @@ ghost use Rattle.oci_process_texts.specs.CapabilitySets.{default_set, set_plain}
 
 use crate::capability::{ALL, Capability};
 use oci_json_kinds::OciKind;
+use oci_json_schema::JsonName;
 use oci_json_schema::fault::refused;
 use oci_text_base::{OciSpecError, Result};
-use oci_text_closed::JsonName;
 use serde_json::Value;
 use std::alloc::Global;
 use std::collections::HashSet;

@@ -6,8 +6,8 @@ ghost use Rattle.oci_process_texts.specs.BareTexts.{IsBare};
 ghost use Rattle.oci_process_texts.specs.Capability.{capability_name};
 ghost use Rattle.oci_process_texts.specs.declared.capability.Capability.{Capability};
 
+use oci_json_schema::JsonName;
 use oci_text_base::UnknownName;
-use oci_text_closed::JsonName;
 use std::fmt;
 
 /// What a process may do beyond its user's rights (runtime specification, "Configuration", "Linux Process",
@@ -270,7 +270,7 @@ impl Capability {
 
 impl JsonName for Capability {
     ghost use Rattle.oci_text_base.specs.Capabilities.{CapText};
-    ghost use Rattle.oci_text_closed.specs.Variants.{listed};
+    ghost use Rattle.oci_json_schema.specs.Variants.{listed};
     ghost use Rattle.oci_process_texts.specs.Capability.{all_capability, capability_back, capability_same, capability_table};
 
     ghost table = { capability_table };

@@ -4,9 +4,8 @@ ghost use Rattle.oci_process_texts.specs.declared.io_priority_class.IOPriorityCl
 ghost use Rattle.oci_process_texts.specs.IOPriorityClass.{io_priority_class_name};
 
 use oci_json_kinds::OciDefault;
-use oci_json_schema::OciMember;
+use oci_json_schema::{ClosedName, OciMember, parse_name, read_name, write_name};
 use oci_text_base::{Result, UnknownName};
-use oci_text_closed::{ClosedName, parse_name, read_name, write_name};
 use serde_json::Value;
 use std::alloc::Global;
 use std::fmt;
@@ -75,7 +74,7 @@ impl ClosedName for IOPriorityClass {
 impl OciMember for IOPriorityClass {
     ghost use Rattle.std.specs.Prelude.{refl};
     ghost use Rattle.oci_json_schema.specs.Shape.{named};
-    ghost use Rattle.oci_text_closed.specs.ClosedNames.{same_variants, variant_plain};
+    ghost use Rattle.oci_json_schema.specs.ClosedNames.{same_variants, variant_plain};
     ghost use Rattle.oci_process_texts.specs.IOPriorityClass.{io_priority_class_same, io_priority_class_table};
 
     ghost shape = { named io_priority_class_table };

@@ -3,9 +3,8 @@ ghost use Rattle.std.specs.Prelude.{◌≡◌, IfOk, IfErr};
 ghost use Rattle.oci_process_texts.specs.declared.linux_scheduler_policy.LinuxSchedulerPolicy.{LinuxSchedulerPolicy};
 ghost use Rattle.oci_process_texts.specs.LinuxSchedulerPolicy.{linux_scheduler_policy_name};
 
-use oci_json_schema::OciMember;
+use oci_json_schema::{ClosedName, OciMember, parse_name, read_name, write_name};
 use oci_text_base::{Result, UnknownName};
-use oci_text_closed::{ClosedName, parse_name, read_name, write_name};
 use serde_json::Value;
 use std::alloc::Global;
 use std::fmt;
@@ -94,7 +93,7 @@ impl ClosedName for LinuxSchedulerPolicy {
 impl OciMember for LinuxSchedulerPolicy {
     ghost use Rattle.std.specs.Prelude.{refl};
     ghost use Rattle.oci_json_schema.specs.Shape.{named};
-    ghost use Rattle.oci_text_closed.specs.ClosedNames.{same_variants, variant_plain};
+    ghost use Rattle.oci_json_schema.specs.ClosedNames.{same_variants, variant_plain};
     ghost use Rattle.oci_process_texts.specs.LinuxSchedulerPolicy.{linux_scheduler_policy_same, linux_scheduler_policy_table};
 
     ghost shape = { named linux_scheduler_policy_table };

@@ -3,9 +3,8 @@ ghost use Rattle.std.specs.Prelude.{◌≡◌, IfOk, IfErr};
 ghost use Rattle.oci_process_texts.specs.declared.posix_rlimit_type.PosixRlimitType.{PosixRlimitType};
 ghost use Rattle.oci_process_texts.specs.PosixRlimitType.{posix_rlimit_type_name};
 
-use oci_json_schema::OciMember;
+use oci_json_schema::{ClosedName, OciMember, parse_name, read_name, write_name};
 use oci_text_base::{Result, UnknownName};
-use oci_text_closed::{ClosedName, parse_name, read_name, write_name};
 use serde_json::Value;
 use std::alloc::Global;
 use std::fmt;
@@ -130,7 +129,7 @@ impl ClosedName for PosixRlimitType {
 impl OciMember for PosixRlimitType {
     ghost use Rattle.std.specs.Prelude.{refl};
     ghost use Rattle.oci_json_schema.specs.Shape.{named};
-    ghost use Rattle.oci_text_closed.specs.ClosedNames.{same_variants, variant_plain};
+    ghost use Rattle.oci_json_schema.specs.ClosedNames.{same_variants, variant_plain};
     ghost use Rattle.oci_process_texts.specs.PosixRlimitType.{posix_rlimit_type_same, posix_rlimit_type_table};
 
     ghost shape = { named posix_rlimit_type_table };

@@ -5,14 +5,12 @@
 pub mod spec_builder;
 pub mod versions;
 
-pub use oci_runtime_lifecycle::{
-    ContainerProcessState, ContainerProcessStateBuilder, ContainerState, Hook, HookBuilder, Hooks,
-    HooksBuilder, SECCOMP_FD_NAME, State, StateBuilder,
-};
-pub use oci_runtime_mounts::{
-    Mount, MountBuilder, Root, RootBuilder, get_default_mounts, get_rootless_mounts,
-};
 pub use oci_runtime_parts::Answer;
+pub use oci_runtime_records::{
+    ContainerProcessState, ContainerProcessStateBuilder, ContainerState, Hook, HookBuilder, Hooks,
+    HooksBuilder, Mount, MountBuilder, Root, RootBuilder, SECCOMP_FD_NAME, State, StateBuilder,
+    get_default_mounts, get_rootless_mounts,
+};
 pub use oci_runtime_spec::Spec;
 pub use spec_builder::SpecBuilder;
 pub use versions::{VERSION, VERSION_DEV, VERSION_MAJOR, VERSION_MINOR, VERSION_PATCH, version};

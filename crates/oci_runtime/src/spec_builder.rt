@@ -7,9 +7,8 @@ use oci_linux_namespaces::LinuxIdMapping;
 use oci_platforms::{Solaris, VM, ZOS};
 use oci_platforms_windows::Windows;
 use oci_process::Process;
-use oci_runtime_lifecycle::Hooks;
-use oci_runtime_mounts::{Mount, Root, get_default_mounts};
 use oci_runtime_parts::text_of;
+use oci_runtime_records::{Hooks, Mount, Root, get_default_mounts};
 use oci_runtime_spec::{Spec, bare};
 use oci_text_base::{OciSpecError, Result};
 use std::alloc::Global;
@@ -39,10 +38,10 @@ impl SpecBuilder {
     ghost use Rattle.std.specs.Prelude.{Some, unwrap_or, option_map, codes};
     ghost use Rattle.oci_json_schema.specs.Plain as plain;
     ghost use Rattle.oci_json_schema.specs.Plain.{filled};
-    ghost use Rattle.oci_runtime_mounts.specs.DefaultMounts.{default_mounts};
+    ghost use Rattle.oci_runtime_records.specs.DefaultMounts.{default_mounts};
     ghost use Rattle.oci_json_schema.specs.Types.{perhaps, text_plain, list_plain, map_plain};
-    ghost use Rattle.oci_runtime_mounts.specs.Root.{root_plain, default_root};
-    ghost use Rattle.oci_runtime_mounts.specs.Mount.{mount_plain};
+    ghost use Rattle.oci_runtime_records.specs.Root.{root_plain, default_root};
+    ghost use Rattle.oci_runtime_records.specs.Mount.{mount_plain};
     ghost use Rattle.oci_process.specs.Process.{process_plain, default_process};
     ghost use Rattle.oci_linux.specs.Linux.{linux_plain, default_linux};
 

@@ -1,2 +1,4 @@
 pub mod Answers
 pub mod Canonical
+pub mod Defaults
+pub mod DeviceRule

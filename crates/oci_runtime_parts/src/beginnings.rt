@@ -1,13 +1,13 @@
 //! The version, root and mounts with which the configuration of a container begins.
 ghost use Rattle.std.specs.Prelude.{◌≡◌, IfOk, IfErr, codes, string_bytes};
 ghost use Rattle.oci_json_schema.specs.Types.{list_plain};
-ghost use Rattle.oci_runtime_mounts.specs.Root.{root_plain, default_root};
-ghost use Rattle.oci_runtime_mounts.specs.Mount.{mount_plain};
-ghost use Rattle.oci_runtime_mounts.specs.DefaultMounts.{rootless_mounts};
+ghost use Rattle.oci_runtime_records.specs.Root.{root_plain, default_root};
+ghost use Rattle.oci_runtime_records.specs.Mount.{mount_plain};
+ghost use Rattle.oci_runtime_records.specs.DefaultMounts.{rootless_mounts};
 
 use crate::texts::text_of;
 use oci_json_schema::all_3;
-use oci_runtime_mounts::{Mount, Root, get_rootless_mounts};
+use oci_runtime_records::{Mount, Root, get_rootless_mounts};
 use oci_text_base::{OciSpecError, Result};
 use std::alloc::Global;
 

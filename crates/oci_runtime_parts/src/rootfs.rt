@@ -6,7 +6,7 @@ ghost use Rattle.oci_runtime_parts.specs.Answers.{Answered};
 ghost use Rattle.oci_runtime_parts.specs.Canonical.{is_absolute, joined, Resolves, Stops};
 
 use crate::answer::Answer;
-use oci_runtime_mounts::Root;
+use oci_runtime_records::Root;
 use oci_text_base::{OciSpecError, Result};
 use std::alloc::{AllocError, Global};
 

@@ -4,8 +4,8 @@ use Rattle.oci_json_schema.specs.Plain as plain
 use Rattle.oci_json_schema.specs.Plain.{Plain, document, slots, empty, filled}
 use Rattle.oci_process.specs.Process.{default_process}
 use Rattle.oci_linux.specs.Rootless.{rootless_linux}
-use Rattle.oci_runtime_mounts.specs.DefaultMounts.{rootless_mounts}
-use Rattle.oci_runtime_mounts.specs.Root.{default_root}
+use Rattle.oci_runtime_records.specs.DefaultMounts.{rootless_mounts}
+use Rattle.oci_runtime_records.specs.Root.{default_root}
 
 -- the default, but with the rootless mounts and the rootless Linux part
 abbrev pub rootless_spec : ℕ → ℕ → Plain

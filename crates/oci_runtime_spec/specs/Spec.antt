@@ -8,18 +8,18 @@ use Rattle.oci_json_schema.specs.Plain.{Plain, document, slots, empty, filled}
 use Rattle.oci_json_schema.specs.Shape.{Shape, rows, no_rows, listed, optional, defaulted, text, list, map}
 use Rattle.oci_json_schema.specs.Types.{given, perhaps, text_plain, list_plain, map_plain}
 use Rattle.oci_json_schema.specs.Lent.{text_row, option_row, list_row, map_row}
-use Rattle.oci_runtime_mounts.specs.Root.{root, root_plain, default_root}
-use Rattle.oci_runtime_mounts.specs.declared.root.Root.{Root}
-use Rattle.oci_runtime_mounts.specs.contracts.root.Root as root
-use Rattle.oci_runtime_mounts.specs.Mount.{mount, mount_plain}
-use Rattle.oci_runtime_mounts.specs.declared.mount.Mount.{Mount}
-use Rattle.oci_runtime_mounts.specs.contracts.mount.Mount as mount
+use Rattle.oci_runtime_records.specs.Root.{root, root_plain, default_root}
+use Rattle.oci_runtime_records.specs.declared.root.Root.{Root}
+use Rattle.oci_runtime_records.specs.contracts.root.Root as root
+use Rattle.oci_runtime_records.specs.Mount.{mount, mount_plain}
+use Rattle.oci_runtime_records.specs.declared.mount.Mount.{Mount}
+use Rattle.oci_runtime_records.specs.contracts.mount.Mount as mount
 use Rattle.oci_process.specs.Process.{process, process_plain, default_process}
 use Rattle.oci_process.specs.declared.process.Process.{Process}
 use Rattle.oci_process.specs.contracts.process.Process as process
-use Rattle.oci_runtime_lifecycle.specs.Hooks.{hooks, hooks_plain}
-use Rattle.oci_runtime_lifecycle.specs.declared.hooks.Hooks.{Hooks}
-use Rattle.oci_runtime_lifecycle.specs.contracts.hooks.Hooks as hooks
+use Rattle.oci_runtime_records.specs.Hooks.{hooks, hooks_plain}
+use Rattle.oci_runtime_records.specs.declared.hooks.Hooks.{Hooks}
+use Rattle.oci_runtime_records.specs.contracts.hooks.Hooks as hooks
 use Rattle.oci_linux.specs.Linux.{linux, linux_plain, default_linux}
 use Rattle.oci_linux.specs.declared.linux.Linux.{Linux}
 use Rattle.oci_linux.specs.contracts.linux.Linux as linux
@@ -38,7 +38,7 @@ use Rattle.oci_platforms.specs.contracts.zos.ZOS as zos
 use Rattle.oci_linux_namespaces.specs.LinuxIdMapping.{linux_id_mapping, linux_id_mapping_plain}
 use Rattle.oci_linux_namespaces.specs.declared.linux_id_mapping.LinuxIdMapping.{LinuxIdMapping}
 use Rattle.oci_linux_namespaces.specs.contracts.linux_id_mapping.LinuxIdMapping as linux_id_mapping
-use Rattle.oci_runtime_mounts.specs.DefaultMounts.{default_mounts}
+use Rattle.oci_runtime_records.specs.DefaultMounts.{default_mounts}
 use Rattle.oci_runtime_spec.specs.declared.spec.Spec.{Spec}
 use Rattle.oci_runtime_spec.specs.contracts.spec.Spec.{the_row}
 

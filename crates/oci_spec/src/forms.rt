@@ -12,12 +12,10 @@ macro_rules! row {
 }
 
 pub mod cgroups;
-pub mod cgroups_devices;
 pub mod cgroups_network;
 pub mod distribution;
 pub mod features;
-pub mod features_linux;
-pub mod image_config;
+pub mod image;
 pub mod image_descriptor;
 pub mod image_manifest;
 pub mod image_platform;
@@ -30,11 +28,9 @@ pub mod normal;
 pub mod platforms;
 pub mod platforms_windows;
 pub mod pretty;
-mod process;
-pub mod process_parts;
+pub mod process;
 pub mod reference;
-pub mod runtime_lifecycle;
-pub mod runtime_mounts;
+pub mod runtime_records;
 mod runtime_spec;
 pub mod tabled;
 

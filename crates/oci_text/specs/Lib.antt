@@ -1,10 +1,3 @@
-pub use Rattle.oci_text_base.specs.Classes
-pub use Rattle.oci_text_base.specs.CpuList
-pub use Rattle.oci_text_base.specs.Digest
-pub use Rattle.oci_text_base.specs.Names
-pub use Rattle.oci_text_base.specs.Refused
-pub use Rattle.oci_text_closed.specs.ClosedNames
-pub use Rattle.oci_text_closed.specs.Variants
 pub mod Algorithms
 pub mod Arch
 pub mod CutDigests
@@ -13,3 +6,10 @@ pub mod ErrorCode
 pub mod Faults
 pub mod MediaType
 pub mod Os
+pub use Rattle.oci_json_schema.specs.ClosedNames
+pub use Rattle.oci_json_schema.specs.Variants
+pub use Rattle.oci_text_base.specs.Classes
+pub use Rattle.oci_text_base.specs.CpuList
+pub use Rattle.oci_text_base.specs.Digest
+pub use Rattle.oci_text_base.specs.Names
+pub use Rattle.oci_text_base.specs.Refused

@@ -1,12 +1,13 @@
 //! The builder of `LinuxResources`.
 ghost use Rattle.std.specs.Prelude.{◌≡◌, IfOk, IfErr};
 
+use crate::linux_block_io::LinuxBlockIo;
 use crate::linux_cpu::LinuxCpu;
+use crate::linux_device_cgroup::LinuxDeviceCgroup;
 use crate::linux_hugepage_limit::LinuxHugepageLimit;
 use crate::linux_memory::LinuxMemory;
 use crate::linux_pids::LinuxPids;
 use crate::linux_resources::LinuxResources;
-use oci_cgroups_devices::{LinuxBlockIo, LinuxDeviceCgroup};
 use oci_cgroups_network::{LinuxNetwork, LinuxRdma};
 use oci_text_base::{OciSpecError, Result};
 use std::alloc::Global;

@@ -1,10 +1,15 @@
 //! The builder of `LinuxFeature`.
 ghost use Rattle.std.specs.Prelude.{◌≡◌, IfOk, IfErr};
 
+use crate::apparmor::Apparmor;
+use crate::cgroup::Cgroup;
+use crate::intel_rdt::IntelRdt;
 use crate::linux_feature::LinuxFeature;
-use oci_features_linux::{
-    Apparmor, Cgroup, IntelRdt, MemoryPolicy, MountExtensions, NetDevices, Seccomp, Selinux,
-};
+use crate::memory_policy::MemoryPolicy;
+use crate::mount_extensions::MountExtensions;
+use crate::net_devices::NetDevices;
+use crate::seccomp::Seccomp;
+use crate::selinux::Selinux;
 use oci_linux_names::LinuxNamespaceType;
 use oci_text_base::{OciSpecError, Result};
 use std::alloc::Global;

@@ -7,9 +7,11 @@ use oci_cgroups::LinuxResources;
 use oci_json_schema::all_4;
 use oci_linux_namespaces::{
     LinuxDevice, LinuxIdMapping, LinuxNamespace, LinuxNetDevice, LinuxTimeOffset,
-    get_default_maskedpaths, get_default_namespaces, get_default_readonly_paths,
 };
 use oci_linux_policies::{LinuxIntelRdt, LinuxMemoryPolicy, LinuxPersonality, LinuxSeccomp};
+use oci_runtime_parts::{
+    get_default_maskedpaths, get_default_namespaces, get_default_readonly_paths,
+};
 use oci_text_base::{OciSpecError, Result};
 use std::alloc::Global;
 use std::collections::BTreeMap;
@@ -39,7 +41,7 @@ pub struct LinuxBuilder {
 impl LinuxBuilder {
     ghost use Rattle.std.specs.Prelude.{Some, unwrap_or, option_map};
     ghost use Rattle.oci_json_schema.specs.Plain.{filled};
-    ghost use Rattle.oci_linux_namespaces.specs.Defaults.{default_masked_paths, default_namespaces, default_readonly_paths};
+    ghost use Rattle.oci_runtime_parts.specs.Defaults.{default_masked_paths, default_namespaces, default_readonly_paths};
     ghost use Rattle.oci_linux.specs.DefaultResources.{default_resources};
     ghost use Rattle.oci_json_schema.specs.Types.{perhaps, text_plain, list_plain};
     ghost use Rattle.oci_cgroups.specs.LinuxResources.{linux_resources_plain};

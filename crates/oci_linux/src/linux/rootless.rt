@@ -7,9 +7,9 @@ ghost use Rattle.oci_linux_namespaces.specs.LinuxIdMapping.{linux_id_mapping_pla
 
 use super::Linux;
 use oci_json_schema::all_5;
-use oci_linux_namespaces::{
-    LinuxIdMapping, LinuxIdMappingBuilder, get_default_maskedpaths, get_default_readonly_paths,
-    get_rootless_namespaces,
+use oci_linux_namespaces::{LinuxIdMapping, LinuxIdMappingBuilder};
+use oci_runtime_parts::{
+    get_default_maskedpaths, get_default_readonly_paths, get_rootless_namespaces,
 };
 use oci_text_base::{OciSpecError, Result};
 use std::alloc::Global;

@@ -1,12 +1,16 @@
 //! The builder of `Process`.
 ghost use Rattle.std.specs.Prelude.{◌≡◌, IfOk, IfErr};
 
+use crate::console_box::Box;
+use crate::exec_cpu_affinity::ExecCPUAffinity;
+use crate::linux_capabilities::LinuxCapabilities;
+use crate::linux_io_priority::LinuxIOPriority;
+use crate::posix_rlimit::PosixRlimit;
 use crate::process::Process;
 use crate::process_defaults::{default_args, default_cwd, default_env, default_rlimits};
+use crate::scheduler::Scheduler;
+use crate::user::User;
 use oci_json_schema::{all_2, all_3};
-use oci_process_parts::{
-    Box, ExecCPUAffinity, LinuxCapabilities, LinuxIOPriority, PosixRlimit, Scheduler, User,
-};
 use oci_text_base::{OciSpecError, Result};
 use std::alloc::Global;
 
@@ -37,9 +41,9 @@ impl ProcessBuilder {
     ghost use Rattle.oci_json_schema.specs.Plain.{filled};
     ghost use Rattle.oci_process.specs.ProcessDefaults.{default_args, default_cwd, default_env, default_rlimits};
     ghost use Rattle.oci_json_schema.specs.Types.{perhaps, text_plain, truth_plain, list_plain};
-    ghost use Rattle.oci_process_parts.specs.User.{user_plain, default_user};
-    ghost use Rattle.oci_process_parts.specs.LinuxCapabilities.{linux_capabilities_plain, default_linux_capabilities};
-    ghost use Rattle.oci_process_parts.specs.PosixRlimit.{posix_rlimit_plain};
+    ghost use Rattle.oci_process.specs.User.{user_plain, default_user};
+    ghost use Rattle.oci_process.specs.LinuxCapabilities.{linux_capabilities_plain, default_linux_capabilities};
+    ghost use Rattle.oci_process.specs.PosixRlimit.{posix_rlimit_plain};
 
     /// Whether the process has a terminal.
     pub fn terminal(self, terminal: bool) -> Self

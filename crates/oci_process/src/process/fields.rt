@@ -2,9 +2,13 @@
 ghost use Rattle.std.specs.Prelude.{◌≡◌};
 
 use super::Process;
-use oci_process_parts::{
-    Box, ExecCPUAffinity, LinuxCapabilities, LinuxIOPriority, PosixRlimit, Scheduler, User,
-};
+use crate::console_box::Box;
+use crate::exec_cpu_affinity::ExecCPUAffinity;
+use crate::linux_capabilities::LinuxCapabilities;
+use crate::linux_io_priority::LinuxIOPriority;
+use crate::posix_rlimit::PosixRlimit;
+use crate::scheduler::Scheduler;
+use crate::user::User;
 
 impl Process {
     ghost use Rattle.std.specs.Borrow.{sem};

@@ -7,8 +7,7 @@ use oci_linux_namespaces::LinuxIdMapping;
 use oci_platforms::{Solaris, VM, ZOS};
 use oci_platforms_windows::Windows;
 use oci_process::Process;
-use oci_runtime_lifecycle::Hooks;
-use oci_runtime_mounts::{Mount, Root};
+use oci_runtime_records::{Hooks, Mount, Root};
 use std::collections::BTreeMap;
 
 impl Spec {

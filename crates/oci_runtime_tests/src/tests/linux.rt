@@ -1,7 +1,7 @@
 //! The default of the Linux part, with and without privileges; its names and what is displayed.
 
 use super::{check_is, check_written};
-use oci_cgroups::{LinuxDeviceCgroupBuilder, LinuxInterfacePriorityBuilder};
+use oci_cgroups::{LinuxDeviceCgroup, LinuxDeviceCgroupBuilder, LinuxInterfacePriorityBuilder};
 use oci_linux::{Linux, LinuxDeviceBuilder, LinuxMemoryPolicyBuilder, cgroup_of};
 use oci_linux_names::{
     LinuxDeviceType, LinuxNamespaceType, LinuxSeccompAction, MemoryPolicyModeType, SArch,
@@ -51,6 +51,11 @@ fn linux(rt: HostRuntime) {
     check_written(&rt, alloc, Linux::rootless(alloc, 1000, 100), ROOTLESS);
 }
 
+/// What a rule displays.
+fn check_rule(rt: &impl Abort, alloc: Global, rule: Result<LinuxDeviceCgroup>, text: &str) {
+    check_shown(rt, alloc, &rule.expect(rt, text), text);
+}
+
 #[test]
 fn lines_of_control_groups(rt: HostRuntime) {
     let alloc = rt.alloc();
@@ -59,21 +64,21 @@ fn lines_of_control_groups(rt: HostRuntime) {
         .major(1)
         .minor(3);
     let device = device.build(alloc).expect(&rt, "c");
-    let rule = cgroup_of(alloc, &device).expect(&rt, "rule");
-    check_shown(&rt, alloc, &rule, "c 1:3 rwm");
-    let rule = LinuxDeviceCgroupBuilder::default().build(alloc);
-    check_shown(&rt, alloc, &rule.expect(&rt, "a"), "a *:* ");
+    check_rule(&rt, alloc, cgroup_of(alloc, &device), "c 1:3 rwm");
+    let rule = LinuxDeviceCgroupBuilder::default();
+    check_rule(&rt, alloc, rule.build(alloc), "a *:* ");
     let rule = LinuxDeviceCgroupBuilder::default().major(-1).minor(9);
-    check_shown(&rt, alloc, &rule.build(alloc).expect(&rt, "a"), "a -1:9 ");
+    check_rule(&rt, alloc, rule.build(alloc), "a -1:9 ");
+}
+
+#[test]
+fn priorities(rt: HostRuntime) {
+    let alloc = rt.alloc();
     let priority = LinuxInterfacePriorityBuilder::default()
         .name(String::from_str(alloc, "eth0").expect(&rt, "eth0"))
         .priority(7);
-    check_shown(
-        &rt,
-        alloc,
-        &priority.build(alloc).expect(&rt, "eth0"),
-        "eth0 7\n",
-    );
+    let priority = priority.build(alloc).expect(&rt, "eth0");
+    check_shown(&rt, alloc, &priority, "eth0 7\n");
 }
 
 #[test]

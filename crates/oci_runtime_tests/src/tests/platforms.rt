@@ -26,42 +26,48 @@ fn credential(
     values
 }
 
+/// Windows with a credential of one value.
+fn windows(rt: &impl Abort, alloc: Global, value: Option<Value>) -> Windows {
+    let values = credential(rt, alloc, value);
+    WindowsBuilder::default()
+        .credential_spec(values)
+        .build(alloc)
+        .expect(rt, "a credential")
+}
+
 /// A null that code sets as a value is written as null, and read back as none.
 #[test]
 fn null_credentials(rt: HostRuntime) {
     let alloc = rt.alloc();
-    let values = credential(&rt, alloc, Some(Value::Null));
-    let set = WindowsBuilder::default().credential_spec(values);
-    let set = set.build(alloc).expect(&rt, "null");
+    let set = windows(&rt, alloc, Some(Value::Null));
     let text = r#"{"credentialSpec":{"a":null}}"#;
     check_copy(&rt, alloc, &set, set.clone(alloc), text);
-    let values = credential(&rt, alloc, None);
-    let none = WindowsBuilder::default().credential_spec(values);
-    let none = none.build(alloc).expect(&rt, "none");
     let value = set.to_value(alloc).expect(&rt, text);
     let read = Windows::from_value(alloc, &value).expect(&rt, text);
-    check_is(&rt, &read, &none);
+    check_is(&rt, &read, &windows(&rt, alloc, None));
     check_is(&rt, &(read == set), &false);
+}
+
+/// Where writing a document breaks its schema.
+fn place(alloc: Global, document: &Windows) -> (&'static str, &'static str) {
+    match to_string(document, alloc) {
+        Err(OciSpecError::SerDe(SerDeError::Schema(fault))) => (fault.owner, fault.member),
+        _ => ("", ""),
+    }
+}
+
+fn of_number(rt: &impl Abort, alloc: Global, text: &str) -> Windows {
+    let value = Value::from_str(alloc, text).expect(rt, text);
+    windows(rt, alloc, Some(value))
 }
 
 /// A number that is no 64-bit whole one is not written, and counts as equal to any other such number.
 #[test]
 fn other_numbers_in_credentials(rt: HostRuntime) {
     let alloc = rt.alloc();
-    let number = Value::from_str(alloc, "[1.5]").expect(&rt, "a number");
-    let values = credential(&rt, alloc, Some(number));
-    let windows = WindowsBuilder::default().credential_spec(values);
-    let windows = windows.build(alloc).expect(&rt, "a number");
-    let place = match to_string(&windows, alloc) {
-        Err(OciSpecError::SerDe(SerDeError::Schema(fault))) => (fault.owner, fault.member),
-        _ => ("", ""),
-    };
-    check_is(&rt, &place, &("Windows", "credentialSpec"));
-    let other = Value::from_str(alloc, "[1e300]").expect(&rt, "another");
-    let values = credential(&rt, alloc, Some(other));
-    let others = WindowsBuilder::default().credential_spec(values);
-    let others = others.build(alloc).expect(&rt, "another");
-    check_is(&rt, &windows, &others);
+    let windows = of_number(&rt, alloc, "[1.5]");
+    check_is(&rt, &place(alloc, &windows), &("Windows", "credentialSpec"));
+    check_is(&rt, &windows, &of_number(&rt, alloc, "[1e300]"));
 }
 
 static NAMESPACES: [(&str, Result<ZOSNamespaceType, &str>); 7] = [

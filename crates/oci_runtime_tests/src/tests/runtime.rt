@@ -1,23 +1,14 @@
-//! Specifications and states in files, by default, and with a root that is made canonical.
+//! Mounts with mappings, and a root whose path is made canonical.
 
-use super::{check_copy, check_is, check_written};
-use oci_linux_namespaces::LinuxIdMappingBuilder;
-use oci_runtime::{MountBuilder, Root, Spec, SpecBuilder, State, version};
+use super::{check_is, check_written};
+use oci_linux_namespaces::{LinuxIdMapping, LinuxIdMappingBuilder};
+use oci_runtime_parts::{Answer, canonicalize};
+use oci_runtime_records::{MountBuilder, Root};
 use oci_text_base::{OciSpecError, Result};
 use std::alloc::Global;
 use std::process::Abort;
 
-#[test]
-fn states(rt: HostRuntime) {
-    let alloc = rt.alloc();
-    let state = State::try_default(alloc).expect(&rt, "the default");
-    state.save(&rt, alloc, "state.json").expect(&rt, "saving");
-    let loaded = State::load(&rt, alloc, "state.json");
-    let text = r#"{"bundle":"","id":"","ociVersion":"","status":"stopped"}"#;
-    check_copy(&rt, alloc, &state, loaded, text);
-}
-
-fn one_mapping(rt: &impl Abort, alloc: Global) -> Vec<oci_linux_namespaces::LinuxIdMapping> {
+fn one_mapping(rt: &impl Abort, alloc: Global) -> Vec<LinuxIdMapping> {
     let mut listed = Vec::new(alloc);
     let mapping = LinuxIdMappingBuilder::default()
         .size(1)
@@ -56,26 +47,30 @@ fn mappings(rt: HostRuntime) {
     );
 }
 
-/// A specification with a root of this path, of which nothing else is told.
-fn rooted(rt: &impl Abort, alloc: Global, path: &str, readonly: Option<bool>) -> Spec {
+/// A root of this path.
+fn rooted(rt: &impl Abort, alloc: Global, path: &str, readonly: Option<bool>) -> Option<Root> {
     let mut root = Root::try_default(alloc).expect(rt, "a root");
     let path = String::from_str(alloc, path).expect(rt, "room");
     root.set_path(path).set_readonly(readonly);
-    SpecBuilder::default()
-        .root(root)
-        .build(alloc)
-        .expect(rt, "a specification")
+    Some(root)
 }
 
-/// What becomes of a root's path and `readonly`, by a bundle and what the resolver answers.
-macro_rules! check_root {
-    ($rt:expr, $path:expr, $readonly:expr, $bundle:expr, $resolver:expr, $root:expr) => {{
-        let alloc = $rt.alloc();
-        let mut spec = rooted(&$rt, alloc, $path, $readonly);
-        spec.canonicalize_rootfs(alloc, $bundle, &$resolver).expect(&$rt, $root);
-        let root = spec.root().as_ref().expect(&$rt, $root);
-        check_written(&$rt, alloc, root.clone(alloc), $root);
-    }};
+/// A root's path and `readonly`, a bundle, and what becomes of the root.
+type Row<'a> = (&'a str, Option<bool>, &'a str, &'a str);
+
+/// What becomes of a root, by what the resolver answers.
+fn check_root<R: Answer, F: Fn(&str) -> R>(
+    rt: &impl Abort,
+    alloc: Global,
+    row: Row<'_>,
+    resolver: &F,
+)
+    requires { F.IsAlwaysCallable resolver.now }
+{
+    let (path, readonly, bundle, text) = row;
+    let mut root = rooted(rt, alloc, path, readonly);
+    canonicalize(&mut root, alloc, bundle, resolver).expect(rt, text);
+    check_written(rt, alloc, Ok(root.expect(rt, text)), text);
 }
 
 /// What it is asked for, in brackets: so an answer shows all that was asked for, in order.
@@ -105,79 +100,53 @@ fn roots(rt: HostRuntime) {
     let same = |asked: &str| -> Result<String> { Ok(String::from_str(alloc, asked)?) };
     let told = |asked: &str| -> Result<String> { bracketed(alloc, asked) };
     let empty = |asked: &str| -> Result<String> { without_bundle(alloc, asked) };
-    check_root!(
-        rt,
+    let row = (
         "rootfs",
         None,
         "/b",
-        same,
-        r#"{"path":"/b/rootfs","readonly":false}"#
+        r#"{"path":"/b/rootfs","readonly":false}"#,
     );
-    check_root!(
-        rt,
+    check_root(&rt, alloc, row, &same);
+    let row = (
         "rootfs",
         None,
         "/b",
-        told,
-        r#"{"path":"<</b>/rootfs>","readonly":false}"#
+        r#"{"path":"<</b>/rootfs>","readonly":false}"#,
     );
-    check_root!(
-        rt,
-        "/r",
-        Some(true),
-        "/b",
-        told,
-        r#"{"path":"</r>","readonly":true}"#
-    );
-    check_root!(
-        rt,
+    check_root(&rt, alloc, row, &told);
+    let row = ("/r", Some(true), "/b", r#"{"path":"</r>","readonly":true}"#);
+    check_root(&rt, alloc, row, &told);
+    let row = (
         "rootfs",
         None,
         "/b/",
-        same,
-        r#"{"path":"/b/rootfs","readonly":false}"#
+        r#"{"path":"/b/rootfs","readonly":false}"#,
     );
-    check_root!(
-        rt,
+    check_root(&rt, alloc, row, &same);
+    let row = (
         "rootfs",
         None,
         "/b",
-        empty,
-        r#"{"path":"<rootfs>","readonly":false}"#
+        r#"{"path":"<rootfs>","readonly":false}"#,
     );
+    check_root(&rt, alloc, row, &empty);
 }
 
 #[test]
 fn refused_roots(rt: HostRuntime) {
     let alloc = rt.alloc();
     let refusing = |asked: &str| -> Result<String> { bundle_alone(alloc, asked) };
-    let mut spec = rooted(&rt, alloc, "rootfs", None);
-    let kept = spec.clone(alloc).expect(&rt, "a copy");
+    let mut root = rooted(&rt, alloc, "rootfs", None);
     check_other(
         &rt,
-        spec.canonicalize_rootfs(alloc, "/b", &refusing),
+        canonicalize(&mut root, alloc, "/b", &refusing),
         "/b/rootfs",
     );
-    check_other(&rt, spec.canonicalize_rootfs(alloc, "/c", &refusing), "/c");
-    assert!(rt; spec == kept, "a refused root");
-    spec.set_root(None);
-    let text = "no root path provided for canonicalization";
-    check_other(&rt, spec.canonicalize_rootfs(alloc, "/b", &refusing), text);
-}
-
-#[test]
-fn specifications(rt: HostRuntime) {
-    let alloc = rt.alloc();
-    let spec = Spec::try_default(alloc).expect(&rt, "the default");
-    spec.save(&rt, alloc, "config.json").expect(&rt, "saving");
-    let loaded = Spec::load(&rt, alloc, "config.json").expect(&rt, "loading");
-    assert!(rt; spec == loaded, "what was saved is loaded");
-    let rootless = Spec::rootless(alloc, 1000, 1000).expect(&rt, "the rootless one");
-    assert!(rt; spec != rootless, "the rootless one is another");
+    check_other(&rt, canonicalize(&mut root, alloc, "/c", &refusing), "/c");
     assert!(rt;
-        spec.process() == rootless.process(),
-        "its process is the default"
+        root == rooted(&rt, alloc, "rootfs", None),
+        "a refused root"
     );
-    assert!(rt; spec.root() == rootless.root(), "its root is the default");
-    check_is(&rt, &version(alloc).expect(&rt, "room").as_str(), &"1.1.0");
+    let text = "no root path provided for canonicalization";
+    check_other(&rt, canonicalize(&mut None, alloc, "/b", &refusing), text);
 }

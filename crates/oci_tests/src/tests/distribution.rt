@@ -3,7 +3,7 @@
 use super::{check, string};
 use oci_distribution::{
     ErrorCode, ErrorInfo, ErrorInfoBuilder, ErrorResponse, ErrorResponseBuilder, RepositoryList,
-    RepositoryListBuilder, TagList, TagListBuilder, version,
+    RepositoryListBuilder, TagList, TagListBuilder,
 };
 use oci_json_engines::to_string;
 use oci_json_schema::OciRecord;
@@ -69,9 +69,4 @@ fn lists(rt: HostRuntime) {
     check_document(&rt, alloc, &copy, r#"{"repositories":["busybox"]}"#);
     let copy = tags(&rt, alloc).clone(alloc).expect(&rt, "memory");
     check_document(&rt, alloc, &copy, r#"{"name":"busybox","tags":["latest"]}"#);
-}
-
-#[test]
-fn versions(rt: HostRuntime) {
-    check(&rt, "version", &version(rt.alloc()), Ok("1.0.0"));
 }

@@ -2,7 +2,6 @@
 //! documents do is run in `oci_vectors`.
 
 use super::check_text;
-use oci_image::version;
 use oci_json_engines::to_string;
 use oci_json_schema::OciRecord;
 use oci_text_base::Result;
@@ -20,10 +19,4 @@ fn check(rt: &impl Abort, found: Result<String>, expected: &str) {
 /// An answer is a document of this compact text.
 fn check_document<T: OciRecord>(rt: &impl Abort, alloc: Global, made: Result<T>, expected: &str) {
     check(rt, to_string(&made.expect(rt, expected), alloc), expected);
-}
-
-/// The version of the specification.
-#[test]
-fn versions(rt: HostRuntime) {
-    check(&rt, version(rt.alloc()), "1.0.1");
 }

@@ -119,9 +119,25 @@ fn read(rt: &HostRuntime) -> Result<String> {
     to_string(&reply, rt.alloc())
 }
 
+/// The default specification, saved and loaded.
+fn loaded_spec(rt: &HostRuntime) -> Result<Spec> {
+    Spec::try_default(rt.alloc())?.save(rt, rt.alloc(), PATH)?;
+    Spec::load(rt, rt.alloc(), PATH)
+}
+
+/// The default state, saved and loaded.
+fn loaded_state(rt: &HostRuntime) -> Result<State> {
+    State::try_default(rt.alloc())?.save(rt, rt.alloc(), PATH)?;
+    State::load(rt, rt.alloc(), PATH)
+}
+
 /// All calls on files.
 pub fn all(desk: &mut Desk<'_>) -> std::result::Result<(), GaveUp> {
     writes(desk)?;
+    let spec = Spec::try_default(desk.rt.alloc());
+    desk.same("save and load", loaded_spec(desk.rt), spec);
+    let state = State::try_default(desk.rt.alloc());
+    desk.same("save and load", loaded_state(desk.rt), state);
     fs::write(desk.rt, PATH, REPLY)?;
     desk.answer("from_file", &read(desk.rt), Ok(REPLY));
     fs::remove_file(desk.rt, PATH)?;

@@ -1,4 +1,4 @@
-use Rattle.oci_text_closed.specs.Variants.{listed}
+use Rattle.oci_json_schema.specs.Variants.{listed}
 use Rattle.oci_process_texts.specs.Capability.{capability_name, capability_table, all_capability, capability_back}
 use Rattle.oci_json_form.proofs.Texts.{capability_told}
 use Rattle.oci_json_form.proofs.leaf.is_capability.Goals as goal

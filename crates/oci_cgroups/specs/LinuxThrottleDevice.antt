@@ -1,0 +1,31 @@
+-- The most that a container may read from or write to one device (runtime specification, "Linux Container Configuration", "Block IO").
+use Rattle.std.specs.Prelude.{[], ◌∷◌, codes, pos}
+use Rattle.oci_json_schema.specs.Plain as plain
+use Rattle.oci_json_schema.specs.Plain.{Plain, document, slots, filled}
+use Rattle.oci_json_schema.specs.Shape.{Shape, rows, no_rows, listed, defaulted}
+use Rattle.oci_json_schema.specs.Types.{given, number_plain, integer_plain, u64, i64}
+use Rattle.oci_cgroups.specs.declared.linux_throttle_device.LinuxThrottleDevice.{LinuxThrottleDevice}
+
+-- the members, in the order in which they are looked at
+abbrev pub linux_throttle_device : Shape
+linux_throttle_device = rows (
+    listed (codes "major") (defaulted (plain.whole (pos 0))) i64 (
+    listed (codes "minor") (defaulted (plain.whole (pos 0))) i64 (
+    listed (codes "rate") (defaulted (plain.whole (pos 0))) u64
+    no_rows)))
+
+-- the content of a document
+abbrev pub linux_throttle_device_plain : LinuxThrottleDevice → Plain
+linux_throttle_device_plain x = document (slots (
+    given integer_plain x.major
+    ∷ given integer_plain x.minor
+    ∷ given number_plain x.rate
+    ∷ []))
+
+-- the content of the default document
+abbrev pub default_linux_throttle_device : Plain
+default_linux_throttle_device = document (slots (
+    filled (plain.whole (pos 0))
+    ∷ filled (plain.whole (pos 0))
+    ∷ filled (plain.whole (pos 0))
+    ∷ []))

@@ -1,0 +1,33 @@
+-- Whether a runtime has AppArmor, whatever its host has (runtime specification, "Linux Features Structure", `apparmor`).
+use Rattle.std.specs.Prelude.{[], ◌∷◌, codes, Option, Bool}
+use Rattle.std.specs.Borrow.{Lends, MutBor, Fml}
+use Rattle.std.specs.declared.alloc.Global.{Global}
+use Rattle.oci_json_schema.specs.Plain.{Plain, document, slots, empty}
+use Rattle.oci_json_schema.specs.Shape.{Shape, rows, no_rows, listed, nullable, truth}
+use Rattle.oci_json_schema.specs.Types.{perhaps, truth_plain}
+use Rattle.oci_json_schema.specs.Lent.{option_row}
+use Rattle.std.specs.Borrow as borrow
+use Rattle.oci_features.specs.declared.apparmor.Apparmor.{Apparmor}
+use Rattle.oci_features.specs.contracts.apparmor.Apparmor.{the_row}
+
+-- the members, in the order in which they are looked at
+abbrev pub apparmor : Shape
+apparmor = rows (
+    listed (codes "enabled") nullable truth
+    no_rows)
+
+-- the content of a document
+abbrev pub apparmor_plain : Apparmor → Plain
+apparmor_plain x = document (slots (
+    perhaps truth_plain x.enabled
+    ∷ []))
+
+-- the content of the default document
+abbrev pub default_apparmor : Plain
+default_apparmor = document (slots (
+    empty
+    ∷ []))
+
+-- what a document becomes where its `enabled` is lent
+abbrev pub lends_enabled : MutBor Apparmor → MutBor (Option Bool) → Fml
+lends_enabled x r = Lends the_row (option_row borrow.bool) x r (λ w. record x.now { enabled = w })

@@ -1,0 +1,33 @@
+-- Whether a runtime has mounts with mapped IDs, whatever its host has (runtime specification, "Linux Features Structure", `mountExtensions`, `idmap`).
+use Rattle.std.specs.Prelude.{[], ◌∷◌, codes, Option, Bool}
+use Rattle.std.specs.Borrow.{Lends, MutBor, Fml}
+use Rattle.std.specs.declared.alloc.Global.{Global}
+use Rattle.oci_json_schema.specs.Plain.{Plain, document, slots, empty}
+use Rattle.oci_json_schema.specs.Shape.{Shape, rows, no_rows, listed, nullable, truth}
+use Rattle.oci_json_schema.specs.Types.{perhaps, truth_plain}
+use Rattle.oci_json_schema.specs.Lent.{option_row}
+use Rattle.std.specs.Borrow as borrow
+use Rattle.oci_features.specs.declared.id_map.IDMap.{IDMap}
+use Rattle.oci_features.specs.contracts.id_map.IDMap.{the_row}
+
+-- the members, in the order in which they are looked at
+abbrev pub id_map : Shape
+id_map = rows (
+    listed (codes "enabled") nullable truth
+    no_rows)
+
+-- the content of a document
+abbrev pub id_map_plain : IDMap → Plain
+id_map_plain x = document (slots (
+    perhaps truth_plain x.enabled
+    ∷ []))
+
+-- the content of the default document
+abbrev pub default_id_map : Plain
+default_id_map = document (slots (
+    empty
+    ∷ []))
+
+-- what a document becomes where its `enabled` is lent
+abbrev pub lends_enabled : MutBor IDMap → MutBor (Option Bool) → Fml
+lends_enabled x r = Lends the_row (option_row borrow.bool) x r (λ w. record x.now { enabled = w })

@@ -1,9 +1,0 @@
-pub mod Apparmor
-pub mod Cgroup
-pub mod IDMap
-pub mod IntelRdt
-pub mod MemoryPolicy
-pub mod MountExtensions
-pub mod NetDevices
-pub mod Seccomp
-pub mod Selinux

@@ -1,0 +1,24 @@
+use Rattle.std.proofs.Common.{codes, ap, ◌∙◌}
+use Rattle.serde_json.specs.Data.{object, put}
+use Rattle.serde_json.specs.View.{members_view}
+use Rattle.serde_json.proofs.Views.{view-Object}
+use Rattle.oci_json_schema.specs.Value.{with_member}
+use Rattle.oci_json_schema.proofs.Together.{answered, done}
+use Rattle.oci_image.proofs.image_configuration.ImageConfigurationOciRecord.to_value.Goals as goal
+
+pub returns-clause-ok : goal.returns-clause-ok
+returns-clause-ok c =
+    let first = answered _ _ _ c.in_ok-all_2.ensures.ok.0 c.all_5.ensures.ok in
+    let second = answered _ _ _ c.in_ok-all_2.ensures.ok.1 c.all_5-2.ensures.ok in
+    view-Object _ ∙ ap object (
+    done _ _ _ second.4 c.write_optional-7.ensures.ok ∙ ap (with_member (codes "history") _) (
+    done _ _ _ second.3 c.write_required-3.ensures.ok ∙ ap (put (codes "rootfs") _) (
+    done _ _ _ second.2 c.write_optional-6.ensures.ok ∙ ap (with_member (codes "config") _) (
+    done _ _ _ second.1 c.write_optional-5.ensures.ok ∙ ap (with_member (codes "variant") _) (
+    done _ _ _ second.0 c.write_optional-4.ensures.ok ∙ ap (with_member (codes "os.features") _) (
+    done _ _ _ first.4 c.write_optional-3.ensures.ok ∙ ap (with_member (codes "os.version") _) (
+    done _ _ _ first.3 c.write_required-2.ensures.ok ∙ ap (put (codes "os") _) (
+    done _ _ _ first.2 c.write_required.ensures.ok ∙ ap (put (codes "architecture") _) (
+    done _ _ _ first.1 c.write_optional-2.ensures.ok ∙ ap (with_member (codes "author") _) (
+    done _ _ _ first.0 c.write_optional.ensures.ok ∙ ap (with_member (codes "created") _) (
+    ap members_view c.new-members.ensures.empty)))))))))))

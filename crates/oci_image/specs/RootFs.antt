@@ -1,0 +1,36 @@
+-- The layers that make up an image's file system (image specification, "Image Configuration", `rootfs`).
+use Rattle.std.specs.Prelude.{[], ◌∷◌, codes, String, Vec}
+use Rattle.std.specs.Borrow.{Lends, MutBor, Fml}
+use Rattle.std.specs.declared.alloc.Global.{Global}
+use Rattle.oci_json_schema.specs.Plain as plain
+use Rattle.oci_json_schema.specs.Plain.{Plain, document, slots, filled, no_plains}
+use Rattle.oci_json_schema.specs.Shape.{Shape, rows, no_rows, listed, required, text, list}
+use Rattle.oci_json_schema.specs.Types.{given, text_plain, list_plain}
+use Rattle.oci_json_schema.specs.Lent.{text_row, list_row}
+use Rattle.oci_image.specs.declared.root_fs.RootFs.{RootFs}
+use Rattle.oci_image.specs.contracts.root_fs.RootFs.{the_row}
+
+-- the members, in the order in which they are looked at
+abbrev pub root_fs : Shape
+root_fs = rows (
+    listed (codes "type") required text (
+    listed (codes "diff_ids") required (list text)
+    no_rows))
+
+-- the content of a document
+abbrev pub root_fs_plain : RootFs → Plain
+root_fs_plain x = document (slots (
+    given text_plain x.typ
+    ∷ given (list_plain text_plain) x.diff_ids
+    ∷ []))
+
+-- the content of the default document
+abbrev pub default_root_fs : Plain
+default_root_fs = document (slots (
+    filled (plain.text (codes "layers"))
+    ∷ filled (plain.list plain.no_plains)
+    ∷ []))
+
+-- what a document becomes where its `diff_ids` is lent
+abbrev pub lends_diff_ids : MutBor RootFs → MutBor (Vec (String Global) Global) → Fml
+lends_diff_ids x r = Lends the_row (list_row text_row) x r (λ w. record x.now { diff_ids = w })

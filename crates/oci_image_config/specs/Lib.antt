@@ -1,4 +1,0 @@
-pub mod Config
-pub mod History
-pub mod ImageConfiguration
-pub mod RootFs

@@ -1,0 +1,38 @@
+//! What the builder of `ExecCPUAffinity` refuses.
+ghost use Rattle.std.specs.Prelude.{◌≡◌, ◌++◌, ◌⊎◌, ℕ, List, Some, IfOk, IfErr, codes, string_bytes};
+ghost use Rattle.oci_text_base.specs.Refused.{Says};
+ghost use Rattle.oci_process_texts.specs.Affinities.{AreLists, IsFirstOther};
+ghost use Rattle.oci_process.specs.RefusedAffinities.{affinity_refusal};
+
+use super::{ExecCPUAffinity, ExecCPUAffinityBuilder};
+use oci_process_texts::refused_affinity;
+use oci_text_base::{OciSpecError, Result};
+use std::alloc::{AllocError, Global};
+
+impl ExecCPUAffinityBuilder {
+    /// The document of the fields that were set. `Other` names the first text, `initial` before `cpu_affinity_final`, that
+    /// is no list of processors.
+    pub fn build(self, alloc: Global) -> Result<ExecCPUAffinity>
+        ensures built { IfOk result (λ x. self ≡ record { initial = x.initial; cpu_affinity_final = x.cpu_affinity_final }) }
+        ensures lists { IfOk result (λ x. AreLists self.initial self.cpu_affinity_final) }
+        ensures err { IfErr result (λ e. (e ≡ OciSpecError.Memory) ⊎ (text : List ℕ) × IsFirstOther self.initial self.cpu_affinity_final text × Says (affinity_refusal text) e) }
+    {
+        let ExecCPUAffinityBuilder {
+            initial,
+            cpu_affinity_final,
+        } = self;
+        if let Some(text) = refused_affinity(&initial, &cpu_affinity_final) {
+            return Err(OciSpecError::Other(refusal(alloc, text)?));
+        }
+        Ok(ExecCPUAffinity {
+            initial,
+            cpu_affinity_final,
+        })
+    }
+}
+
+fn refusal(alloc: Global, text: &str) -> std::result::Result<String, AllocError>
+    ensures { IfOk result (λ t. string_bytes t ≡ affinity_refusal text.now) }
+{
+    format!(in alloc; "Invalid execCPUAffinity format: {text}")
+}

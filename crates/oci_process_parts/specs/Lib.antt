@@ -1,9 +1,0 @@
-pub mod Box
-pub mod ExecCPUAffinity
-pub mod LinuxCapabilities
-pub mod LinuxIOPriority
-pub mod PosixRlimit
-pub mod RefusedAffinities
-pub mod Scheduler
-pub mod User
-pub use Rattle.oci_process_texts.specs.Affinities

@@ -1,4 +1,0 @@
-pub mod DefaultMounts
-pub mod Mount
-pub mod MountBuilder
-pub mod Root

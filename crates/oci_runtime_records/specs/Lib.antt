@@ -1,0 +1,10 @@
+pub mod ContainerProcessState
+pub mod ContainerState
+pub mod DefaultMounts
+pub mod DefaultState
+pub mod Hook
+pub mod Hooks
+pub mod Mount
+pub mod MountBuilder
+pub mod Root
+pub mod State

@@ -1,0 +1,38 @@
+//! A state as a member, which may be absent.
+ghost use Rattle.std.specs.Prelude.{None, IfOk, IfErr};
+ghost use Rattle.serde_json.specs.View.{view};
+ghost use Rattle.serde_json.specs.Find.{get};
+ghost use Rattle.oci_text_base.specs.Refused.{IsSchema, IsMemoryOrSchema};
+ghost use Rattle.oci_json_schema.specs.Shape as presence;
+ghost use Rattle.oci_json_schema.specs.Means.{Means, MeansMember};
+ghost use Rattle.oci_json_schema.specs.Refused.{RefusesRecords};
+ghost use Rattle.oci_json_schema.specs.Types.{given};
+ghost use Rattle.oci_runtime_records.specs.State.{state, state_plain, default_state};
+
+use crate::state::State;
+use oci_json_schema::OciMember;
+use oci_json_schema::fault::placed;
+use oci_text_base::Result;
+use serde_json::Value;
+use std::alloc::Global;
+
+/// Reads a member that may be absent, and then is the default state. Null is judged as any other value.
+#[tactic(auto, using(oci_json_kinds::proofs::Presences::defaulted_refused, oci_json_kinds::proofs::Presences::defaulted_means, oci_json_kinds::proofs::Presences::absent_means))]
+pub(crate) fn defaulted_state(
+    alloc: Global,
+    value: &Value,
+    owner: &'static str,
+    name: &'static str,
+) -> Result<State>
+    ensures ok { IfOk result (λ x. MeansMember (presence.defaulted default_state) (Means state) (get name.now (view value.now)) (given state_plain x)) }
+    ensures err { IfErr result (λ e. IsSchema e → RefusesRecords name.now (None, presence.defaulted default_state, state) (view value.now)) }
+    ensures kind { IfErr result IsMemoryOrSchema }
+{
+    match value.get(name) {
+        Some(found) => match State::read(alloc, found) {
+            Ok(x) => Ok(x),
+            Err(fault) => Err(placed(fault, owner, name)),
+        },
+        None => State::try_default(alloc),
+    }
+}

@@ -1,0 +1,27 @@
+//! The smaller records of a container's configuration and life: its root and its mounts, with the mounts that it has by default,
+//! the hooks that are run at its turns, and the state that a runtime tells of it (runtime specification, "Configuration", "Runtime
+//! and Lifecycle").
+#![tactic(auto)]
+
+mod absent;
+pub mod container_process_state;
+pub mod container_state;
+mod defaults;
+pub mod hook;
+pub mod hooks;
+pub mod mount;
+pub mod root;
+pub mod state;
+
+pub use container_process_state::{ContainerProcessState, ContainerProcessStateBuilder};
+pub use container_state::ContainerState;
+pub use defaults::{get_default_mounts, get_rootless_mounts};
+pub use hook::{Hook, HookBuilder};
+pub use hooks::{Hooks, HooksBuilder};
+pub use mount::{Mount, MountBuilder};
+pub use root::{Root, RootBuilder};
+pub use state::{State, StateBuilder};
+
+/// The name of the open file over which system calls are told (runtime specification, "Linux Container Configuration",
+/// "The Container Process State", `fds`).
+pub const SECCOMP_FD_NAME: &str = "seccompFd";

@@ -1,0 +1,12 @@
+use Rattle.oci_json_form.proofs.Stands.{shape_is, a_leaf, a_list, a_record, ◌▸◌, no_row}
+use Rattle.oci_spec.proofs.forms.runtime_records.MountFormed.form.Goals as goal
+
+pub returns : goal.returns
+returns c = shape_is (a_record (
+    a_leaf ▸
+    a_leaf ▸
+    a_leaf ▸
+    a_list a_leaf ▸
+    a_list (a_record (a_leaf ▸ a_leaf ▸ a_leaf ▸ no_row)) ▸
+    a_list (a_record (a_leaf ▸ a_leaf ▸ a_leaf ▸ no_row)) ▸
+    no_row))
