@@ -1,5 +1,5 @@
 -- What a policy asks of a container's specification (runtime specification, "Linux Process", `capabilities`; "Linux Container Configuration", "Namespaces").
-use Rattle.std.specs.Prelude.{ℕ, List, [], map, ◌≡◌, ◌⊎◌, ◌↔◌, false, Option, Some, None, String, Vec, IsSomeAnd, IsTrue}
+use Rattle.std.specs.Prelude.{ℕ, List, [], map, codes, ◌≡◌, ◌⊎◌, ◌↔◌, false, Option, Some, None, String, Vec, IsSomeAnd, IsTrue}
 use Rattle.std.specs.List.{Any}
 use Rattle.std.specs.String.{string_bytes}
 use Rattle.std.specs.HashSet.{HashSet, contains}
@@ -7,6 +7,7 @@ use Rattle.oci_spec.specs.CapabilitySets.{capability_eq}
 use Rattle.oci_spec.specs.declared.runtime.Capability.{Capability}
 use Rattle.oci_spec.specs.declared.runtime.LinuxCapabilities.{LinuxCapabilities}
 use Rattle.oci_spec.specs.declared.runtime.LinuxNamespaceType.{LinuxNamespaceType}
+use Rattle.oci_spec.specs.declared.runtime.Mount.{Mount}
 use Rattle.oci_spec.specs.declared.runtime.Spec.{Spec}
 
 module _ {S : Type 0} where
@@ -37,6 +38,14 @@ HasNamespace x kind = IsSomeAnd x.linux (λ l. IsSomeAnd l.namespaces (λ ns. An
 -- none is, so the container stays in that of its host
 abbrev pub SharesWithHost : Spec → LinuxNamespaceType → Type 0
 SharesWithHost x kind = ¬ HasNamespace x kind
+
+-- the text is one of a mount's options
+abbrev pub HasOption : Mount → List ℕ → Type 0
+HasOption x t = IsSomeAnd x.options (λ options. Any (λ o. string_bytes o ≡ t) options.items)
+
+-- it puts something at `/proc`, without the option `ro`
+abbrev pub IsWritableProc : Mount → Type 0
+IsWritableProc x = (string_bytes x.destination ≡ codes "/proc") × ¬ HasOption x (codes "ro")
 
 -- the texts of a list, none where there is no list
 abbrev pub texts : {Y Z : Type 0} → Option (Vec (String Y) Z) → List (List ℕ)

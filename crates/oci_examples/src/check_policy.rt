@@ -1,9 +1,8 @@
 //! Reads a container's specification, and prints what a policy forbids: capabilities with which a container could reach its host,
-//! a `/proc` that is mounted without the option `ro`, and namespaces that it shares with its host. What it is to have a capability
-//! and to share a namespace stands in `specs/Policy.antt`, in words of the facade, and the answers have clauses that say exactly
-//! that; the answer on `/proc` has none.
+//! a `/proc` that is mounted without the option `ro`, and namespaces that it shares with its host. What each of these is stands in
+//! `specs/Policy.antt`, in words of the facade, and the answers have clauses that say exactly that.
 ghost use Rattle.std.specs.Prelude.{◌↔◌, IsTrue};
-ghost use Rattle.oci_examples.specs.Policy.{HasCapability, HasNamespace, IsIn, MayUse, SharesWithHost};
+ghost use Rattle.oci_examples.specs.Policy.{HasCapability, HasNamespace, HasOption, IsIn, IsWritableProc, MayUse, SharesWithHost};
 
 use anyhow::Result;
 use oci_spec::JsonName;
@@ -83,13 +82,21 @@ fn shares_with_host(spec: &Spec, kind: LinuxNamespaceType) -> bool
     !has_namespace(spec, kind)
 }
 
-/// Whether a mount puts something at `/proc`, and not read-only.
-fn is_writable_proc(mount: &Mount) -> bool {
-    let readonly = match mount.options() {
-        Some(options) => options.iter().any(|option| option.as_str() == "ro"),
+/// Whether a text is one of a mount's options.
+fn has_option(mount: &Mount, text: &str) -> bool
+    ensures { IsTrue result ↔ HasOption mount.now text.now }
+{
+    match mount.options() {
+        Some(options) => options.iter().any(|option| option.as_str() == text),
         None => false,
-    };
-    mount.destination().as_str() == "/proc" && !readonly
+    }
+}
+
+/// Whether a mount puts something at `/proc`, without the option `ro`.
+fn is_writable_proc(mount: &Mount) -> bool
+    ensures { IsTrue result ↔ IsWritableProc mount.now }
+{
+    mount.destination().as_str() == "/proc" && !has_option(mount, "ro")
 }
 
 /// Prints what the policy forbids of the specification of a file.
