@@ -1,7 +1,8 @@
 //! What a form refuses in the bytes of a document.
-ghost use Rattle.std.specs.Prelude.{◌≡◌, ◌↔◌, true, IfOk};
+ghost use Rattle.std.specs.Prelude.{◌≡◌, ◌↔◌, true, IfOk, IfErr};
 ghost use Rattle.oci_spec.specs.Plain.{Plain};
 ghost use Rattle.oci_spec.specs.Engines.{MeansBytes};
+ghost use Rattle.oci_spec.specs.Refused.{IsMemory};
 ghost use Rattle.oci_json_form.specs.Tables.{shape_of};
 
 use oci_spec::forms::{Fault, Form, faults};
@@ -21,7 +22,8 @@ pub struct Report {
 /// What the form refuses in the bytes; it refuses nothing exactly where they are a document.
 #[tactic(auto, using(crate::proofs::Bytes::read_tells, crate::proofs::Bytes::no_json_tells))]
 pub fn judge(form: &Form<'_>, bytes: &[u8], alloc: Global) -> Result<Report>
-    ensures { IfOk result (λ r. (r.sound ≡ true) ↔ ((p : Plain) × MeansBytes (shape_of form.now) bytes.now p)) }
+    ensures sound { IfOk result (λ r. (r.sound ≡ true) ↔ ((p : Plain) × MeansBytes (shape_of form.now) bytes.now p)) }
+    ensures kind { IfErr result IsMemory }
 {
     match Value::from_slice(alloc, bytes) {
         Ok(value) => {
