@@ -1,5 +1,5 @@
 -- What a policy asks of a container's specification (runtime specification, "Linux Process", `capabilities`; "Linux Container Configuration", "Namespaces").
-use Rattle.std.specs.Prelude.{ℕ, List, [], map, codes, ◌≡◌, ◌⊎◌, ◌↔◌, false, Option, Some, None, String, Vec, IsSomeAnd, IsTrue}
+use Rattle.std.specs.Prelude.{ℕ, List, [], ◌∷◌, ◌++◌, map, codes, ◌≡◌, ◌⊎◌, ◌↔◌, false, Option, Some, None, String, Vec, IfSome, IsSomeAnd, IsTrue}
 use Rattle.std.specs.List.{Any}
 use Rattle.std.specs.String.{string_bytes}
 use Rattle.std.specs.HashSet.{HashSet, contains}
@@ -51,3 +51,7 @@ IsWritableProc x = (string_bytes x.destination ≡ codes "/proc") × ¬ HasOptio
 abbrev pub texts : {Y Z : Type 0} → Option (Vec (String Y) Z) → List (List ℕ)
 texts None = []
 texts (Some ts) = map string_bytes ts.items
+
+-- where there is a Linux part, the path is masked behind those that were
+abbrev pub Masks : Spec → List ℕ → Spec → Type 0
+Masks before path after = IfSome before.linux (λ old. IsSomeAnd after.linux (λ new. texts new.masked_paths ≡ texts old.masked_paths ++ path ∷ []))

@@ -1,7 +1,8 @@
 //! What a runtime does with a bundle before it starts a container: it loads the specification, has the root's path made
 //! canonical, takes away a capability, masks a path, makes the root read-only, and saves the specification.
-ghost use Rattle.std.specs.Prelude.{◌≡◌, ◌++◌, [], ◌∷◌, IfOk, OnErr, OnOk, is_some};
-ghost use Rattle.oci_examples.specs.Policy.{HasCapability, HasOthers, HaveOthers, IsIn, texts};
+ghost use Rattle.std.specs.Prelude.{◌≡◌, ◌++◌, [], ◌∷◌, true, codes, Some, IfOk, IfSome, OnErr, OnOk, is_some};
+ghost use Rattle.oci_spec.specs.declared.runtime.Capability.TheVariants.{SysAdmin};
+ghost use Rattle.oci_examples.specs.Policy.{HasCapability, HasOthers, HaveOthers, IsIn, Masks, MayUse, texts};
 
 use anyhow::Context;
 use oci_json::to_string_pretty;
@@ -58,6 +59,9 @@ fn mask(linux: &mut Linux, alloc: Global, path: &str) -> Result<()>
 
 /// Drops `CAP_SYS_ADMIN`, masks `/sys/firmware`, and makes the root read-only.
 fn tighten(spec: &mut Spec, alloc: Global) -> Result<()>
+    ensures dropped { OnOk result (¬ MayUse spec.new SysAdmin) }
+    ensures masked { OnOk result (Masks spec.old (codes "/sys/firmware") spec.new) }
+    ensures readonly { OnOk result (IfSome spec.new.root (λ root. root.readonly ≡ Some true)) }
     ensures others { spec.new ≡ record spec.old { process = spec.new.process; linux = spec.new.linux; root = spec.new.root } }
 {
     if let Some(process) = spec.process_mut() {
