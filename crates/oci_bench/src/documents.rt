@@ -10,7 +10,7 @@ use oci_features::Features;
 use oci_image::ImageConfiguration;
 use oci_image_descriptor::Descriptor;
 use oci_image_manifest::{ArtifactManifest, ImageIndex, ImageManifest, OciLayout};
-use oci_json_engines::{from_slice, to_string};
+use oci_json_io::{from_slice, to_string};
 use oci_reference::Reference;
 use oci_runtime::{ContainerProcessState, Spec, State};
 use oci_spec::forms::{Tabled, normalize};

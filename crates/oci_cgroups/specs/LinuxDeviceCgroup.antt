@@ -1,28 +1,17 @@
 -- A rule for which devices a container may use, and how (runtime specification, "Linux Container Configuration", "Allowed Device list").
-use Rattle.std.specs.Prelude.{[], ◌∷◌, codes, false, Option, String, Bool, ℤ}
+use Rattle.std.specs.Prelude.{[], ◌∷◌, false, Option, String, Bool, ℤ}
 use Rattle.std.specs.Borrow.{Lends, MutBor, Fml}
 use Rattle.std.specs.declared.alloc.Global.{Global}
-use Rattle.oci_json_schema.specs.Plain as plain
-use Rattle.oci_json_schema.specs.Plain.{Plain, document, slots, empty, filled}
-use Rattle.oci_linux_names.specs.LinuxDeviceType.{linux_device_type_table, linux_device_type_name}
+use Rattle.oci_json_model.specs.Plain as plain
+use Rattle.oci_json_model.specs.Plain.{Plain, document, slots, empty, filled}
+use Rattle.oci_linux_names.specs.LinuxDeviceType.{linux_device_type_name}
 use Rattle.oci_linux_names.specs.declared.linux_device_type.LinuxDeviceType.{LinuxDeviceType}
 use Rattle.oci_linux_names.specs.contracts.linux_device_type.LinuxDeviceType as linux_device_type
-use Rattle.oci_json_schema.specs.Shape.{Shape, rows, no_rows, listed, optional, defaulted, nullable, text, truth, named}
-use Rattle.oci_json_schema.specs.Types.{given, perhaps, text_plain, truth_plain, integer_plain, variant_plain, i64}
-use Rattle.oci_json_schema.specs.Lent.{text_row, option_row}
+use Rattle.oci_json_model.specs.Types.{given, perhaps, text_plain, truth_plain, integer_plain, variant_plain}
+use Rattle.oci_json_model.specs.Lent.{text_row, option_row}
 use Rattle.std.specs.Borrow as borrow
 use Rattle.oci_cgroups.specs.declared.linux_device_cgroup.LinuxDeviceCgroup.{LinuxDeviceCgroup}
 use Rattle.oci_cgroups.specs.contracts.linux_device_cgroup.LinuxDeviceCgroup.{the_row}
-
--- the members, in the order in which they are looked at
-abbrev pub linux_device_cgroup : Shape
-linux_device_cgroup = rows (
-    listed (codes "allow") (defaulted (plain.truth false)) truth (
-    listed (codes "type") optional (named linux_device_type_table) (
-    listed (codes "major") optional i64 (
-    listed (codes "minor") optional i64 (
-    listed (codes "access") nullable text
-    no_rows)))))
 
 -- the content of a document
 abbrev pub linux_device_cgroup_plain : LinuxDeviceCgroup → Plain

@@ -1,52 +1,45 @@
 -- What a container may use of its host (runtime specification, "Linux Container Configuration", "Control groups").
-use Rattle.std.specs.Prelude.{[], ◌∷◌, codes, Option, String, Vec}
+use Rattle.std.specs.Prelude.{[], ◌∷◌, Option, String, Vec}
 use Rattle.std.specs.Borrow.{Lends, MutBor, Fml}
 use Rattle.std.specs.declared.alloc.Global.{Global}
 use Rattle.std.specs.BTreeMap.{BTreeMap}
-use Rattle.oci_json_schema.specs.Plain.{Plain, document, slots, empty}
-use Rattle.oci_json_schema.specs.Shape.{Shape, rows, no_rows, listed, optional, text, list, map}
-use Rattle.oci_json_schema.specs.Types.{perhaps, text_plain, list_plain, map_plain}
-use Rattle.oci_json_schema.specs.Lent.{text_row, option_row, list_row, map_row}
-use Rattle.oci_cgroups.specs.LinuxDeviceCgroup.{linux_device_cgroup, linux_device_cgroup_plain}
+use Rattle.oci_json_model.specs.Plain.{Plain, document, slots, empty}
+use Rattle.oci_json_model.specs.Types.{perhaps, text_plain, list_plain, map_plain}
+use Rattle.oci_json_model.specs.Lent.{text_row, option_row, list_row, map_row}
+use Rattle.oci_shapes.specs.LinuxDeviceCgroup.{linux_device_cgroup}
+use Rattle.oci_cgroups.specs.LinuxDeviceCgroup.{linux_device_cgroup_plain}
 use Rattle.oci_cgroups.specs.declared.linux_device_cgroup.LinuxDeviceCgroup.{LinuxDeviceCgroup}
 use Rattle.oci_cgroups.specs.contracts.linux_device_cgroup.LinuxDeviceCgroup as linux_device_cgroup
-use Rattle.oci_cgroups.specs.LinuxMemory.{linux_memory, linux_memory_plain}
+use Rattle.oci_shapes.specs.LinuxMemory.{linux_memory}
+use Rattle.oci_cgroups.specs.LinuxMemory.{linux_memory_plain}
 use Rattle.oci_cgroups.specs.declared.linux_memory.LinuxMemory.{LinuxMemory}
 use Rattle.oci_cgroups.specs.contracts.linux_memory.LinuxMemory as linux_memory
-use Rattle.oci_cgroups.specs.LinuxCpu.{linux_cpu, linux_cpu_plain}
+use Rattle.oci_shapes.specs.LinuxCpu.{linux_cpu}
+use Rattle.oci_cgroups.specs.LinuxCpu.{linux_cpu_plain}
 use Rattle.oci_cgroups.specs.declared.linux_cpu.LinuxCpu.{LinuxCpu}
 use Rattle.oci_cgroups.specs.contracts.linux_cpu.LinuxCpu as linux_cpu
-use Rattle.oci_cgroups.specs.LinuxPids.{linux_pids, linux_pids_plain}
+use Rattle.oci_shapes.specs.LinuxPids.{linux_pids}
+use Rattle.oci_cgroups.specs.LinuxPids.{linux_pids_plain}
 use Rattle.oci_cgroups.specs.declared.linux_pids.LinuxPids.{LinuxPids}
 use Rattle.oci_cgroups.specs.contracts.linux_pids.LinuxPids as linux_pids
-use Rattle.oci_cgroups.specs.LinuxBlockIo.{linux_block_io, linux_block_io_plain}
+use Rattle.oci_shapes.specs.LinuxBlockIo.{linux_block_io}
+use Rattle.oci_cgroups.specs.LinuxBlockIo.{linux_block_io_plain}
 use Rattle.oci_cgroups.specs.declared.linux_block_io.LinuxBlockIo.{LinuxBlockIo}
 use Rattle.oci_cgroups.specs.contracts.linux_block_io.LinuxBlockIo as linux_block_io
-use Rattle.oci_cgroups.specs.LinuxHugepageLimit.{linux_hugepage_limit, linux_hugepage_limit_plain}
+use Rattle.oci_shapes.specs.LinuxHugepageLimit.{linux_hugepage_limit}
+use Rattle.oci_cgroups.specs.LinuxHugepageLimit.{linux_hugepage_limit_plain}
 use Rattle.oci_cgroups.specs.declared.linux_hugepage_limit.LinuxHugepageLimit.{LinuxHugepageLimit}
 use Rattle.oci_cgroups.specs.contracts.linux_hugepage_limit.LinuxHugepageLimit as linux_hugepage_limit
-use Rattle.oci_cgroups_network.specs.LinuxNetwork.{linux_network, linux_network_plain}
+use Rattle.oci_shapes.specs.LinuxNetwork.{linux_network}
+use Rattle.oci_cgroups_network.specs.LinuxNetwork.{linux_network_plain}
 use Rattle.oci_cgroups_network.specs.declared.linux_network.LinuxNetwork.{LinuxNetwork}
 use Rattle.oci_cgroups_network.specs.contracts.linux_network.LinuxNetwork as linux_network
-use Rattle.oci_cgroups_network.specs.LinuxRdma.{linux_rdma, linux_rdma_plain}
+use Rattle.oci_shapes.specs.LinuxRdma.{linux_rdma}
+use Rattle.oci_cgroups_network.specs.LinuxRdma.{linux_rdma_plain}
 use Rattle.oci_cgroups_network.specs.declared.linux_rdma.LinuxRdma.{LinuxRdma}
 use Rattle.oci_cgroups_network.specs.contracts.linux_rdma.LinuxRdma as linux_rdma
 use Rattle.oci_cgroups.specs.declared.linux_resources.LinuxResources.{LinuxResources}
 use Rattle.oci_cgroups.specs.contracts.linux_resources.LinuxResources.{the_row}
-
--- the members, in the order in which they are looked at
-abbrev pub linux_resources : Shape
-linux_resources = rows (
-    listed (codes "devices") optional (list linux_device_cgroup) (
-    listed (codes "memory") optional linux_memory (
-    listed (codes "cpu") optional linux_cpu (
-    listed (codes "pids") optional linux_pids (
-    listed (codes "blockIO") optional linux_block_io (
-    listed (codes "hugepageLimits") optional (list linux_hugepage_limit) (
-    listed (codes "network") optional linux_network (
-    listed (codes "rdma") optional (map linux_rdma) (
-    listed (codes "unified") optional (map text)
-    no_rows)))))))))
 
 -- the content of a document
 abbrev pub linux_resources_plain : LinuxResources → Plain

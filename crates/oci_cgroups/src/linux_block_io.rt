@@ -3,8 +3,9 @@ ghost use Rattle.std.specs.Prelude.{◌≡◌, IfOk, IfErr};
 
 use crate::linux_throttle_device::LinuxThrottleDevice;
 use crate::linux_weight_device::LinuxWeightDevice;
-use oci_json_schema::{
-    OciRecord, all_2, all_3, all_4, all_5, copy_optional, fault, optional, write_optional,
+use oci_json_model::{
+    OciRecord, copy_optional, fault, optional, try_join2, try_join3, try_join4, try_join5,
+    write_optional,
 };
 use oci_text_base::{OciSpecError, Result};
 use serde_json::{Map, Value};
@@ -191,9 +192,10 @@ impl LinuxBlockIo {
 }
 
 impl OciRecord for LinuxBlockIo {
-    ghost use Rattle.oci_json_kinds.specs.DefaultMembers.{default_number};
-    ghost use Rattle.oci_json_schema.specs.Same.{same_document, same_more, same_last, same_perhaps, same_lists, same_numbers};
-    ghost use Rattle.oci_cgroups.specs.LinuxBlockIo.{linux_block_io, linux_block_io_plain};
+    ghost use Rattle.oci_json_members.specs.DefaultMembers.{default_number};
+    ghost use Rattle.oci_json_model.specs.Same.{same_document, same_more, same_last, same_perhaps, same_lists, same_numbers};
+    ghost use Rattle.oci_shapes.specs.LinuxBlockIo.{linux_block_io};
+    ghost use Rattle.oci_cgroups.specs.LinuxBlockIo.{linux_block_io_plain};
     ghost use Rattle.oci_cgroups.specs.contracts.linux_weight_device.LinuxWeightDeviceOciRecord.TheImpl.Laws.{same-law as linux_weight_device_same};
     ghost use Rattle.oci_cgroups.specs.contracts.linux_throttle_device.LinuxThrottleDeviceOciRecord.TheImpl.Laws.{same-law as linux_throttle_device_same};
 
@@ -201,7 +203,7 @@ impl OciRecord for LinuxBlockIo {
 
     ghost plain = { linux_block_io_plain };
 
-    #[tactic(auto, using(oci_json_schema::proofs::Readers::refuses_others))]
+    #[tactic(auto, using(oci_json_model::proofs::Readers::refuses_others))]
     fn from_value(alloc: Global, value: &Value) -> Result<LinuxBlockIo> {
         if !value.is_object() {
             return Err(fault::refused(NAME, ""));
@@ -209,14 +211,14 @@ impl OciRecord for LinuxBlockIo {
         let (
             (weight, leaf_weight, weight_device, throttle_read_bps_device),
             (throttle_write_bps_device, throttle_read_iops_device, throttle_write_iops_device),
-        ) = all_2(
-            all_4(
+        ) = try_join2(
+            try_join4(
                 optional(alloc, value, NAME, "weight"),
                 optional(alloc, value, NAME, "leafWeight"),
                 optional(alloc, value, NAME, "weightDevice"),
                 optional(alloc, value, NAME, "throttleReadBpsDevice"),
             ),
-            all_3(
+            try_join3(
                 optional(alloc, value, NAME, "throttleWriteBpsDevice"),
                 optional(alloc, value, NAME, "throttleReadIOPSDevice"),
                 optional(alloc, value, NAME, "throttleWriteIOPSDevice"),
@@ -235,8 +237,8 @@ impl OciRecord for LinuxBlockIo {
 
     fn to_value(&self, alloc: Global) -> Result<Value> {
         let mut members = Map::new(alloc);
-        all_2(
-            all_4(
+        try_join2(
+            try_join4(
                 write_optional(&mut members, alloc, "weight", &self.weight),
                 write_optional(&mut members, alloc, "leafWeight", &self.leaf_weight),
                 write_optional(&mut members, alloc, "weightDevice", &self.weight_device),
@@ -247,7 +249,7 @@ impl OciRecord for LinuxBlockIo {
                     &self.throttle_read_bps_device,
                 ),
             ),
-            all_3(
+            try_join3(
                 write_optional(
                     &mut members,
                     alloc,
@@ -278,7 +280,7 @@ impl OciRecord for LinuxBlockIo {
             throttle_write_bps_device,
             throttle_read_iops_device,
             throttle_write_iops_device,
-        ) = all_5(
+        ) = try_join5(
             copy_optional(&self.weight_device, alloc),
             copy_optional(&self.throttle_read_bps_device, alloc),
             copy_optional(&self.throttle_write_bps_device, alloc),

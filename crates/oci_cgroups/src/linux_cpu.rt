@@ -4,8 +4,8 @@ ghost use Rattle.std.specs.Prelude.{◌≡◌, IfOk, IfErr};
 pub mod builder;
 
 pub use builder::LinuxCpuBuilder;
-use oci_json_schema::{
-    OciRecord, all_2, all_4, all_5, copy_optional, fault, optional, write_optional,
+use oci_json_model::{
+    OciRecord, copy_optional, fault, optional, try_join2, try_join4, try_join5, write_optional,
 };
 use oci_text_base::{OciSpecError, Result};
 use serde_json::{Map, Value};
@@ -218,14 +218,15 @@ impl LinuxCpu {
 }
 
 impl OciRecord for LinuxCpu {
-    ghost use Rattle.oci_json_schema.specs.Same.{same_document, same_more, same_last, same_perhaps, same_texts, same_numbers, same_integers};
-    ghost use Rattle.oci_cgroups.specs.LinuxCpu.{linux_cpu, linux_cpu_plain};
+    ghost use Rattle.oci_json_model.specs.Same.{same_document, same_more, same_last, same_perhaps, same_texts, same_numbers, same_integers};
+    ghost use Rattle.oci_shapes.specs.LinuxCpu.{linux_cpu};
+    ghost use Rattle.oci_cgroups.specs.LinuxCpu.{linux_cpu_plain};
 
     ghost shape = { linux_cpu };
 
     ghost plain = { linux_cpu_plain };
 
-    #[tactic(auto, using(oci_json_schema::proofs::Readers::refuses_others))]
+    #[tactic(auto, using(oci_json_model::proofs::Readers::refuses_others))]
     fn from_value(alloc: Global, value: &Value) -> Result<LinuxCpu> {
         if !value.is_object() {
             return Err(fault::refused(NAME, ""));
@@ -233,15 +234,15 @@ impl OciRecord for LinuxCpu {
         let (
             (shares, quota, idle, burst, period),
             (realtime_runtime, realtime_period, cpus, mems),
-        ) = all_2(
-            all_5(
+        ) = try_join2(
+            try_join5(
                 optional(alloc, value, NAME, "shares"),
                 optional(alloc, value, NAME, "quota"),
                 optional(alloc, value, NAME, "idle"),
                 optional(alloc, value, NAME, "burst"),
                 optional(alloc, value, NAME, "period"),
             ),
-            all_4(
+            try_join4(
                 optional(alloc, value, NAME, "realtimeRuntime"),
                 optional(alloc, value, NAME, "realtimePeriod"),
                 optional(alloc, value, NAME, "cpus"),
@@ -263,15 +264,15 @@ impl OciRecord for LinuxCpu {
 
     fn to_value(&self, alloc: Global) -> Result<Value> {
         let mut members = Map::new(alloc);
-        all_2(
-            all_5(
+        try_join2(
+            try_join5(
                 write_optional(&mut members, alloc, "shares", &self.shares),
                 write_optional(&mut members, alloc, "quota", &self.quota),
                 write_optional(&mut members, alloc, "idle", &self.idle),
                 write_optional(&mut members, alloc, "burst", &self.burst),
                 write_optional(&mut members, alloc, "period", &self.period),
             ),
-            all_4(
+            try_join4(
                 write_optional(
                     &mut members,
                     alloc,
@@ -287,7 +288,7 @@ impl OciRecord for LinuxCpu {
     }
 
     fn duplicate(&self, alloc: Global) -> Result<LinuxCpu> {
-        let (cpus, mems) = all_2(
+        let (cpus, mems) = try_join2(
             copy_optional(&self.cpus, alloc),
             copy_optional(&self.mems, alloc),
         )?;

@@ -1,9 +1,9 @@
 //! A rule for which devices a container may use, and how (runtime specification, "Linux Container Configuration", "Allowed Device list").
 ghost use Rattle.std.specs.Prelude.{◌≡◌, IfOk, IfErr};
 
-use oci_json_kinds::{defaulted, nullable, write_nullable};
-use oci_json_schema::{
-    OciRecord, all_5, copy_optional, fault, optional, write_optional, write_required,
+use oci_json_members::{defaulted, nullable, write_nullable};
+use oci_json_model::{
+    OciRecord, copy_optional, fault, optional, try_join5, write_optional, write_required,
 };
 use oci_linux_names::LinuxDeviceType;
 use oci_text_base::{OciSpecError, Result};
@@ -183,20 +183,21 @@ impl LinuxDeviceCgroup {
 
 impl OciRecord for LinuxDeviceCgroup {
     ghost use Rattle.oci_linux_names.specs.LinuxDeviceType.{linux_device_type_same};
-    ghost use Rattle.oci_json_kinds.specs.DefaultMembers.{default_truth};
-    ghost use Rattle.oci_json_schema.specs.Same.{same_document, same_more, same_last, same_given, same_perhaps, same_texts, same_integers, same_truths, same_variants};
-    ghost use Rattle.oci_cgroups.specs.LinuxDeviceCgroup.{linux_device_cgroup, linux_device_cgroup_plain};
+    ghost use Rattle.oci_json_members.specs.DefaultMembers.{default_truth};
+    ghost use Rattle.oci_json_model.specs.Same.{same_document, same_more, same_last, same_given, same_perhaps, same_texts, same_integers, same_truths, same_variants};
+    ghost use Rattle.oci_shapes.specs.LinuxDeviceCgroup.{linux_device_cgroup};
+    ghost use Rattle.oci_cgroups.specs.LinuxDeviceCgroup.{linux_device_cgroup_plain};
 
     ghost shape = { linux_device_cgroup };
 
     ghost plain = { linux_device_cgroup_plain };
 
-    #[tactic(auto, using(oci_json_schema::proofs::Readers::refuses_others))]
+    #[tactic(auto, using(oci_json_model::proofs::Readers::refuses_others))]
     fn from_value(alloc: Global, value: &Value) -> Result<LinuxDeviceCgroup> {
         if !value.is_object() {
             return Err(fault::refused(NAME, ""));
         }
-        let (allow, typ, major, minor, access) = all_5(
+        let (allow, typ, major, minor, access) = try_join5(
             defaulted(alloc, value, NAME, "allow"),
             optional(alloc, value, NAME, "type"),
             optional(alloc, value, NAME, "major"),
@@ -214,7 +215,7 @@ impl OciRecord for LinuxDeviceCgroup {
 
     fn to_value(&self, alloc: Global) -> Result<Value> {
         let mut members = Map::new(alloc);
-        all_5(
+        try_join5(
             write_required(&mut members, alloc, "allow", &self.allow),
             write_optional(&mut members, alloc, "type", &self.typ),
             write_optional(&mut members, alloc, "major", &self.major),
@@ -256,8 +257,8 @@ pub struct LinuxDeviceCgroupBuilder {
 
 impl LinuxDeviceCgroupBuilder {
     ghost use Rattle.std.specs.Prelude.{Some, unwrap_or, option_map, false};
-    ghost use Rattle.oci_json_schema.specs.Plain as plain;
-    ghost use Rattle.oci_json_schema.specs.Types.{truth_plain};
+    ghost use Rattle.oci_json_model.specs.Plain as plain;
+    ghost use Rattle.oci_json_model.specs.Types.{truth_plain};
 
     /// Whether the rule allows what it names; else it forbids it.
     pub fn allow(self, allow: bool) -> Self

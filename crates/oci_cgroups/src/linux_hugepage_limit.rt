@@ -1,8 +1,8 @@
 //! How much of the huge pages of one size a container may use (runtime specification, "Linux Container Configuration", "Huge page limits").
 ghost use Rattle.std.specs.Prelude.{◌≡◌, IfOk, IfErr};
 
-use oci_json_kinds::defaulted;
-use oci_json_schema::{OciMember, OciRecord, all_2, fault, write_required};
+use oci_json_members::defaulted;
+use oci_json_model::{OciMember, OciRecord, fault, try_join2, write_required};
 use oci_text_base::{OciSpecError, Result};
 use serde_json::{Map, Value};
 use std::alloc::Global;
@@ -78,20 +78,21 @@ impl LinuxHugepageLimit {
 }
 
 impl OciRecord for LinuxHugepageLimit {
-    ghost use Rattle.oci_json_kinds.specs.DefaultMembers.{default_number, default_text};
-    ghost use Rattle.oci_json_schema.specs.Same.{same_document, same_more, same_last, same_given, same_texts, same_integers};
-    ghost use Rattle.oci_cgroups.specs.LinuxHugepageLimit.{linux_hugepage_limit, linux_hugepage_limit_plain};
+    ghost use Rattle.oci_json_members.specs.DefaultMembers.{default_number, default_text};
+    ghost use Rattle.oci_json_model.specs.Same.{same_document, same_more, same_last, same_given, same_texts, same_integers};
+    ghost use Rattle.oci_shapes.specs.LinuxHugepageLimit.{linux_hugepage_limit};
+    ghost use Rattle.oci_cgroups.specs.LinuxHugepageLimit.{linux_hugepage_limit_plain};
 
     ghost shape = { linux_hugepage_limit };
 
     ghost plain = { linux_hugepage_limit_plain };
 
-    #[tactic(auto, using(oci_json_schema::proofs::Readers::refuses_others))]
+    #[tactic(auto, using(oci_json_model::proofs::Readers::refuses_others))]
     fn from_value(alloc: Global, value: &Value) -> Result<LinuxHugepageLimit> {
         if !value.is_object() {
             return Err(fault::refused(NAME, ""));
         }
-        let (page_size, limit) = all_2(
+        let (page_size, limit) = try_join2(
             defaulted(alloc, value, NAME, "pageSize"),
             defaulted(alloc, value, NAME, "limit"),
         )?;
@@ -100,7 +101,7 @@ impl OciRecord for LinuxHugepageLimit {
 
     fn to_value(&self, alloc: Global) -> Result<Value> {
         let mut members = Map::new(alloc);
-        all_2(
+        try_join2(
             write_required(&mut members, alloc, "pageSize", &self.page_size),
             write_required(&mut members, alloc, "limit", &self.limit),
         )?;
@@ -130,8 +131,8 @@ pub struct LinuxHugepageLimitBuilder {
 
 impl LinuxHugepageLimitBuilder {
     ghost use Rattle.std.specs.Prelude.{Some, unwrap_or, option_map, pos, []};
-    ghost use Rattle.oci_json_schema.specs.Plain as plain;
-    ghost use Rattle.oci_json_schema.specs.Types.{text_plain, integer_plain};
+    ghost use Rattle.oci_json_model.specs.Plain as plain;
+    ghost use Rattle.oci_json_model.specs.Types.{text_plain, integer_plain};
 
     /// The size of the pages, a number with a unit, as `64KB`, `2MB` or `1GB`.
     pub fn page_size(self, page_size: String) -> Self

@@ -4,7 +4,7 @@ ghost use Rattle.std.specs.Prelude.{◌≡◌, IfOk, IfErr};
 pub mod builder;
 
 pub use builder::LinuxMemoryBuilder;
-use oci_json_schema::{OciRecord, all_2, all_4, all_5, fault, optional, write_optional};
+use oci_json_model::{OciRecord, fault, optional, try_join2, try_join4, try_join5, write_optional};
 use oci_text_base::{OciSpecError, Result};
 use serde_json::{Map, Value};
 use std::alloc::Global;
@@ -200,14 +200,15 @@ impl LinuxMemory {
 }
 
 impl OciRecord for LinuxMemory {
-    ghost use Rattle.oci_json_schema.specs.Same.{same_document, same_more, same_last, same_perhaps, same_numbers, same_integers, same_truths};
-    ghost use Rattle.oci_cgroups.specs.LinuxMemory.{linux_memory, linux_memory_plain};
+    ghost use Rattle.oci_json_model.specs.Same.{same_document, same_more, same_last, same_perhaps, same_numbers, same_integers, same_truths};
+    ghost use Rattle.oci_shapes.specs.LinuxMemory.{linux_memory};
+    ghost use Rattle.oci_cgroups.specs.LinuxMemory.{linux_memory_plain};
 
     ghost shape = { linux_memory };
 
     ghost plain = { linux_memory_plain };
 
-    #[tactic(auto, using(oci_json_schema::proofs::Readers::refuses_others))]
+    #[tactic(auto, using(oci_json_model::proofs::Readers::refuses_others))]
     fn from_value(alloc: Global, value: &Value) -> Result<LinuxMemory> {
         if !value.is_object() {
             return Err(fault::refused(NAME, ""));
@@ -215,15 +216,15 @@ impl OciRecord for LinuxMemory {
         let (
             (limit, reservation, swap, kernel, kernel_tcp),
             (swappiness, disable_oom_killer, use_hierarchy, check_before_update),
-        ) = all_2(
-            all_5(
+        ) = try_join2(
+            try_join5(
                 optional(alloc, value, NAME, "limit"),
                 optional(alloc, value, NAME, "reservation"),
                 optional(alloc, value, NAME, "swap"),
                 optional(alloc, value, NAME, "kernel"),
                 optional(alloc, value, NAME, "kernelTCP"),
             ),
-            all_4(
+            try_join4(
                 optional(alloc, value, NAME, "swappiness"),
                 optional(alloc, value, NAME, "disableOOMKiller"),
                 optional(alloc, value, NAME, "useHierarchy"),
@@ -245,15 +246,15 @@ impl OciRecord for LinuxMemory {
 
     fn to_value(&self, alloc: Global) -> Result<Value> {
         let mut members = Map::new(alloc);
-        all_2(
-            all_5(
+        try_join2(
+            try_join5(
                 write_optional(&mut members, alloc, "limit", &self.limit),
                 write_optional(&mut members, alloc, "reservation", &self.reservation),
                 write_optional(&mut members, alloc, "swap", &self.swap),
                 write_optional(&mut members, alloc, "kernel", &self.kernel),
                 write_optional(&mut members, alloc, "kernelTCP", &self.kernel_tcp),
             ),
-            all_4(
+            try_join4(
                 write_optional(&mut members, alloc, "swappiness", &self.swappiness),
                 write_optional(
                     &mut members,

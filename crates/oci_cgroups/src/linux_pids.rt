@@ -1,8 +1,8 @@
 //! How many tasks a container may have (runtime specification, "Linux Container Configuration", "PIDs").
 ghost use Rattle.std.specs.Prelude.{◌≡◌, IfOk, IfErr};
 
-use oci_json_kinds::defaulted;
-use oci_json_schema::{OciRecord, fault, write_required};
+use oci_json_members::defaulted;
+use oci_json_model::{OciRecord, fault, write_required};
 use oci_text_base::{OciSpecError, Result};
 use serde_json::{Map, Value};
 use std::alloc::Global;
@@ -52,15 +52,16 @@ impl LinuxPids {
 }
 
 impl OciRecord for LinuxPids {
-    ghost use Rattle.oci_json_kinds.specs.DefaultMembers.{default_number};
-    ghost use Rattle.oci_json_schema.specs.Same.{same_document, same_last, same_given, same_integers};
-    ghost use Rattle.oci_cgroups.specs.LinuxPids.{linux_pids, linux_pids_plain};
+    ghost use Rattle.oci_json_members.specs.DefaultMembers.{default_number};
+    ghost use Rattle.oci_json_model.specs.Same.{same_document, same_last, same_given, same_integers};
+    ghost use Rattle.oci_shapes.specs.LinuxPids.{linux_pids};
+    ghost use Rattle.oci_cgroups.specs.LinuxPids.{linux_pids_plain};
 
     ghost shape = { linux_pids };
 
     ghost plain = { linux_pids_plain };
 
-    #[tactic(auto, using(oci_json_schema::proofs::Readers::refuses_others))]
+    #[tactic(auto, using(oci_json_model::proofs::Readers::refuses_others))]
     fn from_value(alloc: Global, value: &Value) -> Result<LinuxPids> {
         if !value.is_object() {
             return Err(fault::refused(NAME, ""));
@@ -94,8 +95,8 @@ pub struct LinuxPidsBuilder {
 
 impl LinuxPidsBuilder {
     ghost use Rattle.std.specs.Prelude.{Some, unwrap_or, option_map, pos};
-    ghost use Rattle.oci_json_schema.specs.Plain as plain;
-    ghost use Rattle.oci_json_schema.specs.Types.{integer_plain};
+    ghost use Rattle.oci_json_model.specs.Plain as plain;
+    ghost use Rattle.oci_json_model.specs.Types.{integer_plain};
 
     /// The largest number of tasks; -1 is no limit.
     pub fn limit(self, limit: i64) -> Self

@@ -11,8 +11,9 @@ use crate::linux_memory::LinuxMemory;
 use crate::linux_pids::LinuxPids;
 pub use builder::LinuxResourcesBuilder;
 use oci_cgroups_network::{LinuxNetwork, LinuxRdma};
-use oci_json_schema::{
-    OciRecord, all_2, all_3, all_4, all_5, copy_optional, fault, optional, write_optional,
+use oci_json_model::{
+    OciRecord, copy_optional, fault, optional, try_join2, try_join3, try_join4, try_join5,
+    write_optional,
 };
 use oci_text_base::{OciSpecError, Result};
 use serde_json::{Map, Value};
@@ -302,9 +303,10 @@ impl LinuxResources {
 }
 
 impl OciRecord for LinuxResources {
-    ghost use Rattle.oci_json_kinds.specs.DefaultMembers.{default_number, default_text, default_truth};
-    ghost use Rattle.oci_json_schema.specs.Same.{same_document, same_more, same_last, same_perhaps, same_texts, same_lists, same_maps};
-    ghost use Rattle.oci_cgroups.specs.LinuxResources.{linux_resources, linux_resources_plain};
+    ghost use Rattle.oci_json_members.specs.DefaultMembers.{default_number, default_text, default_truth};
+    ghost use Rattle.oci_json_model.specs.Same.{same_document, same_more, same_last, same_perhaps, same_texts, same_lists, same_maps};
+    ghost use Rattle.oci_shapes.specs.LinuxResources.{linux_resources};
+    ghost use Rattle.oci_cgroups.specs.LinuxResources.{linux_resources_plain};
     ghost use Rattle.oci_cgroups.specs.contracts.linux_device_cgroup.LinuxDeviceCgroupOciRecord.TheImpl.Laws.{same-law as linux_device_cgroup_same};
     ghost use Rattle.oci_cgroups.specs.contracts.linux_memory.LinuxMemoryOciRecord.TheImpl.Laws.{same-law as linux_memory_same};
     ghost use Rattle.oci_cgroups.specs.contracts.linux_cpu.LinuxCpuOciRecord.TheImpl.Laws.{same-law as linux_cpu_same};
@@ -318,21 +320,21 @@ impl OciRecord for LinuxResources {
 
     ghost plain = { linux_resources_plain };
 
-    #[tactic(auto, using(oci_json_schema::proofs::Readers::refuses_others))]
+    #[tactic(auto, using(oci_json_model::proofs::Readers::refuses_others))]
     fn from_value(alloc: Global, value: &Value) -> Result<LinuxResources> {
         if !value.is_object() {
             return Err(fault::refused(NAME, ""));
         }
         let ((devices, memory, cpu, pids, block_io), (hugepage_limits, network, rdma, unified)) =
-            all_2(
-                all_5(
+            try_join2(
+                try_join5(
                     optional(alloc, value, NAME, "devices"),
                     optional(alloc, value, NAME, "memory"),
                     optional(alloc, value, NAME, "cpu"),
                     optional(alloc, value, NAME, "pids"),
                     optional(alloc, value, NAME, "blockIO"),
                 ),
-                all_4(
+                try_join4(
                     optional(alloc, value, NAME, "hugepageLimits"),
                     optional(alloc, value, NAME, "network"),
                     optional(alloc, value, NAME, "rdma"),
@@ -354,15 +356,15 @@ impl OciRecord for LinuxResources {
 
     fn to_value(&self, alloc: Global) -> Result<Value> {
         let mut members = Map::new(alloc);
-        all_2(
-            all_5(
+        try_join2(
+            try_join5(
                 write_optional(&mut members, alloc, "devices", &self.devices),
                 write_optional(&mut members, alloc, "memory", &self.memory),
                 write_optional(&mut members, alloc, "cpu", &self.cpu),
                 write_optional(&mut members, alloc, "pids", &self.pids),
                 write_optional(&mut members, alloc, "blockIO", &self.block_io),
             ),
-            all_4(
+            try_join4(
                 write_optional(&mut members, alloc, "hugepageLimits", &self.hugepage_limits),
                 write_optional(&mut members, alloc, "network", &self.network),
                 write_optional(&mut members, alloc, "rdma", &self.rdma),
@@ -373,14 +375,14 @@ impl OciRecord for LinuxResources {
     }
 
     fn duplicate(&self, alloc: Global) -> Result<LinuxResources> {
-        let ((devices, cpu, block_io, hugepage_limits), (network, rdma, unified)) = all_2(
-            all_4(
+        let ((devices, cpu, block_io, hugepage_limits), (network, rdma, unified)) = try_join2(
+            try_join4(
                 copy_optional(&self.devices, alloc),
                 copy_optional(&self.cpu, alloc),
                 copy_optional(&self.block_io, alloc),
                 copy_optional(&self.hugepage_limits, alloc),
             ),
-            all_3(
+            try_join3(
                 copy_optional(&self.network, alloc),
                 copy_optional(&self.rdma, alloc),
                 copy_optional(&self.unified, alloc),

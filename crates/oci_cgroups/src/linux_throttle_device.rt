@@ -1,8 +1,8 @@
 //! The most that a container may read from or write to one device (runtime specification, "Linux Container Configuration", "Block IO").
 ghost use Rattle.std.specs.Prelude.{◌≡◌, IfOk, IfErr};
 
-use oci_json_kinds::defaulted;
-use oci_json_schema::{OciRecord, all_3, fault, write_required};
+use oci_json_members::defaulted;
+use oci_json_model::{OciRecord, fault, try_join3, write_required};
 use oci_text_base::{OciSpecError, Result};
 use serde_json::{Map, Value};
 use std::alloc::Global;
@@ -63,20 +63,21 @@ impl LinuxThrottleDevice {
 }
 
 impl OciRecord for LinuxThrottleDevice {
-    ghost use Rattle.oci_json_kinds.specs.DefaultMembers.{default_number};
-    ghost use Rattle.oci_json_schema.specs.Same.{same_document, same_more, same_last, same_given, same_numbers, same_integers};
-    ghost use Rattle.oci_cgroups.specs.LinuxThrottleDevice.{linux_throttle_device, linux_throttle_device_plain};
+    ghost use Rattle.oci_json_members.specs.DefaultMembers.{default_number};
+    ghost use Rattle.oci_json_model.specs.Same.{same_document, same_more, same_last, same_given, same_numbers, same_integers};
+    ghost use Rattle.oci_shapes.specs.LinuxThrottleDevice.{linux_throttle_device};
+    ghost use Rattle.oci_cgroups.specs.LinuxThrottleDevice.{linux_throttle_device_plain};
 
     ghost shape = { linux_throttle_device };
 
     ghost plain = { linux_throttle_device_plain };
 
-    #[tactic(auto, using(oci_json_schema::proofs::Readers::refuses_others))]
+    #[tactic(auto, using(oci_json_model::proofs::Readers::refuses_others))]
     fn from_value(alloc: Global, value: &Value) -> Result<LinuxThrottleDevice> {
         if !value.is_object() {
             return Err(fault::refused(NAME, ""));
         }
-        let (major, minor, rate) = all_3(
+        let (major, minor, rate) = try_join3(
             defaulted(alloc, value, NAME, "major"),
             defaulted(alloc, value, NAME, "minor"),
             defaulted(alloc, value, NAME, "rate"),
@@ -86,7 +87,7 @@ impl OciRecord for LinuxThrottleDevice {
 
     fn to_value(&self, alloc: Global) -> Result<Value> {
         let mut members = Map::new(alloc);
-        all_3(
+        try_join3(
             write_required(&mut members, alloc, "major", &self.major),
             write_required(&mut members, alloc, "minor", &self.minor),
             write_required(&mut members, alloc, "rate", &self.rate),
@@ -116,8 +117,8 @@ pub struct LinuxThrottleDeviceBuilder {
 
 impl LinuxThrottleDeviceBuilder {
     ghost use Rattle.std.specs.Prelude.{Some, unwrap_or, option_map, pos};
-    ghost use Rattle.oci_json_schema.specs.Plain as plain;
-    ghost use Rattle.oci_json_schema.specs.Types.{number_plain, integer_plain};
+    ghost use Rattle.oci_json_model.specs.Plain as plain;
+    ghost use Rattle.oci_json_model.specs.Types.{number_plain, integer_plain};
 
     /// The device's major number.
     pub fn major(self, major: i64) -> Self

@@ -1,8 +1,8 @@
 //! The share that a container has of one device's input and output (runtime specification, "Linux Container Configuration", "Block IO").
 ghost use Rattle.std.specs.Prelude.{◌≡◌, IfOk, IfErr};
 
-use oci_json_kinds::defaulted;
-use oci_json_schema::{OciRecord, all_4, fault, optional, write_optional, write_required};
+use oci_json_members::defaulted;
+use oci_json_model::{OciRecord, fault, optional, try_join4, write_optional, write_required};
 use oci_text_base::{OciSpecError, Result};
 use serde_json::{Map, Value};
 use std::alloc::Global;
@@ -72,20 +72,21 @@ impl LinuxWeightDevice {
 }
 
 impl OciRecord for LinuxWeightDevice {
-    ghost use Rattle.oci_json_kinds.specs.DefaultMembers.{default_number};
-    ghost use Rattle.oci_json_schema.specs.Same.{same_document, same_more, same_last, same_given, same_perhaps, same_numbers, same_integers};
-    ghost use Rattle.oci_cgroups.specs.LinuxWeightDevice.{linux_weight_device, linux_weight_device_plain};
+    ghost use Rattle.oci_json_members.specs.DefaultMembers.{default_number};
+    ghost use Rattle.oci_json_model.specs.Same.{same_document, same_more, same_last, same_given, same_perhaps, same_numbers, same_integers};
+    ghost use Rattle.oci_shapes.specs.LinuxWeightDevice.{linux_weight_device};
+    ghost use Rattle.oci_cgroups.specs.LinuxWeightDevice.{linux_weight_device_plain};
 
     ghost shape = { linux_weight_device };
 
     ghost plain = { linux_weight_device_plain };
 
-    #[tactic(auto, using(oci_json_schema::proofs::Readers::refuses_others))]
+    #[tactic(auto, using(oci_json_model::proofs::Readers::refuses_others))]
     fn from_value(alloc: Global, value: &Value) -> Result<LinuxWeightDevice> {
         if !value.is_object() {
             return Err(fault::refused(NAME, ""));
         }
-        let (major, minor, weight, leaf_weight) = all_4(
+        let (major, minor, weight, leaf_weight) = try_join4(
             defaulted(alloc, value, NAME, "major"),
             defaulted(alloc, value, NAME, "minor"),
             optional(alloc, value, NAME, "weight"),
@@ -101,7 +102,7 @@ impl OciRecord for LinuxWeightDevice {
 
     fn to_value(&self, alloc: Global) -> Result<Value> {
         let mut members = Map::new(alloc);
-        all_4(
+        try_join4(
             write_required(&mut members, alloc, "major", &self.major),
             write_required(&mut members, alloc, "minor", &self.minor),
             write_optional(&mut members, alloc, "weight", &self.weight),
@@ -134,8 +135,8 @@ pub struct LinuxWeightDeviceBuilder {
 
 impl LinuxWeightDeviceBuilder {
     ghost use Rattle.std.specs.Prelude.{Some, unwrap_or, option_map, pos};
-    ghost use Rattle.oci_json_schema.specs.Plain as plain;
-    ghost use Rattle.oci_json_schema.specs.Types.{integer_plain};
+    ghost use Rattle.oci_json_model.specs.Plain as plain;
+    ghost use Rattle.oci_json_model.specs.Types.{integer_plain};
 
     /// The device's major number.
     pub fn major(self, major: i64) -> Self

@@ -1,20 +1,12 @@
 -- What a container may use of one device for remote direct memory access (runtime specification, "Linux Container Configuration", "RDMA").
-use Rattle.std.specs.Prelude.{[], ◌∷◌, codes, Option, ℕ}
+use Rattle.std.specs.Prelude.{[], ◌∷◌, Option, ℕ}
 use Rattle.std.specs.Borrow.{Lends, MutBor, Fml}
-use Rattle.oci_json_schema.specs.Plain.{Plain, document, slots, empty}
-use Rattle.oci_json_schema.specs.Shape.{Shape, rows, no_rows, listed, optional}
-use Rattle.oci_json_schema.specs.Types.{perhaps, number_plain, u32}
-use Rattle.oci_json_schema.specs.Lent.{option_row}
+use Rattle.oci_json_model.specs.Plain.{Plain, document, slots, empty}
+use Rattle.oci_json_model.specs.Types.{perhaps, number_plain}
+use Rattle.oci_json_model.specs.Lent.{option_row}
 use Rattle.std.specs.Borrow as borrow
 use Rattle.oci_cgroups_network.specs.declared.linux_rdma.LinuxRdma.{LinuxRdma}
 use Rattle.oci_cgroups_network.specs.contracts.linux_rdma.LinuxRdma.{the_row}
-
--- the members, in the order in which they are looked at
-abbrev pub linux_rdma : Shape
-linux_rdma = rows (
-    listed (codes "hcaHandles") optional u32 (
-    listed (codes "hcaObjects") optional u32
-    no_rows))
 
 -- the content of a document
 abbrev pub linux_rdma_plain : LinuxRdma → Plain

@@ -1,8 +1,8 @@
 //! The priority of a container's traffic on one network interface (runtime specification, "Linux Container Configuration", "Network").
 ghost use Rattle.std.specs.Prelude.{◌≡◌, IfOk, IfErr};
 
-use oci_json_kinds::defaulted;
-use oci_json_schema::{OciMember, OciRecord, all_2, fault, write_required};
+use oci_json_members::defaulted;
+use oci_json_model::{OciMember, OciRecord, fault, try_join2, write_required};
 use oci_text_base::{OciSpecError, Result};
 use serde_json::{Map, Value};
 use std::alloc::Global;
@@ -78,20 +78,21 @@ impl LinuxInterfacePriority {
 }
 
 impl OciRecord for LinuxInterfacePriority {
-    ghost use Rattle.oci_json_kinds.specs.DefaultMembers.{default_number, default_text};
-    ghost use Rattle.oci_json_schema.specs.Same.{same_document, same_more, same_last, same_given, same_texts, same_numbers};
-    ghost use Rattle.oci_cgroups_network.specs.LinuxInterfacePriority.{linux_interface_priority, linux_interface_priority_plain};
+    ghost use Rattle.oci_json_members.specs.DefaultMembers.{default_number, default_text};
+    ghost use Rattle.oci_json_model.specs.Same.{same_document, same_more, same_last, same_given, same_texts, same_numbers};
+    ghost use Rattle.oci_shapes.specs.LinuxInterfacePriority.{linux_interface_priority};
+    ghost use Rattle.oci_cgroups_network.specs.LinuxInterfacePriority.{linux_interface_priority_plain};
 
     ghost shape = { linux_interface_priority };
 
     ghost plain = { linux_interface_priority_plain };
 
-    #[tactic(auto, using(oci_json_schema::proofs::Readers::refuses_others))]
+    #[tactic(auto, using(oci_json_model::proofs::Readers::refuses_others))]
     fn from_value(alloc: Global, value: &Value) -> Result<LinuxInterfacePriority> {
         if !value.is_object() {
             return Err(fault::refused(NAME, ""));
         }
-        let (name, priority) = all_2(
+        let (name, priority) = try_join2(
             defaulted(alloc, value, NAME, "name"),
             defaulted(alloc, value, NAME, "priority"),
         )?;
@@ -100,7 +101,7 @@ impl OciRecord for LinuxInterfacePriority {
 
     fn to_value(&self, alloc: Global) -> Result<Value> {
         let mut members = Map::new(alloc);
-        all_2(
+        try_join2(
             write_required(&mut members, alloc, "name", &self.name),
             write_required(&mut members, alloc, "priority", &self.priority),
         )?;
@@ -130,8 +131,8 @@ pub struct LinuxInterfacePriorityBuilder {
 
 impl LinuxInterfacePriorityBuilder {
     ghost use Rattle.std.specs.Prelude.{Some, unwrap_or, option_map, pos, []};
-    ghost use Rattle.oci_json_schema.specs.Plain as plain;
-    ghost use Rattle.oci_json_schema.specs.Types.{text_plain, number_plain};
+    ghost use Rattle.oci_json_model.specs.Plain as plain;
+    ghost use Rattle.oci_json_model.specs.Types.{text_plain, number_plain};
 
     /// The name of the interface, in the network namespace of the runtime.
     pub fn name(self, name: String) -> Self

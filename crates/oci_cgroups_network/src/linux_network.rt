@@ -2,7 +2,7 @@
 ghost use Rattle.std.specs.Prelude.{◌≡◌, IfOk, IfErr};
 
 use crate::linux_interface_priority::LinuxInterfacePriority;
-use oci_json_schema::{OciRecord, all_2, copy_optional, fault, optional, write_optional};
+use oci_json_model::{OciRecord, copy_optional, fault, optional, try_join2, write_optional};
 use oci_text_base::{OciSpecError, Result};
 use serde_json::{Map, Value};
 use std::alloc::Global;
@@ -81,21 +81,22 @@ impl LinuxNetwork {
 }
 
 impl OciRecord for LinuxNetwork {
-    ghost use Rattle.oci_json_kinds.specs.DefaultMembers.{default_number, default_text};
-    ghost use Rattle.oci_json_schema.specs.Same.{same_document, same_more, same_last, same_perhaps, same_lists, same_numbers};
-    ghost use Rattle.oci_cgroups_network.specs.LinuxNetwork.{linux_network, linux_network_plain};
+    ghost use Rattle.oci_json_members.specs.DefaultMembers.{default_number, default_text};
+    ghost use Rattle.oci_json_model.specs.Same.{same_document, same_more, same_last, same_perhaps, same_lists, same_numbers};
+    ghost use Rattle.oci_shapes.specs.LinuxNetwork.{linux_network};
+    ghost use Rattle.oci_cgroups_network.specs.LinuxNetwork.{linux_network_plain};
     ghost use Rattle.oci_cgroups_network.specs.contracts.linux_interface_priority.LinuxInterfacePriorityOciRecord.TheImpl.Laws.{same-law as linux_interface_priority_same};
 
     ghost shape = { linux_network };
 
     ghost plain = { linux_network_plain };
 
-    #[tactic(auto, using(oci_json_schema::proofs::Readers::refuses_others))]
+    #[tactic(auto, using(oci_json_model::proofs::Readers::refuses_others))]
     fn from_value(alloc: Global, value: &Value) -> Result<LinuxNetwork> {
         if !value.is_object() {
             return Err(fault::refused(NAME, ""));
         }
-        let (class_id, priorities) = all_2(
+        let (class_id, priorities) = try_join2(
             optional(alloc, value, NAME, "classID"),
             optional(alloc, value, NAME, "priorities"),
         )?;
@@ -107,7 +108,7 @@ impl OciRecord for LinuxNetwork {
 
     fn to_value(&self, alloc: Global) -> Result<Value> {
         let mut members = Map::new(alloc);
-        all_2(
+        try_join2(
             write_optional(&mut members, alloc, "classID", &self.class_id),
             write_optional(&mut members, alloc, "priorities", &self.priorities),
         )?;

@@ -1,7 +1,7 @@
 //! What a container may use of one device for remote direct memory access (runtime specification, "Linux Container Configuration", "RDMA").
 ghost use Rattle.std.specs.Prelude.{◌≡◌, IfOk, IfErr};
 
-use oci_json_schema::{OciRecord, all_2, fault, optional, write_optional};
+use oci_json_model::{OciRecord, fault, optional, try_join2, write_optional};
 use oci_text_base::{OciSpecError, Result};
 use serde_json::{Map, Value};
 use std::alloc::Global;
@@ -70,19 +70,20 @@ impl LinuxRdma {
 }
 
 impl OciRecord for LinuxRdma {
-    ghost use Rattle.oci_json_schema.specs.Same.{same_document, same_more, same_last, same_perhaps, same_numbers};
-    ghost use Rattle.oci_cgroups_network.specs.LinuxRdma.{linux_rdma, linux_rdma_plain};
+    ghost use Rattle.oci_json_model.specs.Same.{same_document, same_more, same_last, same_perhaps, same_numbers};
+    ghost use Rattle.oci_shapes.specs.LinuxRdma.{linux_rdma};
+    ghost use Rattle.oci_cgroups_network.specs.LinuxRdma.{linux_rdma_plain};
 
     ghost shape = { linux_rdma };
 
     ghost plain = { linux_rdma_plain };
 
-    #[tactic(auto, using(oci_json_schema::proofs::Readers::refuses_others))]
+    #[tactic(auto, using(oci_json_model::proofs::Readers::refuses_others))]
     fn from_value(alloc: Global, value: &Value) -> Result<LinuxRdma> {
         if !value.is_object() {
             return Err(fault::refused(NAME, ""));
         }
-        let (hca_handles, hca_objects) = all_2(
+        let (hca_handles, hca_objects) = try_join2(
             optional(alloc, value, NAME, "hcaHandles"),
             optional(alloc, value, NAME, "hcaObjects"),
         )?;
@@ -94,7 +95,7 @@ impl OciRecord for LinuxRdma {
 
     fn to_value(&self, alloc: Global) -> Result<Value> {
         let mut members = Map::new(alloc);
-        all_2(
+        try_join2(
             write_optional(&mut members, alloc, "hcaHandles", &self.hca_handles),
             write_optional(&mut members, alloc, "hcaObjects", &self.hca_objects),
         )?;

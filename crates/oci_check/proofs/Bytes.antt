@@ -2,10 +2,10 @@
 use Rattle.std.proofs.Common.{◌≡◌, ℕ, List, Bool, true, false, sym, subst, true≢false}
 use Rattle.std.specs.Prelude.{◌↔◌}
 use Rattle.serde_json.specs.Data.{Data}
-use Rattle.oci_spec.specs.Plain.{Plain}
-use Rattle.oci_spec.specs.Shape.{Shape}
-use Rattle.oci_spec.specs.Means.{Means}
-use Rattle.oci_spec.specs.Engines.{ReadsAs, MeansBytes, IsNoJson}
+use Rattle.oci_json_model.specs.Plain.{Plain}
+use Rattle.oci_json_model.specs.Shape.{Shape}
+use Rattle.oci_json_model.specs.Means.{Means}
+use Rattle.oci_json_io.specs.Engines.{ReadsAs, MeansBytes, IsNoJson}
 
 pub read_tells : (s : Shape) (bytes : List ℕ) (d : Data) (b : Bool) → ReadsAs bytes d → (b ≡ true) ↔ ((p : Plain) × Means s d p) → (b ≡ true) ↔ ((p : Plain) × MeansBytes s bytes p)
 read_tells s bytes d b reads h = (

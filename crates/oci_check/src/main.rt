@@ -7,7 +7,7 @@ mod report;
 
 use bumpalo::Bump;
 use oci_doc_run::Kind;
-use oci_spec::Result;
+use oci_text_base::Result;
 use report::judge;
 use std::env;
 use std::io::Read;

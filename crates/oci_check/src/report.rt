@@ -1,12 +1,13 @@
 //! What a form refuses in the bytes of a document.
 ghost use Rattle.std.specs.Prelude.{◌≡◌, ◌↔◌, true, IfOk, IfErr};
-ghost use Rattle.oci_spec.specs.Plain.{Plain};
-ghost use Rattle.oci_spec.specs.Engines.{MeansBytes};
-ghost use Rattle.oci_spec.specs.Refused.{IsMemory};
-ghost use Rattle.oci_json_form.specs.Tables.{shape_of};
+ghost use Rattle.oci_json_model.specs.Plain.{Plain};
+ghost use Rattle.oci_json_io.specs.Engines.{MeansBytes};
+ghost use Rattle.oci_text_base.specs.Refused.{IsMemory};
+ghost use Rattle.oci_schema_walks.specs.Tables.{shape_of};
 
-use oci_spec::forms::{Fault, Form, faults};
-use oci_spec::{OciSpecError, Result};
+use oci_schema::faults;
+use oci_schema_walks::{Fault, Form};
+use oci_text_base::{OciSpecError, Result};
 use serde_json::Value;
 use std::alloc::{AllocError, Global};
 

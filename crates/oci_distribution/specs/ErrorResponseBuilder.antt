@@ -1,6 +1,6 @@
 -- What the builder of `ErrorResponse` asks for.
 use Rattle.std.specs.Prelude.{ℕ, List, [], ◌∷◌, Option, codes, is_none}
-use Rattle.oci_json_schema.specs.Built.{first_unset}
+use Rattle.oci_json_model.specs.Built.{first_unset}
 use Rattle.oci_distribution.specs.declared.error_response.ErrorResponseBuilder.{ErrorResponseBuilder}
 
 -- the first field that has to be set and is not

@@ -6,5 +6,5 @@ pub mod RepositoryList
 pub mod RepositoryListBuilder
 pub mod TagList
 pub mod TagListBuilder
-pub use Rattle.oci_json_schema.specs.Built
+pub use Rattle.oci_json_model.specs.Built
 pub use Rattle.oci_text.specs.ErrorCode

@@ -1,9 +1,9 @@
 //! One error of a registry's reply (distribution specification, "Error Codes").
 ghost use Rattle.std.specs.Prelude.{◌≡◌, IfOk, IfErr};
 
-use oci_json_kinds::{Detail, copy_optional_as, optional_as, write_optional_as};
-use oci_json_schema::{
-    OciMember, OciRecord, all_3, copy_optional, fault, optional, required, write_optional,
+use oci_json_members::{Detail, copy_optional_as, optional_as, write_optional_as};
+use oci_json_model::{
+    OciMember, OciRecord, copy_optional, fault, optional, required, try_join3, write_optional,
     write_required,
 };
 use oci_text::ErrorCode;
@@ -66,19 +66,20 @@ impl ErrorInfo {
 
 impl OciRecord for ErrorInfo {
     ghost use Rattle.oci_text.specs.ErrorCode.{error_code_same};
-    ghost use Rattle.oci_json_schema.specs.Same.{same_document, same_more, same_last, same_given, same_perhaps, same_texts, same_variants};
-    ghost use Rattle.oci_distribution.specs.ErrorInfo.{error_info, error_info_plain};
+    ghost use Rattle.oci_json_model.specs.Same.{same_document, same_more, same_last, same_given, same_perhaps, same_texts, same_variants};
+    ghost use Rattle.oci_shapes.specs.ErrorInfo.{error_info};
+    ghost use Rattle.oci_distribution.specs.ErrorInfo.{error_info_plain};
 
     ghost shape = { error_info };
 
     ghost plain = { error_info_plain };
 
-    #[tactic(auto, using(oci_json_schema::proofs::Readers::refuses_others))]
+    #[tactic(auto, using(oci_json_model::proofs::Readers::refuses_others))]
     fn from_value(alloc: Global, value: &Value) -> Result<ErrorInfo> {
         if !value.is_object() {
             return Err(fault::refused(NAME, ""));
         }
-        let (code, message, detail) = all_3(
+        let (code, message, detail) = try_join3(
             required(alloc, value, NAME, "code"),
             optional(alloc, value, NAME, "message"),
             optional_as::<Detail, String>(alloc, value, NAME, "detail"),
@@ -92,7 +93,7 @@ impl OciRecord for ErrorInfo {
 
     fn to_value(&self, alloc: Global) -> Result<Value> {
         let mut members = Map::new(alloc);
-        all_3(
+        try_join3(
             write_required(&mut members, alloc, "code", &self.code),
             write_optional(&mut members, alloc, "message", &self.message),
             write_optional_as::<Detail, String>(&mut members, alloc, NAME, "detail", &self.detail),
@@ -101,7 +102,7 @@ impl OciRecord for ErrorInfo {
     }
 
     fn duplicate(&self, alloc: Global) -> Result<ErrorInfo> {
-        let (code, message, detail) = all_3(
+        let (code, message, detail) = try_join3(
             self.code.copy(alloc),
             copy_optional(&self.message, alloc),
             copy_optional_as::<Detail, String>(&self.detail, alloc),
@@ -131,7 +132,7 @@ pub struct ErrorInfoBuilder {
 
 impl ErrorInfoBuilder {
     ghost use Rattle.std.specs.Prelude.{Some};
-    ghost use Rattle.oci_json_schema.specs.Built.{IsUnset};
+    ghost use Rattle.oci_json_model.specs.Built.{IsUnset};
     ghost use Rattle.oci_distribution.specs.ErrorInfoBuilder.{error_info_unset};
 
     /// The code, which says what went wrong.

@@ -2,7 +2,7 @@
 ghost use Rattle.std.specs.Prelude.{◌≡◌, IfOk, IfErr};
 
 use crate::error_info::ErrorInfo;
-use oci_json_schema::{OciMember, OciRecord, fault, required, write_required};
+use oci_json_model::{OciMember, OciRecord, fault, required, write_required};
 use oci_text_base::{OciSpecError, Result, UninitializedFieldError};
 use serde_json::{Map, Value};
 use std::alloc::Global;
@@ -65,15 +65,16 @@ impl ErrorResponse {
 }
 
 impl OciRecord for ErrorResponse {
-    ghost use Rattle.oci_json_schema.specs.Same.{same_document, same_last, same_given, same_lists};
-    ghost use Rattle.oci_distribution.specs.ErrorResponse.{error_response, error_response_plain};
+    ghost use Rattle.oci_json_model.specs.Same.{same_document, same_last, same_given, same_lists};
+    ghost use Rattle.oci_shapes.specs.ErrorResponse.{error_response};
+    ghost use Rattle.oci_distribution.specs.ErrorResponse.{error_response_plain};
     ghost use Rattle.oci_distribution.specs.contracts.error_info.ErrorInfoOciRecord.TheImpl.Laws.{same-law as error_info_same};
 
     ghost shape = { error_response };
 
     ghost plain = { error_response_plain };
 
-    #[tactic(auto, using(oci_json_schema::proofs::Readers::refuses_others))]
+    #[tactic(auto, using(oci_json_model::proofs::Readers::refuses_others))]
     fn from_value(alloc: Global, value: &Value) -> Result<ErrorResponse> {
         if !value.is_object() {
             return Err(fault::refused(NAME, ""));
@@ -109,7 +110,7 @@ pub struct ErrorResponseBuilder {
 
 impl ErrorResponseBuilder {
     ghost use Rattle.std.specs.Prelude.{Some};
-    ghost use Rattle.oci_json_schema.specs.Built.{IsUnset};
+    ghost use Rattle.oci_json_model.specs.Built.{IsUnset};
     ghost use Rattle.oci_distribution.specs.ErrorResponseBuilder.{error_response_unset};
 
     /// The errors.

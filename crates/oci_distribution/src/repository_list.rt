@@ -1,7 +1,7 @@
 //! The repositories of a registry (distribution specification, "Listing Repositories").
 ghost use Rattle.std.specs.Prelude.{◌≡◌, IfOk, IfErr};
 
-use oci_json_schema::{OciMember, OciRecord, fault, required, write_required};
+use oci_json_model::{OciMember, OciRecord, fault, required, write_required};
 use oci_text_base::{OciSpecError, Result, UninitializedFieldError};
 use serde_json::{Map, Value};
 use std::alloc::Global;
@@ -49,14 +49,15 @@ impl RepositoryList {
 }
 
 impl OciRecord for RepositoryList {
-    ghost use Rattle.oci_json_schema.specs.Same.{same_document, same_last, same_given, same_texts, same_lists};
-    ghost use Rattle.oci_distribution.specs.RepositoryList.{repository_list, repository_list_plain};
+    ghost use Rattle.oci_json_model.specs.Same.{same_document, same_last, same_given, same_texts, same_lists};
+    ghost use Rattle.oci_shapes.specs.RepositoryList.{repository_list};
+    ghost use Rattle.oci_distribution.specs.RepositoryList.{repository_list_plain};
 
     ghost shape = { repository_list };
 
     ghost plain = { repository_list_plain };
 
-    #[tactic(auto, using(oci_json_schema::proofs::Readers::refuses_others))]
+    #[tactic(auto, using(oci_json_model::proofs::Readers::refuses_others))]
     fn from_value(alloc: Global, value: &Value) -> Result<RepositoryList> {
         if !value.is_object() {
             return Err(fault::refused(NAME, ""));
@@ -92,7 +93,7 @@ pub struct RepositoryListBuilder {
 
 impl RepositoryListBuilder {
     ghost use Rattle.std.specs.Prelude.{Some};
-    ghost use Rattle.oci_json_schema.specs.Built.{IsUnset};
+    ghost use Rattle.oci_json_model.specs.Built.{IsUnset};
     ghost use Rattle.oci_distribution.specs.RepositoryListBuilder.{repository_list_unset};
 
     /// The names of the repositories.

@@ -1,7 +1,7 @@
 //! The tags of a repository (distribution specification, "Listing Tags").
 ghost use Rattle.std.specs.Prelude.{◌≡◌, IfOk, IfErr};
 
-use oci_json_schema::{OciMember, OciRecord, all_2, fault, required, write_required};
+use oci_json_model::{OciMember, OciRecord, fault, required, try_join2, write_required};
 use oci_text_base::{OciSpecError, Result, UninitializedFieldError};
 use serde_json::{Map, Value};
 use std::alloc::Global;
@@ -66,19 +66,20 @@ impl TagList {
 }
 
 impl OciRecord for TagList {
-    ghost use Rattle.oci_json_schema.specs.Same.{same_document, same_more, same_last, same_given, same_texts, same_lists};
-    ghost use Rattle.oci_distribution.specs.TagList.{tag_list, tag_list_plain};
+    ghost use Rattle.oci_json_model.specs.Same.{same_document, same_more, same_last, same_given, same_texts, same_lists};
+    ghost use Rattle.oci_shapes.specs.TagList.{tag_list};
+    ghost use Rattle.oci_distribution.specs.TagList.{tag_list_plain};
 
     ghost shape = { tag_list };
 
     ghost plain = { tag_list_plain };
 
-    #[tactic(auto, using(oci_json_schema::proofs::Readers::refuses_others))]
+    #[tactic(auto, using(oci_json_model::proofs::Readers::refuses_others))]
     fn from_value(alloc: Global, value: &Value) -> Result<TagList> {
         if !value.is_object() {
             return Err(fault::refused(NAME, ""));
         }
-        let (name, tags) = all_2(
+        let (name, tags) = try_join2(
             required(alloc, value, NAME, "name"),
             required(alloc, value, NAME, "tags"),
         )?;
@@ -87,7 +88,7 @@ impl OciRecord for TagList {
 
     fn to_value(&self, alloc: Global) -> Result<Value> {
         let mut members = Map::new(alloc);
-        all_2(
+        try_join2(
             write_required(&mut members, alloc, "name", &self.name),
             write_required(&mut members, alloc, "tags", &self.tags),
         )?;
@@ -95,7 +96,7 @@ impl OciRecord for TagList {
     }
 
     fn duplicate(&self, alloc: Global) -> Result<TagList> {
-        let (name, tags) = all_2(self.name.copy(alloc), self.tags.copy(alloc))?;
+        let (name, tags) = try_join2(self.name.copy(alloc), self.tags.copy(alloc))?;
         Ok(TagList { name, tags })
     }
 
@@ -115,7 +116,7 @@ pub struct TagListBuilder {
 
 impl TagListBuilder {
     ghost use Rattle.std.specs.Prelude.{Some};
-    ghost use Rattle.oci_json_schema.specs.Built.{IsUnset};
+    ghost use Rattle.oci_json_model.specs.Built.{IsUnset};
     ghost use Rattle.oci_distribution.specs.TagListBuilder.{tag_list_unset};
 
     /// The name of the repository.

@@ -1,7 +1,7 @@
 -- The commands that words ask for.
 use Rattle.std.specs.Prelude.{ℕ, List, [], ◌∷◌, ◌++◌, codes, bytes_eq, Option, Some, None, option_map, if◌then◌else◌, ⊤}
-use Rattle.oci_spec.specs.Accepted.{Accepted}
-use Rattle.oci_spec.specs.Parts.{Parts}
+use Rattle.oci_reference.specs.Accepted.{Accepted}
+use Rattle.oci_reference.specs.Parts.{Parts}
 use Rattle.oci_doc_run.specs.declared.kind.Kind.{Kind}
 use Rattle.oci_doc_run.specs.declared.command.Command.{Command}
 use Rattle.oci_doc_run.specs.declared.command.Command.TheVariants.{Normalize, Pretty, Reference, Digest, Pin}

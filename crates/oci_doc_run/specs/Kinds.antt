@@ -1,20 +1,20 @@
 -- The kinds of documents that the program reads, by their words.
 use Rattle.std.specs.Prelude.{ℕ, List, codes, bytes_eq, Option, Some, None, if◌then◌else◌}
-use Rattle.oci_spec.specs.Shape.{Shape}
-use Rattle.oci_spec.specs.ImageManifest.{image_manifest}
-use Rattle.oci_spec.specs.ImageIndex.{image_index}
-use Rattle.oci_spec.specs.ImageConfiguration.{image_configuration}
-use Rattle.oci_spec.specs.ArtifactManifest.{artifact_manifest}
-use Rattle.oci_spec.specs.OciLayout.{oci_layout}
-use Rattle.oci_spec.specs.Descriptor.{descriptor}
-use Rattle.oci_spec.specs.ErrorResponse.{error_response}
-use Rattle.oci_spec.specs.RepositoryList.{repository_list}
-use Rattle.oci_spec.specs.TagList.{tag_list}
-use Rattle.oci_spec.specs.Record.{reference}
-use Rattle.oci_spec.specs.Spec.{spec}
-use Rattle.oci_spec.specs.State.{state}
-use Rattle.oci_spec.specs.ContainerProcessState.{container_process_state}
-use Rattle.oci_spec.specs.Features.{features}
+use Rattle.oci_json_model.specs.Shape.{Shape}
+use Rattle.oci_shapes.specs.ImageManifest.{image_manifest}
+use Rattle.oci_shapes.specs.ImageIndex.{image_index}
+use Rattle.oci_shapes.specs.ImageConfiguration.{image_configuration}
+use Rattle.oci_shapes.specs.ArtifactManifest.{artifact_manifest}
+use Rattle.oci_shapes.specs.OciLayout.{oci_layout}
+use Rattle.oci_shapes.specs.Descriptor.{descriptor}
+use Rattle.oci_shapes.specs.ErrorResponse.{error_response}
+use Rattle.oci_shapes.specs.RepositoryList.{repository_list}
+use Rattle.oci_shapes.specs.TagList.{tag_list}
+use Rattle.oci_shapes.specs.Reference.{reference}
+use Rattle.oci_shapes.specs.Spec.{spec}
+use Rattle.oci_shapes.specs.State.{state}
+use Rattle.oci_shapes.specs.ContainerProcessState.{container_process_state}
+use Rattle.oci_shapes.specs.Features.{features}
 use Rattle.oci_doc_run.specs.declared.kind.Kind.{Kind}
 use Rattle.oci_doc_run.specs.declared.kind.Kind.TheVariants.{Manifest, Index, Config, Artifact, Layout, Descriptor, Error, Repositories, Tags, Reference, Spec, State, ProcessState, Features}
 

@@ -1,17 +1,18 @@
 //! The commands on documents.
 ghost use Rattle.std.specs.Prelude.{OnOk, IfErr};
 ghost use Rattle.std.specs.Io.KnownBytes.{Appends};
-ghost use Rattle.oci_json_form.specs.Tables.{shape_of as form_shape};
-ghost use Rattle.oci_spec.specs.WellFormed.{WellFormed};
-ghost use Rattle.oci_spec.specs.Engines.{WritesDocument};
-ghost use Rattle.oci_spec.specs.Pretty.{WritesPretty};
+ghost use Rattle.oci_schema_walks.specs.Tables.{shape_of as form_shape};
+ghost use Rattle.oci_json_model.specs.WellFormed.{WellFormed};
+ghost use Rattle.oci_json_io.specs.Engines.{WritesDocument};
+ghost use Rattle.oci_schema.specs.Pretty.{WritesPretty};
 ghost use Rattle.oci_doc_run.specs.Kinds.{shape_of};
 ghost use Rattle.oci_doc_run.specs.Refusals.{TellsOfNormal, TellsOfPretty};
 
 use crate::kind::Kind;
 use crate::refusal::Refusal;
 use bumpalo::Bump;
-use oci_spec::forms::{Form, normalize_by_form, normalize_pretty_by_form};
+use oci_schema::{normalize_by_form, normalize_pretty_by_form};
+use oci_schema_walks::Form;
 use std::alloc::Global;
 use std::io::{Read, Write};
 

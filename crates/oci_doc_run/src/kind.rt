@@ -1,16 +1,19 @@
 //! The kinds of documents.
 ghost use Rattle.std.specs.Prelude.{◌≡◌, IfOk};
-ghost use Rattle.oci_spec.specs.WellFormed.{WellFormed};
-ghost use Rattle.oci_json_form.specs.Tables.{shape_of as form_shape};
+ghost use Rattle.oci_json_model.specs.WellFormed.{WellFormed};
+ghost use Rattle.oci_schema_walks.specs.Tables.{shape_of as form_shape};
 ghost use Rattle.oci_doc_run.specs.Kinds.{kind_of, shape_of};
 
 use bumpalo::Bump;
-use oci_spec::distribution::{ErrorResponse, Reference, RepositoryList, TagList};
-use oci_spec::forms::{Form, form_of};
-use oci_spec::image::{
-    ArtifactManifest, Descriptor, ImageConfiguration, ImageIndex, ImageManifest, OciLayout,
-};
-use oci_spec::runtime::{ContainerProcessState, Features, Spec, State};
+use oci_schema_walks::Form;
+use oci_schemas::distribution::{error_response, repository_list, tag_list};
+use oci_schemas::features::features;
+use oci_schemas::image::image_configuration;
+use oci_schemas::image_descriptor::descriptor;
+use oci_schemas::image_manifest::{artifact_manifest, image_index, image_manifest, oci_layout};
+use oci_schemas::reference::reference;
+use oci_schemas::runtime_records::{container_process_state, state};
+use oci_schemas::runtime_spec::spec;
 use std::alloc::AllocError;
 
 /// A kind of document, which the program names by one word.
@@ -76,20 +79,20 @@ impl Kind {
         ensures well { IfOk result (λ f. WellFormed (form_shape f.now)) }
     {
         match self {
-            Kind::Manifest => form_of::<ImageManifest>(room),
-            Kind::Index => form_of::<ImageIndex>(room),
-            Kind::Config => form_of::<ImageConfiguration>(room),
-            Kind::Artifact => form_of::<ArtifactManifest>(room),
-            Kind::Layout => form_of::<OciLayout>(room),
-            Kind::Descriptor => form_of::<Descriptor>(room),
-            Kind::Error => form_of::<ErrorResponse>(room),
-            Kind::Repositories => form_of::<RepositoryList>(room),
-            Kind::Tags => form_of::<TagList>(room),
-            Kind::Reference => form_of::<Reference>(room),
-            Kind::Spec => form_of::<Spec>(room),
-            Kind::State => form_of::<State>(room),
-            Kind::ProcessState => form_of::<ContainerProcessState>(room),
-            Kind::Features => form_of::<Features>(room),
+            Kind::Manifest => Ok(image_manifest()),
+            Kind::Index => Ok(image_index()),
+            Kind::Config => Ok(image_configuration()),
+            Kind::Artifact => Ok(artifact_manifest()),
+            Kind::Layout => Ok(oci_layout()),
+            Kind::Descriptor => Ok(descriptor()),
+            Kind::Error => Ok(error_response()),
+            Kind::Repositories => Ok(repository_list()),
+            Kind::Tags => Ok(tag_list()),
+            Kind::Reference => Ok(reference()),
+            Kind::Spec => spec(room),
+            Kind::State => Ok(state()),
+            Kind::ProcessState => Ok(container_process_state()),
+            Kind::Features => features(room),
         }
     }
 }

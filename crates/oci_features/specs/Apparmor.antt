@@ -1,20 +1,12 @@
 -- Whether a runtime has AppArmor, whatever its host has (runtime specification, "Linux Features Structure", `apparmor`).
-use Rattle.std.specs.Prelude.{[], ◌∷◌, codes, Option, Bool}
+use Rattle.std.specs.Prelude.{[], ◌∷◌, Option, Bool}
 use Rattle.std.specs.Borrow.{Lends, MutBor, Fml}
-use Rattle.std.specs.declared.alloc.Global.{Global}
-use Rattle.oci_json_schema.specs.Plain.{Plain, document, slots, empty}
-use Rattle.oci_json_schema.specs.Shape.{Shape, rows, no_rows, listed, nullable, truth}
-use Rattle.oci_json_schema.specs.Types.{perhaps, truth_plain}
-use Rattle.oci_json_schema.specs.Lent.{option_row}
+use Rattle.oci_json_model.specs.Plain.{Plain, document, slots, empty}
+use Rattle.oci_json_model.specs.Types.{perhaps, truth_plain}
+use Rattle.oci_json_model.specs.Lent.{option_row}
 use Rattle.std.specs.Borrow as borrow
 use Rattle.oci_features.specs.declared.apparmor.Apparmor.{Apparmor}
 use Rattle.oci_features.specs.contracts.apparmor.Apparmor.{the_row}
-
--- the members, in the order in which they are looked at
-abbrev pub apparmor : Shape
-apparmor = rows (
-    listed (codes "enabled") nullable truth
-    no_rows)
 
 -- the content of a document
 abbrev pub apparmor_plain : Apparmor → Plain

@@ -1,24 +1,12 @@
 -- What a runtime can do with control groups, whatever its host has (runtime specification, "Linux Features Structure", `cgroup`).
-use Rattle.std.specs.Prelude.{[], ◌∷◌, codes, Option, Bool}
+use Rattle.std.specs.Prelude.{[], ◌∷◌, Option, Bool}
 use Rattle.std.specs.Borrow.{Lends, MutBor, Fml}
-use Rattle.std.specs.declared.alloc.Global.{Global}
-use Rattle.oci_json_schema.specs.Plain.{Plain, document, slots, empty}
-use Rattle.oci_json_schema.specs.Shape.{Shape, rows, no_rows, listed, nullable, truth}
-use Rattle.oci_json_schema.specs.Types.{perhaps, truth_plain}
-use Rattle.oci_json_schema.specs.Lent.{option_row}
+use Rattle.oci_json_model.specs.Plain.{Plain, document, slots, empty}
+use Rattle.oci_json_model.specs.Types.{perhaps, truth_plain}
+use Rattle.oci_json_model.specs.Lent.{option_row}
 use Rattle.std.specs.Borrow as borrow
 use Rattle.oci_features.specs.declared.cgroup.Cgroup.{Cgroup}
 use Rattle.oci_features.specs.contracts.cgroup.Cgroup.{the_row}
-
--- the members, in the order in which they are looked at
-abbrev pub cgroup : Shape
-cgroup = rows (
-    listed (codes "v1") nullable truth (
-    listed (codes "v2") nullable truth (
-    listed (codes "systemd") nullable truth (
-    listed (codes "systemdUser") nullable truth (
-    listed (codes "rdma") nullable truth
-    no_rows)))))
 
 -- the content of a document
 abbrev pub cgroup_plain : Cgroup → Plain

@@ -1,30 +1,18 @@
 -- What a runtime can do (runtime specification, "Features Structure").
-use Rattle.std.specs.Prelude.{[], ◌∷◌, codes, Option, String, Vec}
+use Rattle.std.specs.Prelude.{[], ◌∷◌, Option, String, Vec}
 use Rattle.std.specs.Borrow.{Lends, MutBor, Fml}
 use Rattle.std.specs.declared.alloc.Global.{Global}
 use Rattle.std.specs.BTreeMap.{BTreeMap}
-use Rattle.oci_json_schema.specs.Plain as plain
-use Rattle.oci_json_schema.specs.Plain.{Plain, document, slots, empty, filled}
-use Rattle.oci_json_schema.specs.Shape.{Shape, rows, no_rows, listed, required, nullable, text, list, map}
-use Rattle.oci_json_schema.specs.Types.{given, perhaps, text_plain, list_plain, map_plain}
-use Rattle.oci_json_schema.specs.Lent.{text_row, option_row, list_row, map_row}
-use Rattle.oci_features.specs.LinuxFeature.{linux_feature, linux_feature_plain}
+use Rattle.oci_json_model.specs.Plain as plain
+use Rattle.oci_json_model.specs.Plain.{Plain, document, slots, empty, filled}
+use Rattle.oci_json_model.specs.Types.{given, perhaps, text_plain, list_plain, map_plain}
+use Rattle.oci_json_model.specs.Lent.{text_row, option_row, list_row, map_row}
+use Rattle.oci_shapes.specs.LinuxFeature.{linux_feature}
+use Rattle.oci_features.specs.LinuxFeature.{linux_feature_plain}
 use Rattle.oci_features.specs.declared.linux_feature.LinuxFeature.{LinuxFeature}
 use Rattle.oci_features.specs.contracts.linux_feature.LinuxFeature as linux_feature
 use Rattle.oci_features.specs.declared.features.Features.{Features}
 use Rattle.oci_features.specs.contracts.features.Features.{the_row}
-
--- the members, in the order in which they are looked at
-abbrev pub features : Shape
-features = rows (
-    listed (codes "ociVersionMin") required text (
-    listed (codes "ociVersionMax") required text (
-    listed (codes "hooks") nullable (list text) (
-    listed (codes "mountOptions") nullable (list text) (
-    listed (codes "linux") nullable linux_feature (
-    listed (codes "annotations") nullable (map text) (
-    listed (codes "potentiallyUnsafeConfigAnnotations") nullable (list text)
-    no_rows)))))))
 
 -- the content of a document
 abbrev pub features_plain : Features → Plain

@@ -1,22 +1,12 @@
 -- What a runtime can do with Intel's Resource Director Technology, whatever its host has (runtime specification, "Linux Features Structure", `intelRdt`).
-use Rattle.std.specs.Prelude.{[], ◌∷◌, codes, Option, Bool}
+use Rattle.std.specs.Prelude.{[], ◌∷◌, Option, Bool}
 use Rattle.std.specs.Borrow.{Lends, MutBor, Fml}
-use Rattle.std.specs.declared.alloc.Global.{Global}
-use Rattle.oci_json_schema.specs.Plain.{Plain, document, slots, empty}
-use Rattle.oci_json_schema.specs.Shape.{Shape, rows, no_rows, listed, optional, truth}
-use Rattle.oci_json_schema.specs.Types.{perhaps, truth_plain}
-use Rattle.oci_json_schema.specs.Lent.{option_row}
+use Rattle.oci_json_model.specs.Plain.{Plain, document, slots, empty}
+use Rattle.oci_json_model.specs.Types.{perhaps, truth_plain}
+use Rattle.oci_json_model.specs.Lent.{option_row}
 use Rattle.std.specs.Borrow as borrow
 use Rattle.oci_features.specs.declared.intel_rdt.IntelRdt.{IntelRdt}
 use Rattle.oci_features.specs.contracts.intel_rdt.IntelRdt.{the_row}
-
--- the members, in the order in which they are looked at
-abbrev pub intel_rdt : Shape
-intel_rdt = rows (
-    listed (codes "enabled") optional truth (
-    listed (codes "schemata") optional truth (
-    listed (codes "monitoring") optional truth
-    no_rows)))
 
 -- the content of a document
 abbrev pub intel_rdt_plain : IntelRdt → Plain

@@ -1,55 +1,47 @@
 -- What a runtime can do on Linux (runtime specification, "Linux Features Structure").
-use Rattle.std.specs.Prelude.{[], ◌∷◌, codes, Option, String, Vec}
+use Rattle.std.specs.Prelude.{[], ◌∷◌, Option, String, Vec}
 use Rattle.std.specs.Borrow.{Lends, MutBor, Fml}
 use Rattle.std.specs.declared.alloc.Global.{Global}
-use Rattle.oci_json_schema.specs.Plain.{Plain, document, slots, empty}
-use Rattle.oci_linux_names.specs.LinuxNamespaceType.{linux_namespace_type_table, linux_namespace_type_name}
+use Rattle.oci_json_model.specs.Plain.{Plain, document, slots, empty}
+use Rattle.oci_linux_names.specs.LinuxNamespaceType.{linux_namespace_type_name}
 use Rattle.oci_linux_names.specs.declared.linux_namespace_type.LinuxNamespaceType.{LinuxNamespaceType}
 use Rattle.oci_linux_names.specs.contracts.linux_namespace_type.LinuxNamespaceType as linux_namespace_type
-use Rattle.oci_json_schema.specs.Shape.{Shape, rows, no_rows, listed, nullable, text, named, list}
-use Rattle.oci_json_schema.specs.Types.{perhaps, text_plain, variant_plain, list_plain}
-use Rattle.oci_json_schema.specs.Lent.{text_row, option_row, list_row}
-use Rattle.oci_features.specs.Cgroup.{cgroup, cgroup_plain}
+use Rattle.oci_json_model.specs.Types.{perhaps, text_plain, variant_plain, list_plain}
+use Rattle.oci_json_model.specs.Lent.{text_row, option_row, list_row}
+use Rattle.oci_shapes.specs.Cgroup.{cgroup}
+use Rattle.oci_features.specs.Cgroup.{cgroup_plain}
 use Rattle.oci_features.specs.declared.cgroup.Cgroup.{Cgroup}
 use Rattle.oci_features.specs.contracts.cgroup.Cgroup as cgroup
-use Rattle.oci_features.specs.Seccomp.{seccomp, seccomp_plain}
+use Rattle.oci_shapes.specs.Seccomp.{seccomp}
+use Rattle.oci_features.specs.Seccomp.{seccomp_plain}
 use Rattle.oci_features.specs.declared.seccomp.Seccomp.{Seccomp}
 use Rattle.oci_features.specs.contracts.seccomp.Seccomp as seccomp
-use Rattle.oci_features.specs.Apparmor.{apparmor, apparmor_plain}
+use Rattle.oci_shapes.specs.Apparmor.{apparmor}
+use Rattle.oci_features.specs.Apparmor.{apparmor_plain}
 use Rattle.oci_features.specs.declared.apparmor.Apparmor.{Apparmor}
 use Rattle.oci_features.specs.contracts.apparmor.Apparmor as apparmor
-use Rattle.oci_features.specs.Selinux.{selinux, selinux_plain}
+use Rattle.oci_shapes.specs.Selinux.{selinux}
+use Rattle.oci_features.specs.Selinux.{selinux_plain}
 use Rattle.oci_features.specs.declared.selinux.Selinux.{Selinux}
 use Rattle.oci_features.specs.contracts.selinux.Selinux as selinux
-use Rattle.oci_features.specs.IntelRdt.{intel_rdt, intel_rdt_plain}
+use Rattle.oci_shapes.specs.IntelRdt.{intel_rdt}
+use Rattle.oci_features.specs.IntelRdt.{intel_rdt_plain}
 use Rattle.oci_features.specs.declared.intel_rdt.IntelRdt.{IntelRdt}
 use Rattle.oci_features.specs.contracts.intel_rdt.IntelRdt as intel_rdt
-use Rattle.oci_features.specs.MemoryPolicy.{memory_policy, memory_policy_plain}
+use Rattle.oci_shapes.specs.MemoryPolicy.{memory_policy}
+use Rattle.oci_features.specs.MemoryPolicy.{memory_policy_plain}
 use Rattle.oci_features.specs.declared.memory_policy.MemoryPolicy.{MemoryPolicy}
 use Rattle.oci_features.specs.contracts.memory_policy.MemoryPolicy as memory_policy
-use Rattle.oci_features.specs.MountExtensions.{mount_extensions, mount_extensions_plain}
+use Rattle.oci_shapes.specs.MountExtensions.{mount_extensions}
+use Rattle.oci_features.specs.MountExtensions.{mount_extensions_plain}
 use Rattle.oci_features.specs.declared.mount_extensions.MountExtensions.{MountExtensions}
 use Rattle.oci_features.specs.contracts.mount_extensions.MountExtensions as mount_extensions
-use Rattle.oci_features.specs.NetDevices.{net_devices, net_devices_plain}
+use Rattle.oci_shapes.specs.NetDevices.{net_devices}
+use Rattle.oci_features.specs.NetDevices.{net_devices_plain}
 use Rattle.oci_features.specs.declared.net_devices.NetDevices.{NetDevices}
 use Rattle.oci_features.specs.contracts.net_devices.NetDevices as net_devices
 use Rattle.oci_features.specs.declared.linux_feature.LinuxFeature.{LinuxFeature}
 use Rattle.oci_features.specs.contracts.linux_feature.LinuxFeature.{the_row}
-
--- the members, in the order in which they are looked at
-abbrev pub linux_feature : Shape
-linux_feature = rows (
-    listed (codes "namespaces") nullable (list (named linux_namespace_type_table)) (
-    listed (codes "capabilities") nullable (list text) (
-    listed (codes "cgroup") nullable cgroup (
-    listed (codes "seccomp") nullable seccomp (
-    listed (codes "apparmor") nullable apparmor (
-    listed (codes "selinux") nullable selinux (
-    listed (codes "intelRdt") nullable intel_rdt (
-    listed (codes "memoryPolicy") nullable memory_policy (
-    listed (codes "mountExtensions") nullable mount_extensions (
-    listed (codes "netDevices") nullable net_devices
-    no_rows))))))))))
 
 -- the content of a document
 abbrev pub linux_feature_plain : LinuxFeature → Plain

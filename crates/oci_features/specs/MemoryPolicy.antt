@@ -1,20 +1,12 @@
 -- What a runtime knows of memory policies (runtime specification, "Linux Features Structure", `memoryPolicy`).
-use Rattle.std.specs.Prelude.{[], ◌∷◌, codes, Option, String, Vec}
+use Rattle.std.specs.Prelude.{[], ◌∷◌, Option, String, Vec}
 use Rattle.std.specs.Borrow.{Lends, MutBor, Fml}
 use Rattle.std.specs.declared.alloc.Global.{Global}
-use Rattle.oci_json_schema.specs.Plain.{Plain, document, slots, empty}
-use Rattle.oci_json_schema.specs.Shape.{Shape, rows, no_rows, listed, nullable, text, list}
-use Rattle.oci_json_schema.specs.Types.{perhaps, text_plain, list_plain}
-use Rattle.oci_json_schema.specs.Lent.{text_row, option_row, list_row}
+use Rattle.oci_json_model.specs.Plain.{Plain, document, slots, empty}
+use Rattle.oci_json_model.specs.Types.{perhaps, text_plain, list_plain}
+use Rattle.oci_json_model.specs.Lent.{text_row, option_row, list_row}
 use Rattle.oci_features.specs.declared.memory_policy.MemoryPolicy.{MemoryPolicy}
 use Rattle.oci_features.specs.contracts.memory_policy.MemoryPolicy.{the_row}
-
--- the members, in the order in which they are looked at
-abbrev pub memory_policy : Shape
-memory_policy = rows (
-    listed (codes "modes") nullable (list text) (
-    listed (codes "flags") nullable (list text)
-    no_rows))
 
 -- the content of a document
 abbrev pub memory_policy_plain : MemoryPolicy → Plain

@@ -1,22 +1,15 @@
 -- What a runtime can do with mounts beyond the usual (runtime specification, "Linux Features Structure", `mountExtensions`).
-use Rattle.std.specs.Prelude.{[], ◌∷◌, codes, Option}
+use Rattle.std.specs.Prelude.{[], ◌∷◌, Option}
 use Rattle.std.specs.Borrow.{Lends, MutBor, Fml}
-use Rattle.std.specs.declared.alloc.Global.{Global}
-use Rattle.oci_json_schema.specs.Plain.{Plain, document, slots, empty}
-use Rattle.oci_json_schema.specs.Shape.{Shape, rows, no_rows, listed, nullable}
-use Rattle.oci_json_schema.specs.Types.{perhaps}
-use Rattle.oci_json_schema.specs.Lent.{option_row}
-use Rattle.oci_features.specs.IDMap.{id_map, id_map_plain}
+use Rattle.oci_json_model.specs.Plain.{Plain, document, slots, empty}
+use Rattle.oci_json_model.specs.Types.{perhaps}
+use Rattle.oci_json_model.specs.Lent.{option_row}
+use Rattle.oci_shapes.specs.IDMap.{id_map}
+use Rattle.oci_features.specs.IDMap.{id_map_plain}
 use Rattle.oci_features.specs.declared.id_map.IDMap.{IDMap}
 use Rattle.oci_features.specs.contracts.id_map.IDMap as id_map
 use Rattle.oci_features.specs.declared.mount_extensions.MountExtensions.{MountExtensions}
 use Rattle.oci_features.specs.contracts.mount_extensions.MountExtensions.{the_row}
-
--- the members, in the order in which they are looked at
-abbrev pub mount_extensions : Shape
-mount_extensions = rows (
-    listed (codes "idmap") nullable id_map
-    no_rows)
 
 -- the content of a document
 abbrev pub mount_extensions_plain : MountExtensions → Plain

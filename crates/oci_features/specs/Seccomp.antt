@@ -1,31 +1,19 @@
 -- What a runtime knows of filters of system calls (runtime specification, "Linux Features Structure", `seccomp`).
-use Rattle.std.specs.Prelude.{[], ◌∷◌, codes, Option, String, Vec, Bool}
+use Rattle.std.specs.Prelude.{[], ◌∷◌, Option, String, Vec, Bool}
 use Rattle.std.specs.Borrow.{Lends, MutBor, Fml}
 use Rattle.std.specs.declared.alloc.Global.{Global}
-use Rattle.oci_json_schema.specs.Plain.{Plain, document, slots, empty}
-use Rattle.oci_linux_names.specs.LinuxSeccompAction.{linux_seccomp_action_table, linux_seccomp_action_name}
+use Rattle.oci_json_model.specs.Plain.{Plain, document, slots, empty}
+use Rattle.oci_linux_names.specs.LinuxSeccompAction.{linux_seccomp_action_name}
 use Rattle.oci_linux_names.specs.declared.linux_seccomp_action.LinuxSeccompAction.{LinuxSeccompAction}
 use Rattle.oci_linux_names.specs.contracts.linux_seccomp_action.LinuxSeccompAction as linux_seccomp_action
-use Rattle.oci_linux_names.specs.SArch.{s_arch_table, s_arch_name}
+use Rattle.oci_linux_names.specs.SArch.{s_arch_name}
 use Rattle.oci_linux_names.specs.declared.s_arch.SArch.{SArch}
 use Rattle.oci_linux_names.specs.contracts.s_arch.SArch as s_arch
-use Rattle.oci_json_schema.specs.Shape.{Shape, rows, no_rows, listed, nullable, text, truth, named, list}
-use Rattle.oci_json_schema.specs.Types.{perhaps, text_plain, truth_plain, variant_plain, list_plain}
-use Rattle.oci_json_schema.specs.Lent.{text_row, option_row, list_row}
+use Rattle.oci_json_model.specs.Types.{perhaps, text_plain, truth_plain, variant_plain, list_plain}
+use Rattle.oci_json_model.specs.Lent.{text_row, option_row, list_row}
 use Rattle.std.specs.Borrow as borrow
 use Rattle.oci_features.specs.declared.seccomp.Seccomp.{Seccomp}
 use Rattle.oci_features.specs.contracts.seccomp.Seccomp.{the_row}
-
--- the members, in the order in which they are looked at
-abbrev pub seccomp : Shape
-seccomp = rows (
-    listed (codes "enabled") nullable truth (
-    listed (codes "actions") nullable (list (named linux_seccomp_action_table)) (
-    listed (codes "operators") nullable (list text) (
-    listed (codes "archs") nullable (list (named s_arch_table)) (
-    listed (codes "knownFlags") nullable (list text) (
-    listed (codes "supportedFlags") nullable (list text)
-    no_rows))))))
 
 -- the content of a document
 abbrev pub seccomp_plain : Seccomp → Plain

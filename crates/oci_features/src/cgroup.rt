@@ -1,8 +1,8 @@
 //! What a runtime can do with control groups, whatever its host has (runtime specification, "Linux Features Structure", `cgroup`).
 ghost use Rattle.std.specs.Prelude.{◌≡◌, IfOk, IfErr};
 
-use oci_json_kinds::{nullable, write_nullable};
-use oci_json_schema::{OciRecord, all_5, fault};
+use oci_json_members::{nullable, write_nullable};
+use oci_json_model::{OciRecord, fault, try_join5};
 use oci_text_base::{OciSpecError, Result};
 use serde_json::{Map, Value};
 use std::alloc::Global;
@@ -179,19 +179,20 @@ impl Cgroup {
 }
 
 impl OciRecord for Cgroup {
-    ghost use Rattle.oci_json_schema.specs.Same.{same_document, same_more, same_last, same_perhaps, same_truths};
-    ghost use Rattle.oci_features.specs.Cgroup.{cgroup, cgroup_plain};
+    ghost use Rattle.oci_json_model.specs.Same.{same_document, same_more, same_last, same_perhaps, same_truths};
+    ghost use Rattle.oci_shapes.specs.Cgroup.{cgroup};
+    ghost use Rattle.oci_features.specs.Cgroup.{cgroup_plain};
 
     ghost shape = { cgroup };
 
     ghost plain = { cgroup_plain };
 
-    #[tactic(auto, using(oci_json_schema::proofs::Readers::refuses_others))]
+    #[tactic(auto, using(oci_json_model::proofs::Readers::refuses_others))]
     fn from_value(alloc: Global, value: &Value) -> Result<Cgroup> {
         if !value.is_object() {
             return Err(fault::refused(NAME, ""));
         }
-        let (v1, v2, systemd, systemd_user, rdma) = all_5(
+        let (v1, v2, systemd, systemd_user, rdma) = try_join5(
             nullable(alloc, value, NAME, "v1"),
             nullable(alloc, value, NAME, "v2"),
             nullable(alloc, value, NAME, "systemd"),
@@ -209,7 +210,7 @@ impl OciRecord for Cgroup {
 
     fn to_value(&self, alloc: Global) -> Result<Value> {
         let mut members = Map::new(alloc);
-        all_5(
+        try_join5(
             write_nullable(&mut members, alloc, "v1", &self.v1),
             write_nullable(&mut members, alloc, "v2", &self.v2),
             write_nullable(&mut members, alloc, "systemd", &self.systemd),

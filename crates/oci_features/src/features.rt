@@ -2,9 +2,10 @@
 ghost use Rattle.std.specs.Prelude.{◌≡◌, IfOk, IfErr};
 
 use crate::linux_feature::LinuxFeature;
-use oci_json_kinds::{nullable, write_nullable};
-use oci_json_schema::{
-    OciMember, OciRecord, all_2, all_3, all_4, copy_optional, fault, required, write_required,
+use oci_json_members::{nullable, write_nullable};
+use oci_json_model::{
+    OciMember, OciRecord, copy_optional, fault, required, try_join2, try_join3, try_join4,
+    write_required,
 };
 use oci_text_base::{OciSpecError, Result};
 use serde_json::{Map, Value};
@@ -240,15 +241,16 @@ impl Features {
 }
 
 impl OciRecord for Features {
-    ghost use Rattle.oci_json_schema.specs.Same.{same_document, same_more, same_last, same_given, same_perhaps, same_texts, same_lists, same_maps};
-    ghost use Rattle.oci_features.specs.Features.{features, features_plain};
+    ghost use Rattle.oci_json_model.specs.Same.{same_document, same_more, same_last, same_given, same_perhaps, same_texts, same_lists, same_maps};
+    ghost use Rattle.oci_shapes.specs.Features.{features};
+    ghost use Rattle.oci_features.specs.Features.{features_plain};
     ghost use Rattle.oci_features.specs.contracts.linux_feature.LinuxFeatureOciRecord.TheImpl.Laws.{same-law as linux_feature_same};
 
     ghost shape = { features };
 
     ghost plain = { features_plain };
 
-    #[tactic(auto, using(oci_json_schema::proofs::Readers::refuses_others))]
+    #[tactic(auto, using(oci_json_model::proofs::Readers::refuses_others))]
     fn from_value(alloc: Global, value: &Value) -> Result<Features> {
         if !value.is_object() {
             return Err(fault::refused(NAME, ""));
@@ -256,14 +258,14 @@ impl OciRecord for Features {
         let (
             (oci_version_min, oci_version_max, hooks, mount_options),
             (linux, annotations, potentially_unsafe_config_annotations),
-        ) = all_2(
-            all_4(
+        ) = try_join2(
+            try_join4(
                 required(alloc, value, NAME, "ociVersionMin"),
                 required(alloc, value, NAME, "ociVersionMax"),
                 nullable(alloc, value, NAME, "hooks"),
                 nullable(alloc, value, NAME, "mountOptions"),
             ),
-            all_3(
+            try_join3(
                 nullable(alloc, value, NAME, "linux"),
                 nullable(alloc, value, NAME, "annotations"),
                 nullable(alloc, value, NAME, "potentiallyUnsafeConfigAnnotations"),
@@ -282,14 +284,14 @@ impl OciRecord for Features {
 
     fn to_value(&self, alloc: Global) -> Result<Value> {
         let mut members = Map::new(alloc);
-        all_2(
-            all_4(
+        try_join2(
+            try_join4(
                 write_required(&mut members, alloc, "ociVersionMin", &self.oci_version_min),
                 write_required(&mut members, alloc, "ociVersionMax", &self.oci_version_max),
                 write_nullable(&mut members, alloc, "hooks", &self.hooks),
                 write_nullable(&mut members, alloc, "mountOptions", &self.mount_options),
             ),
-            all_3(
+            try_join3(
                 write_nullable(&mut members, alloc, "linux", &self.linux),
                 write_nullable(&mut members, alloc, "annotations", &self.annotations),
                 write_nullable(
@@ -307,14 +309,14 @@ impl OciRecord for Features {
         let (
             (oci_version_min, oci_version_max, hooks, mount_options),
             (linux, annotations, potentially_unsafe_config_annotations),
-        ) = all_2(
-            all_4(
+        ) = try_join2(
+            try_join4(
                 self.oci_version_min.copy(alloc),
                 self.oci_version_max.copy(alloc),
                 copy_optional(&self.hooks, alloc),
                 copy_optional(&self.mount_options, alloc),
             ),
-            all_3(
+            try_join3(
                 copy_optional(&self.linux, alloc),
                 copy_optional(&self.annotations, alloc),
                 copy_optional(&self.potentially_unsafe_config_annotations, alloc),
@@ -357,8 +359,8 @@ pub struct FeaturesBuilder {
 
 impl FeaturesBuilder {
     ghost use Rattle.std.specs.Prelude.{Some, unwrap_or, option_map, []};
-    ghost use Rattle.oci_json_schema.specs.Plain as plain;
-    ghost use Rattle.oci_json_schema.specs.Types.{text_plain};
+    ghost use Rattle.oci_json_model.specs.Plain as plain;
+    ghost use Rattle.oci_json_model.specs.Types.{text_plain};
 
     /// The lowest version of the runtime specification that the runtime knows, as `1.0.0`.
     pub fn oci_version_min(self, oci_version_min: String) -> Self

@@ -1,8 +1,8 @@
 //! Whether a runtime has mounts with mapped IDs, whatever its host has (runtime specification, "Linux Features Structure", `mountExtensions`, `idmap`).
 ghost use Rattle.std.specs.Prelude.{◌≡◌, IfOk, IfErr};
 
-use oci_json_kinds::{nullable, write_nullable};
-use oci_json_schema::{OciRecord, fault};
+use oci_json_members::{nullable, write_nullable};
+use oci_json_model::{OciRecord, fault};
 use oci_text_base::{OciSpecError, Result};
 use serde_json::{Map, Value};
 use std::alloc::Global;
@@ -67,14 +67,15 @@ impl IDMap {
 }
 
 impl OciRecord for IDMap {
-    ghost use Rattle.oci_json_schema.specs.Same.{same_document, same_last, same_perhaps, same_truths};
-    ghost use Rattle.oci_features.specs.IDMap.{id_map, id_map_plain};
+    ghost use Rattle.oci_json_model.specs.Same.{same_document, same_last, same_perhaps, same_truths};
+    ghost use Rattle.oci_shapes.specs.IDMap.{id_map};
+    ghost use Rattle.oci_features.specs.IDMap.{id_map_plain};
 
     ghost shape = { id_map };
 
     ghost plain = { id_map_plain };
 
-    #[tactic(auto, using(oci_json_schema::proofs::Readers::refuses_others))]
+    #[tactic(auto, using(oci_json_model::proofs::Readers::refuses_others))]
     fn from_value(alloc: Global, value: &Value) -> Result<IDMap> {
         if !value.is_object() {
             return Err(fault::refused(NAME, ""));

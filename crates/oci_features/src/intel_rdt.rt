@@ -1,7 +1,7 @@
 //! What a runtime can do with Intel's Resource Director Technology, whatever its host has (runtime specification, "Linux Features Structure", `intelRdt`).
 ghost use Rattle.std.specs.Prelude.{◌≡◌, IfOk, IfErr};
 
-use oci_json_schema::{OciRecord, all_3, fault, optional, write_optional};
+use oci_json_model::{OciRecord, fault, optional, try_join3, write_optional};
 use oci_text_base::{OciSpecError, Result};
 use serde_json::{Map, Value};
 use std::alloc::Global;
@@ -124,19 +124,20 @@ impl IntelRdt {
 }
 
 impl OciRecord for IntelRdt {
-    ghost use Rattle.oci_json_schema.specs.Same.{same_document, same_more, same_last, same_perhaps, same_truths};
-    ghost use Rattle.oci_features.specs.IntelRdt.{intel_rdt, intel_rdt_plain};
+    ghost use Rattle.oci_json_model.specs.Same.{same_document, same_more, same_last, same_perhaps, same_truths};
+    ghost use Rattle.oci_shapes.specs.IntelRdt.{intel_rdt};
+    ghost use Rattle.oci_features.specs.IntelRdt.{intel_rdt_plain};
 
     ghost shape = { intel_rdt };
 
     ghost plain = { intel_rdt_plain };
 
-    #[tactic(auto, using(oci_json_schema::proofs::Readers::refuses_others))]
+    #[tactic(auto, using(oci_json_model::proofs::Readers::refuses_others))]
     fn from_value(alloc: Global, value: &Value) -> Result<IntelRdt> {
         if !value.is_object() {
             return Err(fault::refused(NAME, ""));
         }
-        let (enabled, schemata, monitoring) = all_3(
+        let (enabled, schemata, monitoring) = try_join3(
             optional(alloc, value, NAME, "enabled"),
             optional(alloc, value, NAME, "schemata"),
             optional(alloc, value, NAME, "monitoring"),
@@ -150,7 +151,7 @@ impl OciRecord for IntelRdt {
 
     fn to_value(&self, alloc: Global) -> Result<Value> {
         let mut members = Map::new(alloc);
-        all_3(
+        try_join3(
             write_optional(&mut members, alloc, "enabled", &self.enabled),
             write_optional(&mut members, alloc, "schemata", &self.schemata),
             write_optional(&mut members, alloc, "monitoring", &self.monitoring),

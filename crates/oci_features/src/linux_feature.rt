@@ -12,8 +12,8 @@ use crate::net_devices::NetDevices;
 use crate::seccomp::Seccomp;
 use crate::selinux::Selinux;
 pub use builder::LinuxFeatureBuilder;
-use oci_json_kinds::{nullable, write_nullable};
-use oci_json_schema::{OciRecord, all_2, all_5, copy_optional, fault};
+use oci_json_members::{nullable, write_nullable};
+use oci_json_model::{OciRecord, copy_optional, fault, try_join2, try_join5};
 use oci_linux_names::LinuxNamespaceType;
 use oci_text_base::{OciSpecError, Result};
 use serde_json::{Map, Value};
@@ -327,8 +327,9 @@ impl LinuxFeature {
 
 impl OciRecord for LinuxFeature {
     ghost use Rattle.oci_linux_names.specs.LinuxNamespaceType.{linux_namespace_type_same};
-    ghost use Rattle.oci_json_schema.specs.Same.{same_document, same_more, same_last, same_perhaps, same_texts, same_lists, same_variants};
-    ghost use Rattle.oci_features.specs.LinuxFeature.{linux_feature, linux_feature_plain};
+    ghost use Rattle.oci_json_model.specs.Same.{same_document, same_more, same_last, same_perhaps, same_texts, same_lists, same_variants};
+    ghost use Rattle.oci_shapes.specs.LinuxFeature.{linux_feature};
+    ghost use Rattle.oci_features.specs.LinuxFeature.{linux_feature_plain};
     ghost use Rattle.oci_features.specs.contracts.cgroup.CgroupOciRecord.TheImpl.Laws.{same-law as cgroup_same};
     ghost use Rattle.oci_features.specs.contracts.seccomp.SeccompOciRecord.TheImpl.Laws.{same-law as seccomp_same};
     ghost use Rattle.oci_features.specs.contracts.apparmor.ApparmorOciRecord.TheImpl.Laws.{same-law as apparmor_same};
@@ -342,7 +343,7 @@ impl OciRecord for LinuxFeature {
 
     ghost plain = { linux_feature_plain };
 
-    #[tactic(auto, using(oci_json_schema::proofs::Readers::refuses_others))]
+    #[tactic(auto, using(oci_json_model::proofs::Readers::refuses_others))]
     fn from_value(alloc: Global, value: &Value) -> Result<LinuxFeature> {
         if !value.is_object() {
             return Err(fault::refused(NAME, ""));
@@ -350,15 +351,15 @@ impl OciRecord for LinuxFeature {
         let (
             (namespaces, capabilities, cgroup, seccomp, apparmor),
             (selinux, intel_rdt, memory_policy, mount_extensions, net_devices),
-        ) = all_2(
-            all_5(
+        ) = try_join2(
+            try_join5(
                 nullable(alloc, value, NAME, "namespaces"),
                 nullable(alloc, value, NAME, "capabilities"),
                 nullable(alloc, value, NAME, "cgroup"),
                 nullable(alloc, value, NAME, "seccomp"),
                 nullable(alloc, value, NAME, "apparmor"),
             ),
-            all_5(
+            try_join5(
                 nullable(alloc, value, NAME, "selinux"),
                 nullable(alloc, value, NAME, "intelRdt"),
                 nullable(alloc, value, NAME, "memoryPolicy"),
@@ -382,15 +383,15 @@ impl OciRecord for LinuxFeature {
 
     fn to_value(&self, alloc: Global) -> Result<Value> {
         let mut members = Map::new(alloc);
-        all_2(
-            all_5(
+        try_join2(
+            try_join5(
                 write_nullable(&mut members, alloc, "namespaces", &self.namespaces),
                 write_nullable(&mut members, alloc, "capabilities", &self.capabilities),
                 write_nullable(&mut members, alloc, "cgroup", &self.cgroup),
                 write_nullable(&mut members, alloc, "seccomp", &self.seccomp),
                 write_nullable(&mut members, alloc, "apparmor", &self.apparmor),
             ),
-            all_5(
+            try_join5(
                 write_nullable(&mut members, alloc, "selinux", &self.selinux),
                 write_nullable(&mut members, alloc, "intelRdt", &self.intel_rdt),
                 write_nullable(&mut members, alloc, "memoryPolicy", &self.memory_policy),
@@ -410,15 +411,15 @@ impl OciRecord for LinuxFeature {
         let (
             (namespaces, capabilities, cgroup, seccomp, apparmor),
             (selinux, intel_rdt, memory_policy, mount_extensions, net_devices),
-        ) = all_2(
-            all_5(
+        ) = try_join2(
+            try_join5(
                 copy_optional(&self.namespaces, alloc),
                 copy_optional(&self.capabilities, alloc),
                 copy_optional(&self.cgroup, alloc),
                 copy_optional(&self.seccomp, alloc),
                 copy_optional(&self.apparmor, alloc),
             ),
-            all_5(
+            try_join5(
                 copy_optional(&self.selinux, alloc),
                 copy_optional(&self.intel_rdt, alloc),
                 copy_optional(&self.memory_policy, alloc),

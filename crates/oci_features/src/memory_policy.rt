@@ -1,8 +1,8 @@
 //! What a runtime knows of memory policies (runtime specification, "Linux Features Structure", `memoryPolicy`).
 ghost use Rattle.std.specs.Prelude.{◌≡◌, IfOk, IfErr};
 
-use oci_json_kinds::{nullable, write_nullable};
-use oci_json_schema::{OciRecord, all_2, copy_optional, fault};
+use oci_json_members::{nullable, write_nullable};
+use oci_json_model::{OciRecord, copy_optional, fault, try_join2};
 use oci_text_base::{OciSpecError, Result};
 use serde_json::{Map, Value};
 use std::alloc::Global;
@@ -95,19 +95,20 @@ impl MemoryPolicy {
 }
 
 impl OciRecord for MemoryPolicy {
-    ghost use Rattle.oci_json_schema.specs.Same.{same_document, same_more, same_last, same_perhaps, same_texts, same_lists};
-    ghost use Rattle.oci_features.specs.MemoryPolicy.{memory_policy, memory_policy_plain};
+    ghost use Rattle.oci_json_model.specs.Same.{same_document, same_more, same_last, same_perhaps, same_texts, same_lists};
+    ghost use Rattle.oci_shapes.specs.MemoryPolicy.{memory_policy};
+    ghost use Rattle.oci_features.specs.MemoryPolicy.{memory_policy_plain};
 
     ghost shape = { memory_policy };
 
     ghost plain = { memory_policy_plain };
 
-    #[tactic(auto, using(oci_json_schema::proofs::Readers::refuses_others))]
+    #[tactic(auto, using(oci_json_model::proofs::Readers::refuses_others))]
     fn from_value(alloc: Global, value: &Value) -> Result<MemoryPolicy> {
         if !value.is_object() {
             return Err(fault::refused(NAME, ""));
         }
-        let (modes, flags) = all_2(
+        let (modes, flags) = try_join2(
             nullable(alloc, value, NAME, "modes"),
             nullable(alloc, value, NAME, "flags"),
         )?;
@@ -116,7 +117,7 @@ impl OciRecord for MemoryPolicy {
 
     fn to_value(&self, alloc: Global) -> Result<Value> {
         let mut members = Map::new(alloc);
-        all_2(
+        try_join2(
             write_nullable(&mut members, alloc, "modes", &self.modes),
             write_nullable(&mut members, alloc, "flags", &self.flags),
         )?;
@@ -124,7 +125,7 @@ impl OciRecord for MemoryPolicy {
     }
 
     fn duplicate(&self, alloc: Global) -> Result<MemoryPolicy> {
-        let (modes, flags) = all_2(
+        let (modes, flags) = try_join2(
             copy_optional(&self.modes, alloc),
             copy_optional(&self.flags, alloc),
         )?;

@@ -2,8 +2,8 @@
 ghost use Rattle.std.specs.Prelude.{◌≡◌, IfOk, IfErr};
 
 use crate::id_map::IDMap;
-use oci_json_kinds::{nullable, write_nullable};
-use oci_json_schema::{OciRecord, copy_optional, fault};
+use oci_json_members::{nullable, write_nullable};
+use oci_json_model::{OciRecord, copy_optional, fault};
 use oci_text_base::{OciSpecError, Result};
 use serde_json::{Map, Value};
 use std::alloc::Global;
@@ -68,15 +68,16 @@ impl MountExtensions {
 }
 
 impl OciRecord for MountExtensions {
-    ghost use Rattle.oci_json_schema.specs.Same.{same_document, same_last, same_perhaps};
-    ghost use Rattle.oci_features.specs.MountExtensions.{mount_extensions, mount_extensions_plain};
+    ghost use Rattle.oci_json_model.specs.Same.{same_document, same_last, same_perhaps};
+    ghost use Rattle.oci_shapes.specs.MountExtensions.{mount_extensions};
+    ghost use Rattle.oci_features.specs.MountExtensions.{mount_extensions_plain};
     ghost use Rattle.oci_features.specs.contracts.id_map.IDMapOciRecord.TheImpl.Laws.{same-law as id_map_same};
 
     ghost shape = { mount_extensions };
 
     ghost plain = { mount_extensions_plain };
 
-    #[tactic(auto, using(oci_json_schema::proofs::Readers::refuses_others))]
+    #[tactic(auto, using(oci_json_model::proofs::Readers::refuses_others))]
     fn from_value(alloc: Global, value: &Value) -> Result<MountExtensions> {
         if !value.is_object() {
             return Err(fault::refused(NAME, ""));

@@ -1,8 +1,8 @@
 //! Whether a runtime can move network devices into a container, whatever its host can (runtime specification, "Linux Features Structure", `netDevices`).
 ghost use Rattle.std.specs.Prelude.{◌≡◌, IfOk, IfErr};
 
-use oci_json_kinds::{nullable, write_nullable};
-use oci_json_schema::{OciRecord, fault};
+use oci_json_members::{nullable, write_nullable};
+use oci_json_model::{OciRecord, fault};
 use oci_text_base::{OciSpecError, Result};
 use serde_json::{Map, Value};
 use std::alloc::Global;
@@ -67,14 +67,15 @@ impl NetDevices {
 }
 
 impl OciRecord for NetDevices {
-    ghost use Rattle.oci_json_schema.specs.Same.{same_document, same_last, same_perhaps, same_truths};
-    ghost use Rattle.oci_features.specs.NetDevices.{net_devices, net_devices_plain};
+    ghost use Rattle.oci_json_model.specs.Same.{same_document, same_last, same_perhaps, same_truths};
+    ghost use Rattle.oci_shapes.specs.NetDevices.{net_devices};
+    ghost use Rattle.oci_features.specs.NetDevices.{net_devices_plain};
 
     ghost shape = { net_devices };
 
     ghost plain = { net_devices_plain };
 
-    #[tactic(auto, using(oci_json_schema::proofs::Readers::refuses_others))]
+    #[tactic(auto, using(oci_json_model::proofs::Readers::refuses_others))]
     fn from_value(alloc: Global, value: &Value) -> Result<NetDevices> {
         if !value.is_object() {
             return Err(fault::refused(NAME, ""));

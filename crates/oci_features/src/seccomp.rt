@@ -1,8 +1,8 @@
 //! What a runtime knows of filters of system calls (runtime specification, "Linux Features Structure", `seccomp`).
 ghost use Rattle.std.specs.Prelude.{◌≡◌, IfOk, IfErr};
 
-use oci_json_kinds::{nullable, write_nullable};
-use oci_json_schema::{OciRecord, all_2, all_3, all_5, copy_optional, fault};
+use oci_json_members::{nullable, write_nullable};
+use oci_json_model::{OciRecord, copy_optional, fault, try_join2, try_join3, try_join5};
 use oci_linux_names::{LinuxSeccompAction, SArch};
 use oci_text_base::{OciSpecError, Result};
 use serde_json::{Map, Value};
@@ -209,25 +209,26 @@ impl Seccomp {
 impl OciRecord for Seccomp {
     ghost use Rattle.oci_linux_names.specs.LinuxSeccompAction.{linux_seccomp_action_same};
     ghost use Rattle.oci_linux_names.specs.SArch.{s_arch_same};
-    ghost use Rattle.oci_json_schema.specs.Same.{same_document, same_more, same_last, same_perhaps, same_texts, same_lists, same_truths, same_variants};
-    ghost use Rattle.oci_features.specs.Seccomp.{seccomp, seccomp_plain};
+    ghost use Rattle.oci_json_model.specs.Same.{same_document, same_more, same_last, same_perhaps, same_texts, same_lists, same_truths, same_variants};
+    ghost use Rattle.oci_shapes.specs.Seccomp.{seccomp};
+    ghost use Rattle.oci_features.specs.Seccomp.{seccomp_plain};
 
     ghost shape = { seccomp };
 
     ghost plain = { seccomp_plain };
 
-    #[tactic(auto, using(oci_json_schema::proofs::Readers::refuses_others))]
+    #[tactic(auto, using(oci_json_model::proofs::Readers::refuses_others))]
     fn from_value(alloc: Global, value: &Value) -> Result<Seccomp> {
         if !value.is_object() {
             return Err(fault::refused(NAME, ""));
         }
-        let ((enabled, actions, operators), (archs, known_flags, supported_flags)) = all_2(
-            all_3(
+        let ((enabled, actions, operators), (archs, known_flags, supported_flags)) = try_join2(
+            try_join3(
                 nullable(alloc, value, NAME, "enabled"),
                 nullable(alloc, value, NAME, "actions"),
                 nullable(alloc, value, NAME, "operators"),
             ),
-            all_3(
+            try_join3(
                 nullable(alloc, value, NAME, "archs"),
                 nullable(alloc, value, NAME, "knownFlags"),
                 nullable(alloc, value, NAME, "supportedFlags"),
@@ -245,13 +246,13 @@ impl OciRecord for Seccomp {
 
     fn to_value(&self, alloc: Global) -> Result<Value> {
         let mut members = Map::new(alloc);
-        all_2(
-            all_3(
+        try_join2(
+            try_join3(
                 write_nullable(&mut members, alloc, "enabled", &self.enabled),
                 write_nullable(&mut members, alloc, "actions", &self.actions),
                 write_nullable(&mut members, alloc, "operators", &self.operators),
             ),
-            all_3(
+            try_join3(
                 write_nullable(&mut members, alloc, "archs", &self.archs),
                 write_nullable(&mut members, alloc, "knownFlags", &self.known_flags),
                 write_nullable(&mut members, alloc, "supportedFlags", &self.supported_flags),
@@ -261,7 +262,7 @@ impl OciRecord for Seccomp {
     }
 
     fn duplicate(&self, alloc: Global) -> Result<Seccomp> {
-        let (actions, operators, archs, known_flags, supported_flags) = all_5(
+        let (actions, operators, archs, known_flags, supported_flags) = try_join5(
             copy_optional(&self.actions, alloc),
             copy_optional(&self.operators, alloc),
             copy_optional(&self.archs, alloc),

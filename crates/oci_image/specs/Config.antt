@@ -1,29 +1,14 @@
 -- What a container of an image runs with (image specification, "Image Configuration", `config`).
-use Rattle.std.specs.Prelude.{[], ◌∷◌, codes, Option, String}
+use Rattle.std.specs.Prelude.{[], ◌∷◌, Option, String}
 use Rattle.std.specs.Borrow.{Lends, MutBor, Fml}
 use Rattle.std.specs.declared.alloc.Global.{Global}
 use Rattle.std.specs.BTreeMap.{BTreeMap}
-use Rattle.oci_json_schema.specs.Plain.{Plain, document, slots, empty}
-use Rattle.oci_json_schema.specs.Shape.{Shape, rows, no_rows, listed, optional, text, list, map, key_set}
-use Rattle.oci_json_schema.specs.Types.{perhaps, text_plain, list_plain, map_plain}
-use Rattle.oci_json_kinds.specs.Keys.{keys_plain}
-use Rattle.oci_json_schema.specs.Lent.{text_row, option_row, map_row}
+use Rattle.oci_json_model.specs.Plain.{Plain, document, slots, empty}
+use Rattle.oci_json_model.specs.Types.{perhaps, text_plain, list_plain, map_plain}
+use Rattle.oci_json_members.specs.Keys.{keys_plain}
+use Rattle.oci_json_model.specs.Lent.{text_row, option_row, map_row}
 use Rattle.oci_image.specs.declared.config.Config.{Config}
 use Rattle.oci_image.specs.contracts.config.Config.{the_row}
-
--- the members, in the order in which they are looked at
-abbrev pub config : Shape
-config = rows (
-    listed (codes "User") optional text (
-    listed (codes "ExposedPorts") optional key_set (
-    listed (codes "Env") optional (list text) (
-    listed (codes "Entrypoint") optional (list text) (
-    listed (codes "Cmd") optional (list text) (
-    listed (codes "Volumes") optional key_set (
-    listed (codes "WorkingDir") optional text (
-    listed (codes "Labels") optional (map text) (
-    listed (codes "StopSignal") optional text
-    no_rows)))))))))
 
 -- the content of a document
 abbrev pub config_plain : Config → Plain

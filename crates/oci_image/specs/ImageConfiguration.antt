@@ -4,37 +4,23 @@ use Rattle.std.specs.Option.{option_or}
 use Rattle.std.specs.BTreeMap.{BTreeMap, get_by_text}
 use Rattle.std.specs.Borrow.{Lends, MutBor, Fml}
 use Rattle.std.specs.declared.alloc.Global.{Global}
-use Rattle.oci_text.specs.Arch.{arches, arch_name}
-use Rattle.oci_text.specs.Os.{oses, os_name}
-use Rattle.oci_json_schema.specs.Plain as plain
-use Rattle.oci_json_schema.specs.Plain.{Plain, document, slots, empty, filled}
-use Rattle.oci_json_schema.specs.Shape.{Shape, rows, no_rows, listed, required, optional, text, open_name, list}
-use Rattle.oci_json_schema.specs.Types.{given, perhaps, text_plain, name_plain, list_plain}
-use Rattle.oci_json_schema.specs.Lent.{option_row, list_row}
-use Rattle.oci_image.specs.Config.{config, config_plain}
-use Rattle.oci_image.specs.RootFs.{root_fs, root_fs_plain, default_root_fs}
+use Rattle.oci_text.specs.Arch.{arch_name}
+use Rattle.oci_text.specs.Os.{os_name}
+use Rattle.oci_json_model.specs.Plain as plain
+use Rattle.oci_json_model.specs.Plain.{Plain, document, slots, empty, filled}
+use Rattle.oci_json_model.specs.Types.{given, perhaps, text_plain, name_plain, list_plain}
+use Rattle.oci_json_model.specs.Lent.{option_row, list_row}
+use Rattle.oci_image.specs.Config.{config_plain}
+use Rattle.oci_shapes.specs.RootFs.{root_fs}
+use Rattle.oci_image.specs.RootFs.{root_fs_plain, default_root_fs}
 use Rattle.oci_image.specs.declared.root_fs.RootFs.{RootFs}
 use Rattle.oci_image.specs.contracts.root_fs.RootFs as root_fs
-use Rattle.oci_image.specs.History.{history, history_plain}
+use Rattle.oci_shapes.specs.History.{history}
+use Rattle.oci_image.specs.History.{history_plain}
 use Rattle.oci_image.specs.declared.history.History.{History}
 use Rattle.oci_image.specs.contracts.history.History as history
 use Rattle.oci_image.specs.declared.image_configuration.ImageConfiguration.{ImageConfiguration}
 use Rattle.oci_image.specs.contracts.image_configuration.ImageConfiguration.{the_row}
-
--- the members, in the order in which they are looked at
-abbrev pub image_configuration : Shape
-image_configuration = rows (
-    listed (codes "created") optional text (
-    listed (codes "author") optional text (
-    listed (codes "architecture") required (open_name arches) (
-    listed (codes "os") required (open_name oses) (
-    listed (codes "os.version") optional text (
-    listed (codes "os.features") optional (list text) (
-    listed (codes "variant") optional text (
-    listed (codes "config") optional config (
-    listed (codes "rootfs") required root_fs (
-    listed (codes "history") optional (list history)
-    no_rows))))))))))
 
 -- the content of a document
 abbrev pub image_configuration_plain : ImageConfiguration → Plain

@@ -2,20 +2,12 @@
 use Rattle.std.specs.Prelude.{[], ◌∷◌, codes, String, Vec}
 use Rattle.std.specs.Borrow.{Lends, MutBor, Fml}
 use Rattle.std.specs.declared.alloc.Global.{Global}
-use Rattle.oci_json_schema.specs.Plain as plain
-use Rattle.oci_json_schema.specs.Plain.{Plain, document, slots, filled, no_plains}
-use Rattle.oci_json_schema.specs.Shape.{Shape, rows, no_rows, listed, required, text, list}
-use Rattle.oci_json_schema.specs.Types.{given, text_plain, list_plain}
-use Rattle.oci_json_schema.specs.Lent.{text_row, list_row}
+use Rattle.oci_json_model.specs.Plain as plain
+use Rattle.oci_json_model.specs.Plain.{Plain, document, slots, filled}
+use Rattle.oci_json_model.specs.Types.{given, text_plain, list_plain}
+use Rattle.oci_json_model.specs.Lent.{text_row, list_row}
 use Rattle.oci_image.specs.declared.root_fs.RootFs.{RootFs}
 use Rattle.oci_image.specs.contracts.root_fs.RootFs.{the_row}
-
--- the members, in the order in which they are looked at
-abbrev pub root_fs : Shape
-root_fs = rows (
-    listed (codes "type") required text (
-    listed (codes "diff_ids") required (list text)
-    no_rows))
 
 -- the content of a document
 abbrev pub root_fs_plain : RootFs → Plain

@@ -4,10 +4,10 @@ ghost use Rattle.std.specs.Prelude.{◌≡◌, IfOk, IfErr};
 pub mod builder;
 
 pub use builder::ConfigBuilder;
-use oci_json_kinds::{Keys, copy_optional_as, optional_as, optional_as_owned, write_optional_as};
-use oci_json_schema::{
-    OciRecord, all_2, all_4, all_5, copy_optional, fault, optional, optional_owned, taken_9,
-    write_optional,
+use oci_json_members::{Keys, copy_optional_as, optional_as, optional_as_owned, write_optional_as};
+use oci_json_model::{
+    OciRecord, copy_optional, fault, optional, optional_owned, taken_9, try_join2, try_join4,
+    try_join5, write_optional,
 };
 use oci_text_base::{OciSpecError, Result};
 use serde_json::{Map, Value};
@@ -230,15 +230,16 @@ impl Config {
 }
 
 impl OciRecord for Config {
-    ghost use Rattle.oci_json_kinds.specs.Keys.{same_keys};
-    ghost use Rattle.oci_json_schema.specs.Same.{same_document, same_more, same_last, same_perhaps, same_texts, same_lists, same_maps};
-    ghost use Rattle.oci_image.specs.Config.{config, config_plain};
+    ghost use Rattle.oci_json_members.specs.Keys.{same_keys};
+    ghost use Rattle.oci_json_model.specs.Same.{same_document, same_more, same_last, same_perhaps, same_texts, same_lists, same_maps};
+    ghost use Rattle.oci_shapes.specs.Config.{config};
+    ghost use Rattle.oci_image.specs.Config.{config_plain};
 
     ghost shape = { config };
 
     ghost plain = { config_plain };
 
-    #[tactic(auto, using(oci_json_schema::proofs::Readers::refuses_others))]
+    #[tactic(auto, using(oci_json_model::proofs::Readers::refuses_others))]
     fn from_value(alloc: Global, value: &Value) -> Result<Config> {
         if !value.is_object() {
             return Err(fault::refused(NAME, ""));
@@ -246,15 +247,15 @@ impl OciRecord for Config {
         let (
             (user, exposed_ports, env, entrypoint, cmd),
             (volumes, working_dir, labels, stop_signal),
-        ) = all_2(
-            all_5(
+        ) = try_join2(
+            try_join5(
                 optional(alloc, value, NAME, "User"),
                 optional_as::<Keys, Vec<String>>(alloc, value, NAME, "ExposedPorts"),
                 optional(alloc, value, NAME, "Env"),
                 optional(alloc, value, NAME, "Entrypoint"),
                 optional(alloc, value, NAME, "Cmd"),
             ),
-            all_4(
+            try_join4(
                 optional_as::<Keys, Vec<String>>(alloc, value, NAME, "Volumes"),
                 optional(alloc, value, NAME, "WorkingDir"),
                 optional(alloc, value, NAME, "Labels"),
@@ -274,7 +275,7 @@ impl OciRecord for Config {
         })
     }
 
-    #[tactic(auto, using(oci_json_schema::proofs::Readers::refuses_others))]
+    #[tactic(auto, using(oci_json_model::proofs::Readers::refuses_others))]
     fn from_value_owned(alloc: Global, value: Value) -> Result<Config> {
         let Some(
             (user, exposed_ports, env, entrypoint, cmd, volumes, working_dir, labels, stop_signal),
@@ -299,15 +300,15 @@ impl OciRecord for Config {
         let (
             (user, exposed_ports, env, entrypoint, cmd),
             (volumes, working_dir, labels, stop_signal),
-        ) = all_2(
-            all_5(
+        ) = try_join2(
+            try_join5(
                 optional_owned(alloc, user, NAME, "User"),
                 optional_as_owned::<Keys, Vec<String>>(alloc, exposed_ports, NAME, "ExposedPorts"),
                 optional_owned(alloc, env, NAME, "Env"),
                 optional_owned(alloc, entrypoint, NAME, "Entrypoint"),
                 optional_owned(alloc, cmd, NAME, "Cmd"),
             ),
-            all_4(
+            try_join4(
                 optional_as_owned::<Keys, Vec<String>>(alloc, volumes, NAME, "Volumes"),
                 optional_owned(alloc, working_dir, NAME, "WorkingDir"),
                 optional_owned(alloc, labels, NAME, "Labels"),
@@ -329,8 +330,8 @@ impl OciRecord for Config {
 
     fn to_value(&self, alloc: Global) -> Result<Value> {
         let mut members = Map::new(alloc);
-        all_2(
-            all_5(
+        try_join2(
+            try_join5(
                 write_optional(&mut members, alloc, "User", &self.user),
                 write_optional_as::<Keys, Vec<String>>(
                     &mut members,
@@ -343,7 +344,7 @@ impl OciRecord for Config {
                 write_optional(&mut members, alloc, "Entrypoint", &self.entrypoint),
                 write_optional(&mut members, alloc, "Cmd", &self.cmd),
             ),
-            all_4(
+            try_join4(
                 write_optional_as::<Keys, Vec<String>>(
                     &mut members,
                     alloc,
@@ -363,15 +364,15 @@ impl OciRecord for Config {
         let (
             (user, exposed_ports, env, entrypoint, cmd),
             (volumes, working_dir, labels, stop_signal),
-        ) = all_2(
-            all_5(
+        ) = try_join2(
+            try_join5(
                 copy_optional(&self.user, alloc),
                 copy_optional_as::<Keys, Vec<String>>(&self.exposed_ports, alloc),
                 copy_optional(&self.env, alloc),
                 copy_optional(&self.entrypoint, alloc),
                 copy_optional(&self.cmd, alloc),
             ),
-            all_4(
+            try_join4(
                 copy_optional_as::<Keys, Vec<String>>(&self.volumes, alloc),
                 copy_optional(&self.working_dir, alloc),
                 copy_optional(&self.labels, alloc),

@@ -1,8 +1,8 @@
 //! How one layer of an image came about (image specification, "Image Configuration", `history`).
 ghost use Rattle.std.specs.Prelude.{◌≡◌, IfOk, IfErr};
 
-use oci_json_schema::{
-    OciRecord, all_4, all_5, copy_optional, fault, optional, optional_owned, taken_5,
+use oci_json_model::{
+    OciRecord, copy_optional, fault, optional, optional_owned, taken_5, try_join4, try_join5,
     write_optional,
 };
 use oci_text_base::{OciSpecError, Result};
@@ -140,19 +140,20 @@ impl History {
 }
 
 impl OciRecord for History {
-    ghost use Rattle.oci_json_schema.specs.Same.{same_document, same_more, same_last, same_perhaps, same_texts, same_truths};
-    ghost use Rattle.oci_image.specs.History.{history, history_plain};
+    ghost use Rattle.oci_json_model.specs.Same.{same_document, same_more, same_last, same_perhaps, same_texts, same_truths};
+    ghost use Rattle.oci_shapes.specs.History.{history};
+    ghost use Rattle.oci_image.specs.History.{history_plain};
 
     ghost shape = { history };
 
     ghost plain = { history_plain };
 
-    #[tactic(auto, using(oci_json_schema::proofs::Readers::refuses_others))]
+    #[tactic(auto, using(oci_json_model::proofs::Readers::refuses_others))]
     fn from_value(alloc: Global, value: &Value) -> Result<History> {
         if !value.is_object() {
             return Err(fault::refused(NAME, ""));
         }
-        let (created, author, created_by, comment, empty_layer) = all_5(
+        let (created, author, created_by, comment, empty_layer) = try_join5(
             optional(alloc, value, NAME, "created"),
             optional(alloc, value, NAME, "author"),
             optional(alloc, value, NAME, "created_by"),
@@ -168,7 +169,7 @@ impl OciRecord for History {
         })
     }
 
-    #[tactic(auto, using(oci_json_schema::proofs::Readers::refuses_others))]
+    #[tactic(auto, using(oci_json_model::proofs::Readers::refuses_others))]
     fn from_value_owned(alloc: Global, value: Value) -> Result<History> {
         let Some((created, author, created_by, comment, empty_layer)) = taken_5(
             alloc,
@@ -178,7 +179,7 @@ impl OciRecord for History {
         else {
             return Err(fault::refused(NAME, ""));
         };
-        let (created, author, created_by, comment, empty_layer) = all_5(
+        let (created, author, created_by, comment, empty_layer) = try_join5(
             optional_owned(alloc, created, NAME, "created"),
             optional_owned(alloc, author, NAME, "author"),
             optional_owned(alloc, created_by, NAME, "created_by"),
@@ -196,7 +197,7 @@ impl OciRecord for History {
 
     fn to_value(&self, alloc: Global) -> Result<Value> {
         let mut members = Map::new(alloc);
-        all_5(
+        try_join5(
             write_optional(&mut members, alloc, "created", &self.created),
             write_optional(&mut members, alloc, "author", &self.author),
             write_optional(&mut members, alloc, "created_by", &self.created_by),
@@ -207,7 +208,7 @@ impl OciRecord for History {
     }
 
     fn duplicate(&self, alloc: Global) -> Result<History> {
-        let (created, author, created_by, comment) = all_4(
+        let (created, author, created_by, comment) = try_join4(
             copy_optional(&self.created, alloc),
             copy_optional(&self.author, alloc),
             copy_optional(&self.created_by, alloc),

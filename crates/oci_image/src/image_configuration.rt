@@ -10,9 +10,9 @@ use crate::history::History;
 use crate::root_fs::RootFs;
 pub use builder::ImageConfigurationBuilder;
 pub use labels::LABEL_VERSION;
-use oci_json_schema::{
-    OciMember, OciRecord, all_2, all_5, copy_optional, fault, optional, optional_owned, required,
-    required_owned, taken_10, write_optional, write_required,
+use oci_json_model::{
+    OciMember, OciRecord, copy_optional, fault, optional, optional_owned, required, required_owned,
+    taken_10, try_join2, try_join5, write_optional, write_required,
 };
 use oci_text::{Arch, Os};
 use oci_text_base::{OciSpecError, Result};
@@ -264,24 +264,26 @@ impl ImageConfiguration {
 
 impl fmt::Display for ImageConfiguration {
     ghost use Rattle.std.specs.Prelude.{OnOk};
-    ghost use Rattle.oci_json_schema.specs.Value.{value as json_of};
-    ghost use Rattle.oci_json_engines.specs.Engines.{DisplaysPretty};
-    ghost use Rattle.oci_image.specs.ImageConfiguration.{image_configuration, image_configuration_plain};
+    ghost use Rattle.oci_json_model.specs.Value.{value as json_of};
+    ghost use Rattle.oci_json_io.specs.Engines.{DisplaysPretty};
+    ghost use Rattle.oci_shapes.specs.ImageConfiguration.{image_configuration};
+    ghost use Rattle.oci_image.specs.ImageConfiguration.{image_configuration_plain};
 
     /// The pretty text, made in the memory of the list of layers; a formatting error where memory or the formatter refuses. Widths are not
     /// looked at.
     fn fmt<W: fmt::Write>(&self, f: &mut fmt::Formatter<W>) -> fmt::Result
         ensures pretty { OnOk result (DisplaysPretty W.write_str_gives f.old (json_of image_configuration (image_configuration_plain self.now)) f.new) }
     {
-        oci_json_engines::display_pretty(self, *self.rootfs.diff_ids().allocator(), f)
+        oci_json_io::display_pretty(self, *self.rootfs.diff_ids().allocator(), f)
     }
 }
 
 impl OciRecord for ImageConfiguration {
     ghost use Rattle.oci_text.specs.Arch.{arch_name};
     ghost use Rattle.oci_text.specs.Os.{os_name};
-    ghost use Rattle.oci_json_schema.specs.Same.{same_document, same_more, same_last, same_given, same_perhaps, same_texts, same_lists, same_named};
-    ghost use Rattle.oci_image.specs.ImageConfiguration.{image_configuration, image_configuration_plain};
+    ghost use Rattle.oci_json_model.specs.Same.{same_document, same_more, same_last, same_given, same_perhaps, same_texts, same_lists, same_named};
+    ghost use Rattle.oci_shapes.specs.ImageConfiguration.{image_configuration};
+    ghost use Rattle.oci_image.specs.ImageConfiguration.{image_configuration_plain};
     ghost use Rattle.oci_image.specs.contracts.config.ConfigOciRecord.TheImpl.Laws.{same-law as config_same};
     ghost use Rattle.oci_image.specs.contracts.root_fs.RootFsOciRecord.TheImpl.Laws.{same-law as root_fs_same};
     ghost use Rattle.oci_image.specs.contracts.history.HistoryOciRecord.TheImpl.Laws.{same-law as history_same};
@@ -290,7 +292,7 @@ impl OciRecord for ImageConfiguration {
 
     ghost plain = { image_configuration_plain };
 
-    #[tactic(auto, using(oci_json_schema::proofs::Readers::refuses_others))]
+    #[tactic(auto, using(oci_json_model::proofs::Readers::refuses_others))]
     fn from_value(alloc: Global, value: &Value) -> Result<ImageConfiguration> {
         if !value.is_object() {
             return Err(fault::refused(NAME, ""));
@@ -298,15 +300,15 @@ impl OciRecord for ImageConfiguration {
         let (
             (created, author, architecture, os, os_version),
             (os_features, variant, config, rootfs, history),
-        ) = all_2(
-            all_5(
+        ) = try_join2(
+            try_join5(
                 optional(alloc, value, NAME, "created"),
                 optional(alloc, value, NAME, "author"),
                 required(alloc, value, NAME, "architecture"),
                 required(alloc, value, NAME, "os"),
                 optional(alloc, value, NAME, "os.version"),
             ),
-            all_5(
+            try_join5(
                 optional(alloc, value, NAME, "os.features"),
                 optional(alloc, value, NAME, "variant"),
                 optional(alloc, value, NAME, "config"),
@@ -328,7 +330,7 @@ impl OciRecord for ImageConfiguration {
         })
     }
 
-    #[tactic(auto, using(oci_json_schema::proofs::Readers::refuses_others))]
+    #[tactic(auto, using(oci_json_model::proofs::Readers::refuses_others))]
     fn from_value_owned(alloc: Global, value: Value) -> Result<ImageConfiguration> {
         let Some(
             (
@@ -365,15 +367,15 @@ impl OciRecord for ImageConfiguration {
         let (
             (created, author, architecture, os, os_version),
             (os_features, variant, config, rootfs, history),
-        ) = all_2(
-            all_5(
+        ) = try_join2(
+            try_join5(
                 optional_owned(alloc, created, NAME, "created"),
                 optional_owned(alloc, author, NAME, "author"),
                 required_owned(alloc, architecture, NAME, "architecture"),
                 required_owned(alloc, os, NAME, "os"),
                 optional_owned(alloc, os_version, NAME, "os.version"),
             ),
-            all_5(
+            try_join5(
                 optional_owned(alloc, os_features, NAME, "os.features"),
                 optional_owned(alloc, variant, NAME, "variant"),
                 optional_owned(alloc, config, NAME, "config"),
@@ -397,15 +399,15 @@ impl OciRecord for ImageConfiguration {
 
     fn to_value(&self, alloc: Global) -> Result<Value> {
         let mut members = Map::new(alloc);
-        all_2(
-            all_5(
+        try_join2(
+            try_join5(
                 write_optional(&mut members, alloc, "created", &self.created),
                 write_optional(&mut members, alloc, "author", &self.author),
                 write_required(&mut members, alloc, "architecture", &self.architecture),
                 write_required(&mut members, alloc, "os", &self.os),
                 write_optional(&mut members, alloc, "os.version", &self.os_version),
             ),
-            all_5(
+            try_join5(
                 write_optional(&mut members, alloc, "os.features", &self.os_features),
                 write_optional(&mut members, alloc, "variant", &self.variant),
                 write_optional(&mut members, alloc, "config", &self.config),
@@ -420,15 +422,15 @@ impl OciRecord for ImageConfiguration {
         let (
             (created, author, architecture, os, os_version),
             (os_features, variant, config, rootfs, history),
-        ) = all_2(
-            all_5(
+        ) = try_join2(
+            try_join5(
                 copy_optional(&self.created, alloc),
                 copy_optional(&self.author, alloc),
                 self.architecture.copy(alloc),
                 self.os.copy(alloc),
                 copy_optional(&self.os_version, alloc),
             ),
-            all_5(
+            try_join5(
                 copy_optional(&self.os_features, alloc),
                 copy_optional(&self.variant, alloc),
                 copy_optional(&self.config, alloc),

@@ -1,8 +1,8 @@
 //! The layers that make up an image's file system (image specification, "Image Configuration", `rootfs`).
 ghost use Rattle.std.specs.Prelude.{◌≡◌, IfOk, IfErr};
 
-use oci_json_schema::{
-    OciMember, OciRecord, all_2, fault, required, required_owned, taken, write_required,
+use oci_json_model::{
+    OciMember, OciRecord, fault, required, required_owned, taken, try_join2, write_required,
 };
 use oci_text_base::{OciSpecError, Result};
 use serde_json::{Map, Value};
@@ -88,31 +88,32 @@ impl RootFs {
 }
 
 impl OciRecord for RootFs {
-    ghost use Rattle.oci_json_schema.specs.Same.{same_document, same_more, same_last, same_given, same_texts, same_lists};
-    ghost use Rattle.oci_image.specs.RootFs.{root_fs, root_fs_plain};
+    ghost use Rattle.oci_json_model.specs.Same.{same_document, same_more, same_last, same_given, same_texts, same_lists};
+    ghost use Rattle.oci_shapes.specs.RootFs.{root_fs};
+    ghost use Rattle.oci_image.specs.RootFs.{root_fs_plain};
 
     ghost shape = { root_fs };
 
     ghost plain = { root_fs_plain };
 
-    #[tactic(auto, using(oci_json_schema::proofs::Readers::refuses_others))]
+    #[tactic(auto, using(oci_json_model::proofs::Readers::refuses_others))]
     fn from_value(alloc: Global, value: &Value) -> Result<RootFs> {
         if !value.is_object() {
             return Err(fault::refused(NAME, ""));
         }
-        let (typ, diff_ids) = all_2(
+        let (typ, diff_ids) = try_join2(
             required(alloc, value, NAME, "type"),
             required(alloc, value, NAME, "diff_ids"),
         )?;
         Ok(RootFs { typ, diff_ids })
     }
 
-    #[tactic(auto, using(oci_json_schema::proofs::Readers::refuses_others))]
+    #[tactic(auto, using(oci_json_model::proofs::Readers::refuses_others))]
     fn from_value_owned(alloc: Global, value: Value) -> Result<RootFs> {
         let Some([typ, diff_ids]) = taken::<2>(alloc, value, &["type", "diff_ids"])? else {
             return Err(fault::refused(NAME, ""));
         };
-        let (typ, diff_ids) = all_2(
+        let (typ, diff_ids) = try_join2(
             required_owned(alloc, typ, NAME, "type"),
             required_owned(alloc, diff_ids, NAME, "diff_ids"),
         )?;
@@ -121,7 +122,7 @@ impl OciRecord for RootFs {
 
     fn to_value(&self, alloc: Global) -> Result<Value> {
         let mut members = Map::new(alloc);
-        all_2(
+        try_join2(
             write_required(&mut members, alloc, "type", &self.typ),
             write_required(&mut members, alloc, "diff_ids", &self.diff_ids),
         )?;
@@ -129,7 +130,7 @@ impl OciRecord for RootFs {
     }
 
     fn duplicate(&self, alloc: Global) -> Result<RootFs> {
-        let (typ, diff_ids) = all_2(self.typ.copy(alloc), self.diff_ids.copy(alloc))?;
+        let (typ, diff_ids) = try_join2(self.typ.copy(alloc), self.diff_ids.copy(alloc))?;
         Ok(RootFs { typ, diff_ids })
     }
 
@@ -149,8 +150,8 @@ pub struct RootFsBuilder {
 
 impl RootFsBuilder {
     ghost use Rattle.std.specs.Prelude.{Some, unwrap_or, option_map, codes};
-    ghost use Rattle.oci_json_schema.specs.Plain as plain;
-    ghost use Rattle.oci_json_schema.specs.Types.{text_plain, list_plain};
+    ghost use Rattle.oci_json_model.specs.Plain as plain;
+    ghost use Rattle.oci_json_model.specs.Types.{text_plain, list_plain};
 
     /// The kind of file system, which is `layers`.
     pub fn typ(self, typ: String) -> Self

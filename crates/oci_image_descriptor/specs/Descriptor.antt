@@ -1,26 +1,13 @@
 -- What a document points to: its media type, its digest and its size (image specification, "Content Descriptors").
 use Rattle.std.specs.Prelude.{[], ◌∷◌, codes, ℕ, List, Option, Some, None, bytes_eq, if◌then◌else◌}
 use Rattle.oci_text.specs.declared.media_type.MediaType.{MediaType}
-use Rattle.oci_text.specs.MediaType.{media_types, media_type_name}
-use Rattle.oci_json_schema.specs.Plain as plain
-use Rattle.oci_json_schema.specs.Plain.{Plain, document, slots}
-use Rattle.oci_json_schema.specs.Shape.{Shape, rows, no_rows, listed, required, optional, text, digest_text, open_name, list, map}
-use Rattle.oci_json_schema.specs.Types.{given, perhaps, text_plain, number_plain, name_plain, list_plain, map_plain, u64}
-use Rattle.oci_image_platform.specs.Platform.{platform, platform_plain}
+use Rattle.oci_text.specs.MediaType.{media_type_name}
+use Rattle.oci_json_model.specs.Plain as plain
+use Rattle.oci_json_model.specs.Plain.{Plain, document, slots}
+use Rattle.oci_json_model.specs.Types.{given, perhaps, text_plain, number_plain, name_plain, list_plain, map_plain}
+use Rattle.oci_shapes.specs.Platform.{platform}
+use Rattle.oci_image_platform.specs.Platform.{platform_plain}
 use Rattle.oci_image_descriptor.specs.declared.descriptor.Descriptor.{Descriptor}
-
--- the members, in the order in which they are looked at
-abbrev pub descriptor : Shape
-descriptor = rows (
-    listed (codes "mediaType") required (open_name media_types) (
-    listed (codes "digest") required digest_text (
-    listed (codes "size") required u64 (
-    listed (codes "urls") optional (list text) (
-    listed (codes "annotations") optional (map text) (
-    listed (codes "platform") optional platform (
-    listed (codes "artifactType") optional (open_name media_types) (
-    listed (codes "data") optional text
-    no_rows))))))))
 
 -- the content of a document
 abbrev pub descriptor_plain : Descriptor → Plain

@@ -5,9 +5,9 @@ pub mod builder;
 
 pub use builder::DescriptorBuilder;
 use oci_image_platform::Platform;
-use oci_json_schema::{
-    OciMember, OciRecord, all_2, all_3, all_4, copy_optional, fault, optional, optional_owned,
-    required, required_owned, taken_8, write_optional, write_required,
+use oci_json_model::{
+    OciMember, OciRecord, copy_optional, fault, optional, optional_owned, required, required_owned,
+    taken_8, try_join2, try_join3, try_join4, write_optional, write_required,
 };
 use oci_text::{Digest, MediaType};
 use oci_text_base::{OciSpecError, Result};
@@ -217,15 +217,16 @@ impl Descriptor {
 
 impl OciRecord for Descriptor {
     ghost use Rattle.oci_text.specs.MediaType.{media_type_name};
-    ghost use Rattle.oci_json_schema.specs.Same.{same_document, same_more, same_last, same_given, same_perhaps, same_texts, same_lists, same_maps, same_named, same_bytes, same_numbers};
-    ghost use Rattle.oci_image_descriptor.specs.Descriptor.{descriptor, descriptor_plain};
+    ghost use Rattle.oci_json_model.specs.Same.{same_document, same_more, same_last, same_given, same_perhaps, same_texts, same_lists, same_maps, same_named, same_bytes, same_numbers};
+    ghost use Rattle.oci_shapes.specs.Descriptor.{descriptor};
+    ghost use Rattle.oci_image_descriptor.specs.Descriptor.{descriptor_plain};
     ghost use Rattle.oci_image_platform.specs.contracts.platform.PlatformOciRecord.TheImpl.Laws.{same-law as platform_same};
 
     ghost shape = { descriptor };
 
     ghost plain = { descriptor_plain };
 
-    #[tactic(auto, using(oci_json_schema::proofs::Readers::refuses_others))]
+    #[tactic(auto, using(oci_json_model::proofs::Readers::refuses_others))]
     fn from_value(alloc: Global, value: &Value) -> Result<Descriptor> {
         if !value.is_object() {
             return Err(fault::refused(NAME, ""));
@@ -233,14 +234,14 @@ impl OciRecord for Descriptor {
         let (
             (media_type, digest, size, urls),
             (annotations, platform, artifact_type, embedded_data),
-        ) = all_2(
-            all_4(
+        ) = try_join2(
+            try_join4(
                 required(alloc, value, NAME, "mediaType"),
                 required(alloc, value, NAME, "digest"),
                 required(alloc, value, NAME, "size"),
                 optional(alloc, value, NAME, "urls"),
             ),
-            all_4(
+            try_join4(
                 optional(alloc, value, NAME, "annotations"),
                 optional(alloc, value, NAME, "platform"),
                 optional(alloc, value, NAME, "artifactType"),
@@ -259,7 +260,7 @@ impl OciRecord for Descriptor {
         })
     }
 
-    #[tactic(auto, using(oci_json_schema::proofs::Readers::refuses_others))]
+    #[tactic(auto, using(oci_json_model::proofs::Readers::refuses_others))]
     fn from_value_owned(alloc: Global, value: Value) -> Result<Descriptor> {
         let Some(
             (media_type, digest, size, urls, annotations, platform, artifact_type, embedded_data),
@@ -283,14 +284,14 @@ impl OciRecord for Descriptor {
         let (
             (media_type, digest, size, urls),
             (annotations, platform, artifact_type, embedded_data),
-        ) = all_2(
-            all_4(
+        ) = try_join2(
+            try_join4(
                 required_owned(alloc, media_type, NAME, "mediaType"),
                 required_owned(alloc, digest, NAME, "digest"),
                 required_owned(alloc, size, NAME, "size"),
                 optional_owned(alloc, urls, NAME, "urls"),
             ),
-            all_4(
+            try_join4(
                 optional_owned(alloc, annotations, NAME, "annotations"),
                 optional_owned(alloc, platform, NAME, "platform"),
                 optional_owned(alloc, artifact_type, NAME, "artifactType"),
@@ -311,14 +312,14 @@ impl OciRecord for Descriptor {
 
     fn to_value(&self, alloc: Global) -> Result<Value> {
         let mut members = Map::new(alloc);
-        all_2(
-            all_4(
+        try_join2(
+            try_join4(
                 write_required(&mut members, alloc, "mediaType", &self.media_type),
                 write_required(&mut members, alloc, "digest", &self.digest),
                 write_required(&mut members, alloc, "size", &self.size),
                 write_optional(&mut members, alloc, "urls", &self.urls),
             ),
-            all_4(
+            try_join4(
                 write_optional(&mut members, alloc, "annotations", &self.annotations),
                 write_optional(&mut members, alloc, "platform", &self.platform),
                 write_optional(&mut members, alloc, "artifactType", &self.artifact_type),
@@ -330,14 +331,14 @@ impl OciRecord for Descriptor {
 
     fn duplicate(&self, alloc: Global) -> Result<Descriptor> {
         let ((media_type, digest, urls, annotations), (platform, artifact_type, embedded_data)) =
-            all_2(
-                all_4(
+            try_join2(
+                try_join4(
                     self.media_type.copy(alloc),
                     self.digest.copy(alloc),
                     copy_optional(&self.urls, alloc),
                     copy_optional(&self.annotations, alloc),
                 ),
-                all_3(
+                try_join3(
                     copy_optional(&self.platform, alloc),
                     copy_optional(&self.artifact_type, alloc),
                     copy_optional(&self.embedded_data, alloc),

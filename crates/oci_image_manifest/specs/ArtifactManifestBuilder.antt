@@ -1,6 +1,6 @@
 -- What the builder of a `ArtifactManifest` asks for.
 use Rattle.std.specs.Prelude.{ℕ, List, [], ◌∷◌, Option, codes, is_none}
-use Rattle.oci_json_schema.specs.Built.{first_unset}
+use Rattle.oci_json_model.specs.Built.{first_unset}
 use Rattle.oci_image_manifest.specs.declared.artifact_manifest.ArtifactManifestBuilder.{ArtifactManifestBuilder}
 
 -- the first field that has to be set and is not

@@ -1,30 +1,18 @@
 -- A configuration and layers for one image on one machine (image specification, "Image Manifest").
-use Rattle.std.specs.Prelude.{[], ◌∷◌, codes, Option, String, Vec}
+use Rattle.std.specs.Prelude.{[], ◌∷◌, Option, String, Vec}
 use Rattle.std.specs.Borrow.{Lends, MutBor, Fml}
 use Rattle.std.specs.declared.alloc.Global.{Global}
 use Rattle.std.specs.BTreeMap.{BTreeMap}
-use Rattle.oci_text.specs.MediaType.{media_types, media_type_name}
-use Rattle.oci_json_schema.specs.Plain.{Plain, document, slots}
-use Rattle.oci_json_schema.specs.Shape.{Shape, rows, no_rows, listed, required, optional, text, open_name, list, map}
-use Rattle.oci_json_schema.specs.Types.{given, perhaps, text_plain, number_plain, name_plain, list_plain, map_plain, u32}
-use Rattle.oci_json_schema.specs.Lent.{text_row, option_row, list_row, map_row}
-use Rattle.oci_image_descriptor.specs.Descriptor.{descriptor, descriptor_plain}
+use Rattle.oci_text.specs.MediaType.{media_type_name}
+use Rattle.oci_json_model.specs.Plain.{Plain, document, slots}
+use Rattle.oci_json_model.specs.Types.{given, perhaps, text_plain, number_plain, name_plain, list_plain, map_plain}
+use Rattle.oci_json_model.specs.Lent.{text_row, option_row, list_row, map_row}
+use Rattle.oci_shapes.specs.Descriptor.{descriptor}
+use Rattle.oci_image_descriptor.specs.Descriptor.{descriptor_plain}
 use Rattle.oci_image_descriptor.specs.declared.descriptor.Descriptor.{Descriptor}
 use Rattle.oci_image_descriptor.specs.contracts.descriptor.Descriptor as descriptor
 use Rattle.oci_image_manifest.specs.declared.image_manifest.ImageManifest.{ImageManifest}
 use Rattle.oci_image_manifest.specs.contracts.image_manifest.ImageManifest.{the_row}
-
--- the members, in the order in which they are looked at
-abbrev pub image_manifest : Shape
-image_manifest = rows (
-    listed (codes "schemaVersion") required u32 (
-    listed (codes "mediaType") optional (open_name media_types) (
-    listed (codes "artifactType") optional (open_name media_types) (
-    listed (codes "config") required descriptor (
-    listed (codes "layers") required (list descriptor) (
-    listed (codes "subject") optional descriptor (
-    listed (codes "annotations") optional (map text)
-    no_rows)))))))
 
 -- the content of a document
 abbrev pub image_manifest_plain : ImageManifest → Plain

@@ -1,6 +1,6 @@
 -- What the builder of `ImageManifest` asks for.
 use Rattle.std.specs.Prelude.{ℕ, List, [], ◌∷◌, Option, codes, is_none}
-use Rattle.oci_json_schema.specs.Built.{first_unset}
+use Rattle.oci_json_model.specs.Built.{first_unset}
 use Rattle.oci_image_manifest.specs.declared.image_manifest.builder.ImageManifestBuilder.{ImageManifestBuilder}
 
 -- the first field that has to be set and is not

@@ -1,6 +1,6 @@
 -- What the builder of a `OciLayout` asks for.
 use Rattle.std.specs.Prelude.{ℕ, List, [], ◌∷◌, Option, codes, is_none}
-use Rattle.oci_json_schema.specs.Built.{first_unset}
+use Rattle.oci_json_model.specs.Built.{first_unset}
 use Rattle.oci_image_manifest.specs.declared.oci_layout.OciLayoutBuilder.{OciLayoutBuilder}
 
 -- the first field that has to be set and is not

@@ -2,9 +2,9 @@
 ghost use Rattle.std.specs.Prelude.{◌≡◌, IfOk, IfErr};
 
 use oci_image_descriptor::Descriptor;
-use oci_json_schema::{
-    OciMember, OciRecord, all_5, copy_optional, fault, optional, optional_owned, required,
-    required_owned, taken_5, write_optional, write_required,
+use oci_json_model::{
+    OciMember, OciRecord, copy_optional, fault, optional, optional_owned, required, required_owned,
+    taken_5, try_join5, write_optional, write_required,
 };
 use oci_text::MediaType;
 use oci_text_base::{OciSpecError, Result, UninitializedFieldError};
@@ -42,9 +42,10 @@ impl ArtifactManifest {
     ghost use Rattle.std.specs.Borrow.{sem};
     ghost use Rattle.std.specs.Prelude.{IfSome, OnOk};
     ghost use Rattle.oci_text_base.specs.Refused.{IsMemory, IsSchema, IsJson, IsMemoryOrIo, IsMemorySerDeOrIo};
-    ghost use Rattle.oci_json_schema.specs.Value.{value as json_of};
-    ghost use Rattle.oci_json_engines.specs.Engines.{MeansBytes, IsNoJson, IsNoDocument, AppendsCompact, AppendsPretty, BeginsCompact, BeginsPretty, KeepsUnlessIo, IsCompactText, IsPrettyText, ReadsBack};
-    ghost use Rattle.oci_image_manifest.specs.ArtifactManifest.{artifact_manifest_plain, artifact_manifest, lends_blobs, lends_annotations};
+    ghost use Rattle.oci_json_model.specs.Value.{value as json_of};
+    ghost use Rattle.oci_json_io.specs.Engines.{MeansBytes, IsNoJson, IsNoDocument, AppendsCompact, AppendsPretty, BeginsCompact, BeginsPretty, KeepsUnlessIo, IsCompactText, IsPrettyText, ReadsBack};
+    ghost use Rattle.oci_shapes.specs.ArtifactManifest.{artifact_manifest};
+    ghost use Rattle.oci_image_manifest.specs.ArtifactManifest.{artifact_manifest_plain, lends_blobs, lends_annotations};
 
     /// An equal document.
     pub fn clone(&self, alloc: Global) -> Result<ArtifactManifest>
@@ -145,7 +146,7 @@ impl ArtifactManifest {
     pub fn from_file<R: Files>(rt: &R, alloc: Global, path: &str) -> Result<ArtifactManifest>
         ensures kind { IfErr result IsMemorySerDeOrIo }
     {
-        oci_json_engines::from_file(rt, alloc, path)
+        oci_json_io::from_file(rt, alloc, path)
     }
 
     /// Reads a document of all that is left to read: `Io` where a read fails, `SerDe` where the bytes are no JSON or no document.
@@ -155,21 +156,21 @@ impl ArtifactManifest {
         ensures schema { IfErr result (λ e. IsSchema e → IfSome (R.remaining reader) (IsNoDocument artifact_manifest)) }
         ensures kind { IfErr result IsMemorySerDeOrIo }
     {
-        oci_json_engines::from_reader(alloc, reader)
+        oci_json_io::from_reader(alloc, reader)
     }
 
     /// Writes the compact text to a file, which is created or emptied once the text is made.
     pub fn to_file<R: Files>(&self, rt: &R, alloc: Global, path: &str) -> Result<()>
         ensures kind { IfErr result IsMemoryOrIo }
     {
-        oci_json_engines::to_file(rt, self, alloc, path)
+        oci_json_io::to_file(rt, self, alloc, path)
     }
 
     /// Writes the pretty text to a file, which is created or emptied once the text is made.
     pub fn to_file_pretty<R: Files>(&self, rt: &R, alloc: Global, path: &str) -> Result<()>
         ensures kind { IfErr result IsMemoryOrIo }
     {
-        oci_json_engines::to_file_pretty(rt, self, alloc, path)
+        oci_json_io::to_file_pretty(rt, self, alloc, path)
     }
 
     /// Writes the compact text. After `Io` a beginning of it was written, after `Memory` nothing.
@@ -180,7 +181,7 @@ impl ArtifactManifest {
         ensures unwritten { IfErr result (KeepsUnlessIo (W.contents writer.old) (W.contents writer.new)) }
         ensures kind { IfErr result IsMemoryOrIo }
     {
-        oci_json_engines::to_writer(self, alloc, writer)
+        oci_json_io::to_writer(self, alloc, writer)
     }
 
     /// Writes the pretty text. After `Io` a beginning of it was written, after `Memory` nothing.
@@ -190,7 +191,7 @@ impl ArtifactManifest {
         ensures unwritten { IfErr result (KeepsUnlessIo (W.contents writer.old) (W.contents writer.new)) }
         ensures kind { IfErr result IsMemoryOrIo }
     {
-        oci_json_engines::to_writer_pretty(self, alloc, writer)
+        oci_json_io::to_writer_pretty(self, alloc, writer)
     }
 
     /// The compact text.
@@ -199,7 +200,7 @@ impl ArtifactManifest {
         ensures reads_back { OnOk result (ReadsBack (json_of artifact_manifest (artifact_manifest_plain self.now))) }
         ensures kind { IfErr result IsMemory }
     {
-        oci_json_engines::to_string(self, alloc)
+        oci_json_io::to_string(self, alloc)
     }
 
     /// The pretty text: a line a member or item, two spaces a level, no line feed at the end.
@@ -207,26 +208,27 @@ impl ArtifactManifest {
         ensures ok { IfOk result (IsPrettyText (json_of artifact_manifest (artifact_manifest_plain self.now))) }
         ensures kind { IfErr result IsMemory }
     {
-        oci_json_engines::to_string_pretty(self, alloc)
+        oci_json_io::to_string_pretty(self, alloc)
     }
 }
 
 impl OciRecord for ArtifactManifest {
     ghost use Rattle.oci_text.specs.MediaType.{media_type_name};
-    ghost use Rattle.oci_json_schema.specs.Same.{same_document, same_more, same_last, same_given, same_perhaps, same_texts, same_lists, same_maps, same_named};
-    ghost use Rattle.oci_image_manifest.specs.ArtifactManifest.{artifact_manifest, artifact_manifest_plain};
+    ghost use Rattle.oci_json_model.specs.Same.{same_document, same_more, same_last, same_given, same_perhaps, same_texts, same_lists, same_maps, same_named};
+    ghost use Rattle.oci_shapes.specs.ArtifactManifest.{artifact_manifest};
+    ghost use Rattle.oci_image_manifest.specs.ArtifactManifest.{artifact_manifest_plain};
     ghost use Rattle.oci_image_descriptor.specs.contracts.descriptor.DescriptorOciRecord.TheImpl.Laws.{same-law as descriptor_same};
 
     ghost shape = { artifact_manifest };
 
     ghost plain = { artifact_manifest_plain };
 
-    #[tactic(auto, using(oci_json_schema::proofs::Readers::refuses_others))]
+    #[tactic(auto, using(oci_json_model::proofs::Readers::refuses_others))]
     fn from_value(alloc: Global, value: &Value) -> Result<ArtifactManifest> {
         if !value.is_object() {
             return Err(fault::refused(NAME, ""));
         }
-        let (media_type, artifact_type, blobs, subject, annotations) = all_5(
+        let (media_type, artifact_type, blobs, subject, annotations) = try_join5(
             required(alloc, value, NAME, "mediaType"),
             required(alloc, value, NAME, "artifactType"),
             required(alloc, value, NAME, "blobs"),
@@ -242,7 +244,7 @@ impl OciRecord for ArtifactManifest {
         })
     }
 
-    #[tactic(auto, using(oci_json_schema::proofs::Readers::refuses_others))]
+    #[tactic(auto, using(oci_json_model::proofs::Readers::refuses_others))]
     fn from_value_owned(alloc: Global, value: Value) -> Result<ArtifactManifest> {
         let Some((media_type, artifact_type, blobs, subject, annotations)) = taken_5(
             alloc,
@@ -258,7 +260,7 @@ impl OciRecord for ArtifactManifest {
         else {
             return Err(fault::refused(NAME, ""));
         };
-        let (media_type, artifact_type, blobs, subject, annotations) = all_5(
+        let (media_type, artifact_type, blobs, subject, annotations) = try_join5(
             required_owned(alloc, media_type, NAME, "mediaType"),
             required_owned(alloc, artifact_type, NAME, "artifactType"),
             required_owned(alloc, blobs, NAME, "blobs"),
@@ -276,7 +278,7 @@ impl OciRecord for ArtifactManifest {
 
     fn to_value(&self, alloc: Global) -> Result<Value> {
         let mut members = Map::new(alloc);
-        all_5(
+        try_join5(
             write_required(&mut members, alloc, "mediaType", &self.media_type),
             write_required(&mut members, alloc, "artifactType", &self.artifact_type),
             write_required(&mut members, alloc, "blobs", &self.blobs),
@@ -287,7 +289,7 @@ impl OciRecord for ArtifactManifest {
     }
 
     fn duplicate(&self, alloc: Global) -> Result<ArtifactManifest> {
-        let (media_type, artifact_type, blobs, subject, annotations) = all_5(
+        let (media_type, artifact_type, blobs, subject, annotations) = try_join5(
             self.media_type.copy(alloc),
             self.artifact_type.copy(alloc),
             self.blobs.copy(alloc),
@@ -324,11 +326,11 @@ pub struct ArtifactManifestBuilder {
 
 impl ArtifactManifestBuilder {
     ghost use Rattle.std.specs.Prelude.{Some, unwrap_or, option_map, codes};
-    ghost use Rattle.oci_json_schema.specs.Built.{IsUnset};
+    ghost use Rattle.oci_json_model.specs.Built.{IsUnset};
     ghost use Rattle.oci_image_manifest.specs.ArtifactManifestBuilder.{artifact_manifest_unset};
     ghost use Rattle.oci_text.specs.MediaType.{media_type_name};
-    ghost use Rattle.oci_json_schema.specs.Plain as plain;
-    ghost use Rattle.oci_json_schema.specs.Types.{name_plain, list_plain};
+    ghost use Rattle.oci_json_model.specs.Plain as plain;
+    ghost use Rattle.oci_json_model.specs.Types.{name_plain, list_plain};
     ghost use Rattle.oci_image_descriptor.specs.Descriptor.{descriptor_plain};
 
     /// The type of the artifact.

@@ -2,9 +2,9 @@
 ghost use Rattle.std.specs.Prelude.{◌≡◌, IfOk, IfErr};
 
 use oci_image_descriptor::Descriptor;
-use oci_json_schema::{
-    OciMember, OciRecord, all_2, all_3, all_5, copy_optional, fault, optional, optional_owned,
-    required, required_owned, taken_6, write_optional, write_required,
+use oci_json_model::{
+    OciMember, OciRecord, copy_optional, fault, optional, optional_owned, required, required_owned,
+    taken_6, try_join2, try_join3, try_join5, write_optional, write_required,
 };
 use oci_text::MediaType;
 use oci_text_base::{OciSpecError, Result, UninitializedFieldError};
@@ -44,9 +44,10 @@ impl Drop for ImageIndex {
 impl ImageIndex {
     ghost use Rattle.std.specs.Prelude.{IfSome, OnOk};
     ghost use Rattle.oci_text_base.specs.Refused.{IsMemory, IsSchema, IsJson, IsMemoryOrIo, IsMemorySerDeOrIo};
-    ghost use Rattle.oci_json_schema.specs.Value.{value as json_of};
-    ghost use Rattle.oci_json_engines.specs.Engines.{MeansBytes, IsNoJson, IsNoDocument, AppendsCompact, AppendsPretty, BeginsCompact, BeginsPretty, KeepsUnlessIo, IsCompactText, IsPrettyText, ReadsBack};
-    ghost use Rattle.oci_image_manifest.specs.ImageIndex.{default_image_index, image_index_plain, image_index};
+    ghost use Rattle.oci_json_model.specs.Value.{value as json_of};
+    ghost use Rattle.oci_json_io.specs.Engines.{MeansBytes, IsNoJson, IsNoDocument, AppendsCompact, AppendsPretty, BeginsCompact, BeginsPretty, KeepsUnlessIo, IsCompactText, IsPrettyText, ReadsBack};
+    ghost use Rattle.oci_shapes.specs.ImageIndex.{image_index};
+    ghost use Rattle.oci_image_manifest.specs.ImageIndex.{default_image_index, image_index_plain};
 
     /// An equal document.
     pub fn clone(&self, alloc: Global) -> Result<ImageIndex>
@@ -171,7 +172,7 @@ impl ImageIndex {
     pub fn from_file<R: Files>(rt: &R, alloc: Global, path: &str) -> Result<ImageIndex>
         ensures kind { IfErr result IsMemorySerDeOrIo }
     {
-        oci_json_engines::from_file(rt, alloc, path)
+        oci_json_io::from_file(rt, alloc, path)
     }
 
     /// Reads a document of all that is left to read: `Io` where a read fails, `SerDe` where the bytes are no JSON or no document.
@@ -181,21 +182,21 @@ impl ImageIndex {
         ensures schema { IfErr result (λ e. IsSchema e → IfSome (R.remaining reader) (IsNoDocument image_index)) }
         ensures kind { IfErr result IsMemorySerDeOrIo }
     {
-        oci_json_engines::from_reader(alloc, reader)
+        oci_json_io::from_reader(alloc, reader)
     }
 
     /// Writes the compact text to a file, which is created or emptied once the text is made.
     pub fn to_file<R: Files>(&self, rt: &R, alloc: Global, path: &str) -> Result<()>
         ensures kind { IfErr result IsMemoryOrIo }
     {
-        oci_json_engines::to_file(rt, self, alloc, path)
+        oci_json_io::to_file(rt, self, alloc, path)
     }
 
     /// Writes the pretty text to a file, which is created or emptied once the text is made.
     pub fn to_file_pretty<R: Files>(&self, rt: &R, alloc: Global, path: &str) -> Result<()>
         ensures kind { IfErr result IsMemoryOrIo }
     {
-        oci_json_engines::to_file_pretty(rt, self, alloc, path)
+        oci_json_io::to_file_pretty(rt, self, alloc, path)
     }
 
     /// Writes the compact text. After `Io` a beginning of it was written, after `Memory` nothing.
@@ -206,7 +207,7 @@ impl ImageIndex {
         ensures unwritten { IfErr result (KeepsUnlessIo (W.contents writer.old) (W.contents writer.new)) }
         ensures kind { IfErr result IsMemoryOrIo }
     {
-        oci_json_engines::to_writer(self, alloc, writer)
+        oci_json_io::to_writer(self, alloc, writer)
     }
 
     /// Writes the pretty text. After `Io` a beginning of it was written, after `Memory` nothing.
@@ -216,7 +217,7 @@ impl ImageIndex {
         ensures unwritten { IfErr result (KeepsUnlessIo (W.contents writer.old) (W.contents writer.new)) }
         ensures kind { IfErr result IsMemoryOrIo }
     {
-        oci_json_engines::to_writer_pretty(self, alloc, writer)
+        oci_json_io::to_writer_pretty(self, alloc, writer)
     }
 
     /// The compact text.
@@ -225,7 +226,7 @@ impl ImageIndex {
         ensures reads_back { OnOk result (ReadsBack (json_of image_index (image_index_plain self.now))) }
         ensures kind { IfErr result IsMemory }
     {
-        oci_json_engines::to_string(self, alloc)
+        oci_json_io::to_string(self, alloc)
     }
 
     /// The pretty text: a line a member or item, two spaces a level, no line feed at the end.
@@ -233,48 +234,50 @@ impl ImageIndex {
         ensures ok { IfOk result (IsPrettyText (json_of image_index (image_index_plain self.now))) }
         ensures kind { IfErr result IsMemory }
     {
-        oci_json_engines::to_string_pretty(self, alloc)
+        oci_json_io::to_string_pretty(self, alloc)
     }
 }
 
 impl fmt::Display for ImageIndex {
     ghost use Rattle.std.specs.Prelude.{OnOk};
-    ghost use Rattle.oci_json_schema.specs.Value.{value as json_of};
-    ghost use Rattle.oci_json_engines.specs.Engines.{DisplaysPretty};
-    ghost use Rattle.oci_image_manifest.specs.ImageIndex.{image_index, image_index_plain};
+    ghost use Rattle.oci_json_model.specs.Value.{value as json_of};
+    ghost use Rattle.oci_json_io.specs.Engines.{DisplaysPretty};
+    ghost use Rattle.oci_shapes.specs.ImageIndex.{image_index};
+    ghost use Rattle.oci_image_manifest.specs.ImageIndex.{image_index_plain};
 
     /// The pretty text, made in the memory of the manifests; a formatting error where memory or the formatter refuses. Widths are not
     /// looked at.
     fn fmt<W: fmt::Write>(&self, f: &mut fmt::Formatter<W>) -> fmt::Result
         ensures pretty { OnOk result (DisplaysPretty W.write_str_gives f.old (json_of image_index (image_index_plain self.now)) f.new) }
     {
-        oci_json_engines::display_pretty(self, *self.manifests.allocator(), f)
+        oci_json_io::display_pretty(self, *self.manifests.allocator(), f)
     }
 }
 
 impl OciRecord for ImageIndex {
     ghost use Rattle.oci_text.specs.MediaType.{media_type_name};
-    ghost use Rattle.oci_json_schema.specs.Same.{same_document, same_more, same_last, same_given, same_perhaps, same_texts, same_lists, same_maps, same_named, same_numbers};
-    ghost use Rattle.oci_image_manifest.specs.ImageIndex.{image_index, image_index_plain};
+    ghost use Rattle.oci_json_model.specs.Same.{same_document, same_more, same_last, same_given, same_perhaps, same_texts, same_lists, same_maps, same_named, same_numbers};
+    ghost use Rattle.oci_shapes.specs.ImageIndex.{image_index};
+    ghost use Rattle.oci_image_manifest.specs.ImageIndex.{image_index_plain};
     ghost use Rattle.oci_image_descriptor.specs.contracts.descriptor.DescriptorOciRecord.TheImpl.Laws.{same-law as descriptor_same};
 
     ghost shape = { image_index };
 
     ghost plain = { image_index_plain };
 
-    #[tactic(auto, using(oci_json_schema::proofs::Readers::refuses_others))]
+    #[tactic(auto, using(oci_json_model::proofs::Readers::refuses_others))]
     fn from_value(alloc: Global, value: &Value) -> Result<ImageIndex> {
         if !value.is_object() {
             return Err(fault::refused(NAME, ""));
         }
         let ((schema_version, media_type, artifact_type), (manifests, subject, annotations)) =
-            all_2(
-                all_3(
+            try_join2(
+                try_join3(
                     required(alloc, value, NAME, "schemaVersion"),
                     optional(alloc, value, NAME, "mediaType"),
                     optional(alloc, value, NAME, "artifactType"),
                 ),
-                all_3(
+                try_join3(
                     required(alloc, value, NAME, "manifests"),
                     optional(alloc, value, NAME, "subject"),
                     optional(alloc, value, NAME, "annotations"),
@@ -290,7 +293,7 @@ impl OciRecord for ImageIndex {
         })
     }
 
-    #[tactic(auto, using(oci_json_schema::proofs::Readers::refuses_others))]
+    #[tactic(auto, using(oci_json_model::proofs::Readers::refuses_others))]
     fn from_value_owned(alloc: Global, value: Value) -> Result<ImageIndex> {
         let Some((schema_version, media_type, artifact_type, manifests, subject, annotations)) =
             taken_6(
@@ -309,13 +312,13 @@ impl OciRecord for ImageIndex {
             return Err(fault::refused(NAME, ""));
         };
         let ((schema_version, media_type, artifact_type), (manifests, subject, annotations)) =
-            all_2(
-                all_3(
+            try_join2(
+                try_join3(
                     required_owned(alloc, schema_version, NAME, "schemaVersion"),
                     optional_owned(alloc, media_type, NAME, "mediaType"),
                     optional_owned(alloc, artifact_type, NAME, "artifactType"),
                 ),
-                all_3(
+                try_join3(
                     required_owned(alloc, manifests, NAME, "manifests"),
                     optional_owned(alloc, subject, NAME, "subject"),
                     optional_owned(alloc, annotations, NAME, "annotations"),
@@ -333,13 +336,13 @@ impl OciRecord for ImageIndex {
 
     fn to_value(&self, alloc: Global) -> Result<Value> {
         let mut members = Map::new(alloc);
-        all_2(
-            all_3(
+        try_join2(
+            try_join3(
                 write_required(&mut members, alloc, "schemaVersion", &self.schema_version),
                 write_optional(&mut members, alloc, "mediaType", &self.media_type),
                 write_optional(&mut members, alloc, "artifactType", &self.artifact_type),
             ),
-            all_3(
+            try_join3(
                 write_required(&mut members, alloc, "manifests", &self.manifests),
                 write_optional(&mut members, alloc, "subject", &self.subject),
                 write_optional(&mut members, alloc, "annotations", &self.annotations),
@@ -349,7 +352,7 @@ impl OciRecord for ImageIndex {
     }
 
     fn duplicate(&self, alloc: Global) -> Result<ImageIndex> {
-        let (media_type, artifact_type, manifests, subject, annotations) = all_5(
+        let (media_type, artifact_type, manifests, subject, annotations) = try_join5(
             copy_optional(&self.media_type, alloc),
             copy_optional(&self.artifact_type, alloc),
             self.manifests.copy(alloc),
@@ -390,7 +393,7 @@ pub struct ImageIndexBuilder {
 
 impl ImageIndexBuilder {
     ghost use Rattle.std.specs.Prelude.{Some};
-    ghost use Rattle.oci_json_schema.specs.Built.{IsUnset};
+    ghost use Rattle.oci_json_model.specs.Built.{IsUnset};
     ghost use Rattle.oci_image_manifest.specs.ImageIndexBuilder.{image_index_unset};
 
     /// The version of the index's schema, which is 2.

@@ -5,9 +5,9 @@ pub mod builder;
 
 pub use builder::ImageManifestBuilder;
 use oci_image_descriptor::Descriptor;
-use oci_json_schema::{
-    OciMember, OciRecord, all_2, all_3, all_4, copy_optional, fault, optional, optional_owned,
-    required, required_owned, taken_7, write_optional, write_required,
+use oci_json_model::{
+    OciMember, OciRecord, copy_optional, fault, optional, optional_owned, required, required_owned,
+    taken_7, try_join2, try_join3, try_join4, write_optional, write_required,
 };
 use oci_text::MediaType;
 use oci_text_base::{OciSpecError, Result};
@@ -50,9 +50,10 @@ impl ImageManifest {
     ghost use Rattle.std.specs.Borrow.{sem};
     ghost use Rattle.std.specs.Prelude.{IfSome, OnOk};
     ghost use Rattle.oci_text_base.specs.Refused.{IsMemory, IsSchema, IsJson, IsMemoryOrIo, IsMemorySerDeOrIo};
-    ghost use Rattle.oci_json_schema.specs.Value.{value as json_of};
-    ghost use Rattle.oci_json_engines.specs.Engines.{MeansBytes, IsNoJson, IsNoDocument, AppendsCompact, AppendsPretty, BeginsCompact, BeginsPretty, KeepsUnlessIo, IsCompactText, IsPrettyText, ReadsBack};
-    ghost use Rattle.oci_image_manifest.specs.ImageManifest.{image_manifest_plain, image_manifest, lends_layers, lends_annotations};
+    ghost use Rattle.oci_json_model.specs.Value.{value as json_of};
+    ghost use Rattle.oci_json_io.specs.Engines.{MeansBytes, IsNoJson, IsNoDocument, AppendsCompact, AppendsPretty, BeginsCompact, BeginsPretty, KeepsUnlessIo, IsCompactText, IsPrettyText, ReadsBack};
+    ghost use Rattle.oci_shapes.specs.ImageManifest.{image_manifest};
+    ghost use Rattle.oci_image_manifest.specs.ImageManifest.{image_manifest_plain, lends_layers, lends_annotations};
 
     /// An equal document.
     pub fn clone(&self, alloc: Global) -> Result<ImageManifest>
@@ -194,7 +195,7 @@ impl ImageManifest {
     pub fn from_file<R: Files>(rt: &R, alloc: Global, path: &str) -> Result<ImageManifest>
         ensures kind { IfErr result IsMemorySerDeOrIo }
     {
-        oci_json_engines::from_file(rt, alloc, path)
+        oci_json_io::from_file(rt, alloc, path)
     }
 
     /// Reads a document of all that is left to read: `Io` where a read fails, `SerDe` where the bytes are no JSON or no document.
@@ -204,21 +205,21 @@ impl ImageManifest {
         ensures schema { IfErr result (λ e. IsSchema e → IfSome (R.remaining reader) (IsNoDocument image_manifest)) }
         ensures kind { IfErr result IsMemorySerDeOrIo }
     {
-        oci_json_engines::from_reader(alloc, reader)
+        oci_json_io::from_reader(alloc, reader)
     }
 
     /// Writes the compact text to a file, which is created or emptied once the text is made.
     pub fn to_file<R: Files>(&self, rt: &R, alloc: Global, path: &str) -> Result<()>
         ensures kind { IfErr result IsMemoryOrIo }
     {
-        oci_json_engines::to_file(rt, self, alloc, path)
+        oci_json_io::to_file(rt, self, alloc, path)
     }
 
     /// Writes the pretty text to a file, which is created or emptied once the text is made.
     pub fn to_file_pretty<R: Files>(&self, rt: &R, alloc: Global, path: &str) -> Result<()>
         ensures kind { IfErr result IsMemoryOrIo }
     {
-        oci_json_engines::to_file_pretty(rt, self, alloc, path)
+        oci_json_io::to_file_pretty(rt, self, alloc, path)
     }
 
     /// Writes the compact text. After `Io` a beginning of it was written, after `Memory` nothing.
@@ -229,7 +230,7 @@ impl ImageManifest {
         ensures unwritten { IfErr result (KeepsUnlessIo (W.contents writer.old) (W.contents writer.new)) }
         ensures kind { IfErr result IsMemoryOrIo }
     {
-        oci_json_engines::to_writer(self, alloc, writer)
+        oci_json_io::to_writer(self, alloc, writer)
     }
 
     /// Writes the pretty text. After `Io` a beginning of it was written, after `Memory` nothing.
@@ -239,7 +240,7 @@ impl ImageManifest {
         ensures unwritten { IfErr result (KeepsUnlessIo (W.contents writer.old) (W.contents writer.new)) }
         ensures kind { IfErr result IsMemoryOrIo }
     {
-        oci_json_engines::to_writer_pretty(self, alloc, writer)
+        oci_json_io::to_writer_pretty(self, alloc, writer)
     }
 
     /// The compact text.
@@ -248,7 +249,7 @@ impl ImageManifest {
         ensures reads_back { OnOk result (ReadsBack (json_of image_manifest (image_manifest_plain self.now))) }
         ensures kind { IfErr result IsMemory }
     {
-        oci_json_engines::to_string(self, alloc)
+        oci_json_io::to_string(self, alloc)
     }
 
     /// The pretty text: a line a member or item, two spaces a level, no line feed at the end.
@@ -256,49 +257,51 @@ impl ImageManifest {
         ensures ok { IfOk result (IsPrettyText (json_of image_manifest (image_manifest_plain self.now))) }
         ensures kind { IfErr result IsMemory }
     {
-        oci_json_engines::to_string_pretty(self, alloc)
+        oci_json_io::to_string_pretty(self, alloc)
     }
 }
 
 impl fmt::Display for ImageManifest {
     ghost use Rattle.std.specs.Prelude.{OnOk};
-    ghost use Rattle.oci_json_schema.specs.Value.{value as json_of};
-    ghost use Rattle.oci_json_engines.specs.Engines.{DisplaysPretty};
-    ghost use Rattle.oci_image_manifest.specs.ImageManifest.{image_manifest, image_manifest_plain};
+    ghost use Rattle.oci_json_model.specs.Value.{value as json_of};
+    ghost use Rattle.oci_json_io.specs.Engines.{DisplaysPretty};
+    ghost use Rattle.oci_shapes.specs.ImageManifest.{image_manifest};
+    ghost use Rattle.oci_image_manifest.specs.ImageManifest.{image_manifest_plain};
 
     /// The pretty text, made in the memory of the layers; a formatting error where memory or the formatter refuses. Widths are not
     /// looked at.
     fn fmt<W: fmt::Write>(&self, f: &mut fmt::Formatter<W>) -> fmt::Result
         ensures pretty { OnOk result (DisplaysPretty W.write_str_gives f.old (json_of image_manifest (image_manifest_plain self.now)) f.new) }
     {
-        oci_json_engines::display_pretty(self, *self.layers.allocator(), f)
+        oci_json_io::display_pretty(self, *self.layers.allocator(), f)
     }
 }
 
 impl OciRecord for ImageManifest {
     ghost use Rattle.oci_text.specs.MediaType.{media_type_name};
-    ghost use Rattle.oci_json_schema.specs.Same.{same_document, same_more, same_last, same_given, same_perhaps, same_texts, same_lists, same_maps, same_named, same_numbers};
-    ghost use Rattle.oci_image_manifest.specs.ImageManifest.{image_manifest, image_manifest_plain};
+    ghost use Rattle.oci_json_model.specs.Same.{same_document, same_more, same_last, same_given, same_perhaps, same_texts, same_lists, same_maps, same_named, same_numbers};
+    ghost use Rattle.oci_shapes.specs.ImageManifest.{image_manifest};
+    ghost use Rattle.oci_image_manifest.specs.ImageManifest.{image_manifest_plain};
     ghost use Rattle.oci_image_descriptor.specs.contracts.descriptor.DescriptorOciRecord.TheImpl.Laws.{same-law as descriptor_same};
 
     ghost shape = { image_manifest };
 
     ghost plain = { image_manifest_plain };
 
-    #[tactic(auto, using(oci_json_schema::proofs::Readers::refuses_others))]
+    #[tactic(auto, using(oci_json_model::proofs::Readers::refuses_others))]
     fn from_value(alloc: Global, value: &Value) -> Result<ImageManifest> {
         if !value.is_object() {
             return Err(fault::refused(NAME, ""));
         }
         let ((schema_version, media_type, artifact_type, config), (layers, subject, annotations)) =
-            all_2(
-                all_4(
+            try_join2(
+                try_join4(
                     required(alloc, value, NAME, "schemaVersion"),
                     optional(alloc, value, NAME, "mediaType"),
                     optional(alloc, value, NAME, "artifactType"),
                     required(alloc, value, NAME, "config"),
                 ),
-                all_3(
+                try_join3(
                     required(alloc, value, NAME, "layers"),
                     optional(alloc, value, NAME, "subject"),
                     optional(alloc, value, NAME, "annotations"),
@@ -315,7 +318,7 @@ impl OciRecord for ImageManifest {
         })
     }
 
-    #[tactic(auto, using(oci_json_schema::proofs::Readers::refuses_others))]
+    #[tactic(auto, using(oci_json_model::proofs::Readers::refuses_others))]
     fn from_value_owned(alloc: Global, value: Value) -> Result<ImageManifest> {
         let Some(
             (schema_version, media_type, artifact_type, config, layers, subject, annotations),
@@ -336,14 +339,14 @@ impl OciRecord for ImageManifest {
             return Err(fault::refused(NAME, ""));
         };
         let ((schema_version, media_type, artifact_type, config), (layers, subject, annotations)) =
-            all_2(
-                all_4(
+            try_join2(
+                try_join4(
                     required_owned(alloc, schema_version, NAME, "schemaVersion"),
                     optional_owned(alloc, media_type, NAME, "mediaType"),
                     optional_owned(alloc, artifact_type, NAME, "artifactType"),
                     required_owned(alloc, config, NAME, "config"),
                 ),
-                all_3(
+                try_join3(
                     required_owned(alloc, layers, NAME, "layers"),
                     optional_owned(alloc, subject, NAME, "subject"),
                     optional_owned(alloc, annotations, NAME, "annotations"),
@@ -362,14 +365,14 @@ impl OciRecord for ImageManifest {
 
     fn to_value(&self, alloc: Global) -> Result<Value> {
         let mut members = Map::new(alloc);
-        all_2(
-            all_4(
+        try_join2(
+            try_join4(
                 write_required(&mut members, alloc, "schemaVersion", &self.schema_version),
                 write_optional(&mut members, alloc, "mediaType", &self.media_type),
                 write_optional(&mut members, alloc, "artifactType", &self.artifact_type),
                 write_required(&mut members, alloc, "config", &self.config),
             ),
-            all_3(
+            try_join3(
                 write_required(&mut members, alloc, "layers", &self.layers),
                 write_optional(&mut members, alloc, "subject", &self.subject),
                 write_optional(&mut members, alloc, "annotations", &self.annotations),
@@ -379,13 +382,13 @@ impl OciRecord for ImageManifest {
     }
 
     fn duplicate(&self, alloc: Global) -> Result<ImageManifest> {
-        let ((media_type, artifact_type, config), (layers, subject, annotations)) = all_2(
-            all_3(
+        let ((media_type, artifact_type, config), (layers, subject, annotations)) = try_join2(
+            try_join3(
                 copy_optional(&self.media_type, alloc),
                 copy_optional(&self.artifact_type, alloc),
                 self.config.copy(alloc),
             ),
-            all_3(
+            try_join3(
                 self.layers.copy(alloc),
                 copy_optional(&self.subject, alloc),
                 copy_optional(&self.annotations, alloc),

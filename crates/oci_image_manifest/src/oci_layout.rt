@@ -1,7 +1,7 @@
 //! The file `oci-layout` of an image's folder (image specification, "Image Layout", "oci-layout file").
 ghost use Rattle.std.specs.Prelude.{◌≡◌, IfOk, IfErr};
 
-use oci_json_schema::{
+use oci_json_model::{
     OciMember, OciRecord, fault, required, required_owned, taken, write_required,
 };
 use oci_text_base::{OciSpecError, Result, UninitializedFieldError};
@@ -29,9 +29,10 @@ impl Drop for OciLayout {
 impl OciLayout {
     ghost use Rattle.std.specs.Prelude.{IfSome, OnOk};
     ghost use Rattle.oci_text_base.specs.Refused.{IsMemory, IsSchema, IsJson, IsMemoryOrIo, IsMemorySerDeOrIo};
-    ghost use Rattle.oci_json_schema.specs.Value.{value as json_of};
-    ghost use Rattle.oci_json_engines.specs.Engines.{MeansBytes, IsNoJson, IsNoDocument, AppendsCompact, AppendsPretty, BeginsCompact, BeginsPretty, KeepsUnlessIo, IsCompactText, IsPrettyText, ReadsBack};
-    ghost use Rattle.oci_image_manifest.specs.OciLayout.{oci_layout_plain, oci_layout};
+    ghost use Rattle.oci_json_model.specs.Value.{value as json_of};
+    ghost use Rattle.oci_json_io.specs.Engines.{MeansBytes, IsNoJson, IsNoDocument, AppendsCompact, AppendsPretty, BeginsCompact, BeginsPretty, KeepsUnlessIo, IsCompactText, IsPrettyText, ReadsBack};
+    ghost use Rattle.oci_shapes.specs.OciLayout.{oci_layout};
+    ghost use Rattle.oci_image_manifest.specs.OciLayout.{oci_layout_plain};
 
     /// An equal document.
     pub fn clone(&self, alloc: Global) -> Result<OciLayout>
@@ -61,7 +62,7 @@ impl OciLayout {
     pub fn from_file<R: Files>(rt: &R, alloc: Global, path: &str) -> Result<OciLayout>
         ensures kind { IfErr result IsMemorySerDeOrIo }
     {
-        oci_json_engines::from_file(rt, alloc, path)
+        oci_json_io::from_file(rt, alloc, path)
     }
 
     /// Reads a document of all that is left to read: `Io` where a read fails, `SerDe` where the bytes are no JSON or no document.
@@ -71,21 +72,21 @@ impl OciLayout {
         ensures schema { IfErr result (λ e. IsSchema e → IfSome (R.remaining reader) (IsNoDocument oci_layout)) }
         ensures kind { IfErr result IsMemorySerDeOrIo }
     {
-        oci_json_engines::from_reader(alloc, reader)
+        oci_json_io::from_reader(alloc, reader)
     }
 
     /// Writes the compact text to a file, which is created or emptied once the text is made.
     pub fn to_file<R: Files>(&self, rt: &R, alloc: Global, path: &str) -> Result<()>
         ensures kind { IfErr result IsMemoryOrIo }
     {
-        oci_json_engines::to_file(rt, self, alloc, path)
+        oci_json_io::to_file(rt, self, alloc, path)
     }
 
     /// Writes the pretty text to a file, which is created or emptied once the text is made.
     pub fn to_file_pretty<R: Files>(&self, rt: &R, alloc: Global, path: &str) -> Result<()>
         ensures kind { IfErr result IsMemoryOrIo }
     {
-        oci_json_engines::to_file_pretty(rt, self, alloc, path)
+        oci_json_io::to_file_pretty(rt, self, alloc, path)
     }
 
     /// Writes the compact text. After `Io` a beginning of it was written, after `Memory` nothing.
@@ -96,7 +97,7 @@ impl OciLayout {
         ensures unwritten { IfErr result (KeepsUnlessIo (W.contents writer.old) (W.contents writer.new)) }
         ensures kind { IfErr result IsMemoryOrIo }
     {
-        oci_json_engines::to_writer(self, alloc, writer)
+        oci_json_io::to_writer(self, alloc, writer)
     }
 
     /// Writes the pretty text. After `Io` a beginning of it was written, after `Memory` nothing.
@@ -106,7 +107,7 @@ impl OciLayout {
         ensures unwritten { IfErr result (KeepsUnlessIo (W.contents writer.old) (W.contents writer.new)) }
         ensures kind { IfErr result IsMemoryOrIo }
     {
-        oci_json_engines::to_writer_pretty(self, alloc, writer)
+        oci_json_io::to_writer_pretty(self, alloc, writer)
     }
 
     /// The compact text.
@@ -115,7 +116,7 @@ impl OciLayout {
         ensures reads_back { OnOk result (ReadsBack (json_of oci_layout (oci_layout_plain self.now))) }
         ensures kind { IfErr result IsMemory }
     {
-        oci_json_engines::to_string(self, alloc)
+        oci_json_io::to_string(self, alloc)
     }
 
     /// The pretty text: a line a member or item, two spaces a level, no line feed at the end.
@@ -123,19 +124,20 @@ impl OciLayout {
         ensures ok { IfOk result (IsPrettyText (json_of oci_layout (oci_layout_plain self.now))) }
         ensures kind { IfErr result IsMemory }
     {
-        oci_json_engines::to_string_pretty(self, alloc)
+        oci_json_io::to_string_pretty(self, alloc)
     }
 }
 
 impl OciRecord for OciLayout {
-    ghost use Rattle.oci_json_schema.specs.Same.{same_document, same_last, same_given, same_texts};
-    ghost use Rattle.oci_image_manifest.specs.OciLayout.{oci_layout, oci_layout_plain};
+    ghost use Rattle.oci_json_model.specs.Same.{same_document, same_last, same_given, same_texts};
+    ghost use Rattle.oci_shapes.specs.OciLayout.{oci_layout};
+    ghost use Rattle.oci_image_manifest.specs.OciLayout.{oci_layout_plain};
 
     ghost shape = { oci_layout };
 
     ghost plain = { oci_layout_plain };
 
-    #[tactic(auto, using(oci_json_schema::proofs::Readers::refuses_others))]
+    #[tactic(auto, using(oci_json_model::proofs::Readers::refuses_others))]
     fn from_value(alloc: Global, value: &Value) -> Result<OciLayout> {
         if !value.is_object() {
             return Err(fault::refused(NAME, ""));
@@ -145,7 +147,7 @@ impl OciRecord for OciLayout {
         })
     }
 
-    #[tactic(auto, using(oci_json_schema::proofs::Readers::refuses_others))]
+    #[tactic(auto, using(oci_json_model::proofs::Readers::refuses_others))]
     fn from_value_owned(alloc: Global, value: Value) -> Result<OciLayout> {
         let Some([image_layout_version]) = taken::<1>(alloc, value, &["imageLayoutVersion"])? else {
             return Err(fault::refused(NAME, ""));
@@ -191,7 +193,7 @@ pub struct OciLayoutBuilder {
 
 impl OciLayoutBuilder {
     ghost use Rattle.std.specs.Prelude.{Some};
-    ghost use Rattle.oci_json_schema.specs.Built.{IsUnset};
+    ghost use Rattle.oci_json_model.specs.Built.{IsUnset};
     ghost use Rattle.oci_image_manifest.specs.OciLayoutBuilder.{oci_layout_unset};
 
     /// The version of the layout.

@@ -1,23 +1,11 @@
 -- The machine that an image is for (image specification, "Image Index", `platform`).
-use Rattle.std.specs.Prelude.{[], ◌∷◌, codes, Some}
-use Rattle.oci_text.specs.Arch.{arches, arch_name}
-use Rattle.oci_text.specs.Os.{oses, os_name}
-use Rattle.oci_json_schema.specs.Plain as plain
-use Rattle.oci_json_schema.specs.Plain.{Plain, document, slots, empty, filled}
-use Rattle.oci_json_schema.specs.Shape.{Shape, rows, no_rows, row, listed, required, optional, text, open_name, list}
-use Rattle.oci_json_schema.specs.Types.{given, perhaps, text_plain, name_plain, list_plain}
+use Rattle.std.specs.Prelude.{[], ◌∷◌, codes}
+use Rattle.oci_text.specs.Arch.{arch_name}
+use Rattle.oci_text.specs.Os.{os_name}
+use Rattle.oci_json_model.specs.Plain as plain
+use Rattle.oci_json_model.specs.Plain.{Plain, document, slots, empty, filled}
+use Rattle.oci_json_model.specs.Types.{given, perhaps, text_plain, name_plain, list_plain}
 use Rattle.oci_image_platform.specs.declared.platform.Platform.{Platform}
-
--- the members, in the order in which they are looked at
-abbrev pub platform : Shape
-platform = rows (
-    listed (codes "architecture") required (open_name arches) (
-    listed (codes "os") required (open_name oses) (
-    row (codes "os.version") (Some (codes "os_version")) optional text (
-    row (codes "os.features") (Some (codes "os_features")) optional (list text) (
-    listed (codes "variant") optional text (
-    listed (codes "features") optional (list text)
-    no_rows))))))
 
 -- the content of a document
 abbrev pub platform_plain : Platform → Plain

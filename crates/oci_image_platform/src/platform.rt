@@ -1,9 +1,9 @@
 //! The machine that an image is for (image specification, "Image Index", `platform`).
 ghost use Rattle.std.specs.Prelude.{◌≡◌, IfOk, IfErr};
 
-use oci_json_schema::{
-    OciMember, OciRecord, all_2, all_3, copy_optional, fault, optional, optional_either,
-    optional_either_owned, optional_owned, required, required_owned, taken_8, write_optional,
+use oci_json_model::{
+    OciMember, OciRecord, copy_optional, fault, optional, optional_either, optional_either_owned,
+    optional_owned, required, required_owned, taken_8, try_join2, try_join3, write_optional,
     write_required,
 };
 use oci_text::{Arch, Os};
@@ -163,25 +163,26 @@ impl Platform {
 impl OciRecord for Platform {
     ghost use Rattle.oci_text.specs.Arch.{arch_name};
     ghost use Rattle.oci_text.specs.Os.{os_name};
-    ghost use Rattle.oci_json_schema.specs.Same.{same_document, same_more, same_last, same_given, same_perhaps, same_texts, same_lists, same_named};
-    ghost use Rattle.oci_image_platform.specs.Platform.{platform, platform_plain};
+    ghost use Rattle.oci_json_model.specs.Same.{same_document, same_more, same_last, same_given, same_perhaps, same_texts, same_lists, same_named};
+    ghost use Rattle.oci_shapes.specs.Platform.{platform};
+    ghost use Rattle.oci_image_platform.specs.Platform.{platform_plain};
 
     ghost shape = { platform };
 
     ghost plain = { platform_plain };
 
-    #[tactic(auto, using(oci_json_schema::proofs::Readers::refuses_others))]
+    #[tactic(auto, using(oci_json_model::proofs::Readers::refuses_others))]
     fn from_value(alloc: Global, value: &Value) -> Result<Platform> {
         if !value.is_object() {
             return Err(fault::refused(NAME, ""));
         }
-        let ((architecture, os, os_version), (os_features, variant, features)) = all_2(
-            all_3(
+        let ((architecture, os, os_version), (os_features, variant, features)) = try_join2(
+            try_join3(
                 required(alloc, value, NAME, "architecture"),
                 required(alloc, value, NAME, "os"),
                 optional_either(alloc, value, NAME, "os.version", "os_version"),
             ),
-            all_3(
+            try_join3(
                 optional_either(alloc, value, NAME, "os.features", "os_features"),
                 optional(alloc, value, NAME, "variant"),
                 optional(alloc, value, NAME, "features"),
@@ -197,7 +198,7 @@ impl OciRecord for Platform {
         })
     }
 
-    #[tactic(auto, using(oci_json_schema::proofs::Readers::refuses_others))]
+    #[tactic(auto, using(oci_json_model::proofs::Readers::refuses_others))]
     fn from_value_owned(alloc: Global, value: Value) -> Result<Platform> {
         let Some(
             (
@@ -227,8 +228,8 @@ impl OciRecord for Platform {
         else {
             return Err(fault::refused(NAME, ""));
         };
-        let ((architecture, os, os_version), (os_features, variant, features)) = all_2(
-            all_3(
+        let ((architecture, os, os_version), (os_features, variant, features)) = try_join2(
+            try_join3(
                 required_owned(alloc, architecture, NAME, "architecture"),
                 required_owned(alloc, os, NAME, "os"),
                 optional_either_owned(
@@ -240,7 +241,7 @@ impl OciRecord for Platform {
                     "os_version",
                 ),
             ),
-            all_3(
+            try_join3(
                 optional_either_owned(
                     alloc,
                     os_features,
@@ -265,13 +266,13 @@ impl OciRecord for Platform {
 
     fn to_value(&self, alloc: Global) -> Result<Value> {
         let mut members = Map::new(alloc);
-        all_2(
-            all_3(
+        try_join2(
+            try_join3(
                 write_required(&mut members, alloc, "architecture", &self.architecture),
                 write_required(&mut members, alloc, "os", &self.os),
                 write_optional(&mut members, alloc, "os.version", &self.os_version),
             ),
-            all_3(
+            try_join3(
                 write_optional(&mut members, alloc, "os.features", &self.os_features),
                 write_optional(&mut members, alloc, "variant", &self.variant),
                 write_optional(&mut members, alloc, "features", &self.features),
@@ -281,13 +282,13 @@ impl OciRecord for Platform {
     }
 
     fn duplicate(&self, alloc: Global) -> Result<Platform> {
-        let ((architecture, os, os_version), (os_features, variant, features)) = all_2(
-            all_3(
+        let ((architecture, os, os_version), (os_features, variant, features)) = try_join2(
+            try_join3(
                 self.architecture.copy(alloc),
                 self.os.copy(alloc),
                 copy_optional(&self.os_version, alloc),
             ),
-            all_3(
+            try_join3(
                 copy_optional(&self.os_features, alloc),
                 copy_optional(&self.variant, alloc),
                 copy_optional(&self.features, alloc),
@@ -327,7 +328,7 @@ pub struct PlatformBuilder {
 
 impl PlatformBuilder {
     ghost use Rattle.std.specs.Prelude.{Some};
-    ghost use Rattle.oci_json_schema.specs.Built.{IsUnset};
+    ghost use Rattle.oci_json_model.specs.Built.{IsUnset};
     ghost use Rattle.oci_image_platform.specs.PlatformBuilder.{platform_unset};
 
     /// The processor, by its name in Go's `GOARCH` where that lists it.

@@ -3,17 +3,18 @@
 
 pub mod laws;
 
-pub use oci_json_engines::{
+pub use oci_json_io::{
     from_file, from_reader, from_slice, normalize, to_file, to_file_pretty, to_string,
     to_string_pretty, to_writer, to_writer_pretty, write_text,
 };
-pub use oci_json_free::{FreeValues, equal_optional_values, equal_trees, equal_values};
-pub use oci_json_kinds::{
-    Detail, Keys, OciDefault, OciKind, copy_optional_as, defaulted, nullable, optional_as,
-    optional_as_owned, unless_empty, write_nullable, write_optional_as, write_unless_empty,
+pub use oci_json_members::{
+    Detail, FreeValues, Keys, OciDefault, OciKind, copy_optional_as, defaulted,
+    equal_optional_values, equal_trees, equal_values, nullable, optional_as, optional_as_owned,
+    unless_empty, write_nullable, write_optional_as, write_unless_empty,
 };
-pub use oci_json_schema::{
-    Found, OciMember, OciRecord, all_2, all_3, all_4, all_5, copy_optional, fault, optional,
-    optional_either, optional_either_owned, optional_owned, required, required_owned, taken,
-    taken_5, taken_6, taken_7, taken_8, taken_9, taken_10, write_optional, write_required,
+pub use oci_json_model::{
+    Found, OciMember, OciRecord, copy_optional, fault, optional, optional_either,
+    optional_either_owned, optional_owned, required, required_owned, taken, taken_5, taken_6,
+    taken_7, taken_8, taken_9, taken_10, try_join2, try_join3, try_join4, try_join5,
+    write_optional, write_required,
 };

@@ -1,68 +1,55 @@
 -- What only a Linux container has (runtime specification, "Linux Container Configuration").
-use Rattle.std.specs.Prelude.{[], ◌∷◌, codes, Option, String, Vec}
+use Rattle.std.specs.Prelude.{[], ◌∷◌, Option, String, Vec}
 use Rattle.std.specs.Borrow.{Lends, MutBor, Fml}
 use Rattle.std.specs.declared.alloc.Global.{Global}
 use Rattle.std.specs.BTreeMap.{BTreeMap}
-use Rattle.oci_json_schema.specs.Plain.{Plain, document, slots, empty, filled}
-use Rattle.oci_json_schema.specs.Shape.{Shape, rows, no_rows, listed, optional, text, list, map}
-use Rattle.oci_json_schema.specs.Types.{perhaps, text_plain, list_plain, map_plain}
-use Rattle.oci_json_schema.specs.Lent.{text_row, option_row, list_row, map_row}
-use Rattle.oci_linux_namespaces.specs.LinuxNetDevice.{linux_net_device, linux_net_device_plain}
+use Rattle.oci_json_model.specs.Plain.{Plain, document, slots, empty, filled}
+use Rattle.oci_json_model.specs.Types.{perhaps, text_plain, list_plain, map_plain}
+use Rattle.oci_json_model.specs.Lent.{text_row, option_row, list_row, map_row}
+use Rattle.oci_shapes.specs.LinuxNetDevice.{linux_net_device}
+use Rattle.oci_linux_namespaces.specs.LinuxNetDevice.{linux_net_device_plain}
 use Rattle.oci_linux_namespaces.specs.declared.linux_net_device.LinuxNetDevice.{LinuxNetDevice}
 use Rattle.oci_linux_namespaces.specs.contracts.linux_net_device.LinuxNetDevice as linux_net_device
-use Rattle.oci_linux_namespaces.specs.LinuxIdMapping.{linux_id_mapping, linux_id_mapping_plain}
+use Rattle.oci_shapes.specs.LinuxIdMapping.{linux_id_mapping}
+use Rattle.oci_linux_namespaces.specs.LinuxIdMapping.{linux_id_mapping_plain}
 use Rattle.oci_linux_namespaces.specs.declared.linux_id_mapping.LinuxIdMapping.{LinuxIdMapping}
 use Rattle.oci_linux_namespaces.specs.contracts.linux_id_mapping.LinuxIdMapping as linux_id_mapping
-use Rattle.oci_cgroups.specs.LinuxResources.{linux_resources, linux_resources_plain}
+use Rattle.oci_shapes.specs.LinuxResources.{linux_resources}
+use Rattle.oci_cgroups.specs.LinuxResources.{linux_resources_plain}
 use Rattle.oci_cgroups.specs.declared.linux_resources.LinuxResources.{LinuxResources}
 use Rattle.oci_cgroups.specs.contracts.linux_resources.LinuxResources as linux_resources
-use Rattle.oci_linux_namespaces.specs.LinuxNamespace.{linux_namespace, linux_namespace_plain}
+use Rattle.oci_shapes.specs.LinuxNamespace.{linux_namespace}
+use Rattle.oci_linux_namespaces.specs.LinuxNamespace.{linux_namespace_plain}
 use Rattle.oci_linux_namespaces.specs.declared.linux_namespace.LinuxNamespace.{LinuxNamespace}
 use Rattle.oci_linux_namespaces.specs.contracts.linux_namespace.LinuxNamespace as linux_namespace
-use Rattle.oci_linux_namespaces.specs.LinuxDevice.{linux_device, linux_device_plain}
+use Rattle.oci_shapes.specs.LinuxDevice.{linux_device}
+use Rattle.oci_linux_namespaces.specs.LinuxDevice.{linux_device_plain}
 use Rattle.oci_linux_namespaces.specs.declared.linux_device.LinuxDevice.{LinuxDevice}
 use Rattle.oci_linux_namespaces.specs.contracts.linux_device.LinuxDevice as linux_device
-use Rattle.oci_linux_policies.specs.LinuxSeccomp.{linux_seccomp, linux_seccomp_plain}
-use Rattle.oci_linux_policies.specs.declared.linux_seccomp.LinuxSeccomp.{LinuxSeccomp}
-use Rattle.oci_linux_policies.specs.contracts.linux_seccomp.LinuxSeccomp as linux_seccomp
-use Rattle.oci_linux_policies.specs.LinuxIntelRdt.{linux_intel_rdt, linux_intel_rdt_plain}
-use Rattle.oci_linux_policies.specs.declared.linux_intel_rdt.LinuxIntelRdt.{LinuxIntelRdt}
-use Rattle.oci_linux_policies.specs.contracts.linux_intel_rdt.LinuxIntelRdt as linux_intel_rdt
-use Rattle.oci_linux_policies.specs.LinuxMemoryPolicy.{linux_memory_policy, linux_memory_policy_plain}
-use Rattle.oci_linux_policies.specs.declared.linux_memory_policy.LinuxMemoryPolicy.{LinuxMemoryPolicy}
-use Rattle.oci_linux_policies.specs.contracts.linux_memory_policy.LinuxMemoryPolicy as linux_memory_policy
-use Rattle.oci_linux_policies.specs.LinuxPersonality.{linux_personality, linux_personality_plain}
-use Rattle.oci_linux_policies.specs.declared.linux_personality.LinuxPersonality.{LinuxPersonality}
-use Rattle.oci_linux_policies.specs.contracts.linux_personality.LinuxPersonality as linux_personality
-use Rattle.oci_linux_namespaces.specs.LinuxTimeOffset.{linux_time_offset, linux_time_offset_plain}
+use Rattle.oci_shapes.specs.LinuxSeccomp.{linux_seccomp}
+use Rattle.oci_linux_seccomp.specs.LinuxSeccomp.{linux_seccomp_plain}
+use Rattle.oci_linux_seccomp.specs.declared.linux_seccomp.LinuxSeccomp.{LinuxSeccomp}
+use Rattle.oci_linux_seccomp.specs.contracts.linux_seccomp.LinuxSeccomp as linux_seccomp
+use Rattle.oci_shapes.specs.LinuxIntelRdt.{linux_intel_rdt}
+use Rattle.oci_linux_seccomp.specs.LinuxIntelRdt.{linux_intel_rdt_plain}
+use Rattle.oci_linux_seccomp.specs.declared.linux_intel_rdt.LinuxIntelRdt.{LinuxIntelRdt}
+use Rattle.oci_linux_seccomp.specs.contracts.linux_intel_rdt.LinuxIntelRdt as linux_intel_rdt
+use Rattle.oci_shapes.specs.LinuxMemoryPolicy.{linux_memory_policy}
+use Rattle.oci_linux_seccomp.specs.LinuxMemoryPolicy.{linux_memory_policy_plain}
+use Rattle.oci_linux_seccomp.specs.declared.linux_memory_policy.LinuxMemoryPolicy.{LinuxMemoryPolicy}
+use Rattle.oci_linux_seccomp.specs.contracts.linux_memory_policy.LinuxMemoryPolicy as linux_memory_policy
+use Rattle.oci_shapes.specs.LinuxPersonality.{linux_personality}
+use Rattle.oci_linux_seccomp.specs.LinuxPersonality.{linux_personality_plain}
+use Rattle.oci_linux_seccomp.specs.declared.linux_personality.LinuxPersonality.{LinuxPersonality}
+use Rattle.oci_linux_seccomp.specs.contracts.linux_personality.LinuxPersonality as linux_personality
+use Rattle.oci_shapes.specs.LinuxTimeOffset.{linux_time_offset}
+use Rattle.oci_linux_namespaces.specs.LinuxTimeOffset.{linux_time_offset_plain}
 use Rattle.oci_linux_namespaces.specs.declared.linux_time_offset.LinuxTimeOffset.{LinuxTimeOffset}
 use Rattle.oci_linux_namespaces.specs.contracts.linux_time_offset.LinuxTimeOffset as linux_time_offset
-use Rattle.oci_runtime_parts.specs.Defaults.{default_masked_paths, default_namespaces, default_readonly_paths}
+use Rattle.oci_runtime_defaults.specs.Defaults.{default_masked_paths, default_namespaces, default_readonly_paths}
 use Rattle.oci_linux.specs.DefaultResources.{default_resources}
 use Rattle.oci_linux.specs.declared.linux.Linux.{Linux}
 use Rattle.oci_linux.specs.contracts.linux.Linux.{the_row}
-
--- the members, in the order in which they are looked at
-abbrev pub linux : Shape
-linux = rows (
-    listed (codes "netDevices") optional (map linux_net_device) (
-    listed (codes "uidMappings") optional (list linux_id_mapping) (
-    listed (codes "gidMappings") optional (list linux_id_mapping) (
-    listed (codes "sysctl") optional (map text) (
-    listed (codes "resources") optional linux_resources (
-    listed (codes "cgroupsPath") optional text (
-    listed (codes "namespaces") optional (list linux_namespace) (
-    listed (codes "devices") optional (list linux_device) (
-    listed (codes "seccomp") optional linux_seccomp (
-    listed (codes "rootfsPropagation") optional text (
-    listed (codes "maskedPaths") optional (list text) (
-    listed (codes "readonlyPaths") optional (list text) (
-    listed (codes "mountLabel") optional text (
-    listed (codes "intelRdt") optional linux_intel_rdt (
-    listed (codes "memoryPolicy") optional linux_memory_policy (
-    listed (codes "personality") optional linux_personality (
-    listed (codes "timeOffsets") optional (map linux_time_offset)
-    no_rows)))))))))))))))))
 
 -- the content of a document
 abbrev pub linux_plain : Linux → Plain

@@ -1,8 +1,8 @@
 -- The Linux part of a container that a user without privileges starts (runtime specification, "Linux Container Configuration").
 use Rattle.std.specs.Prelude.{ℕ, [], ◌∷◌, pos}
-use Rattle.oci_json_schema.specs.Plain as plain
-use Rattle.oci_json_schema.specs.Plain.{Plain, document, slots, empty, filled, plains}
-use Rattle.oci_runtime_parts.specs.Defaults.{default_masked_paths, default_readonly_paths, rootless_namespaces}
+use Rattle.oci_json_model.specs.Plain as plain
+use Rattle.oci_json_model.specs.Plain.{Plain, document, slots, empty, filled, plains}
+use Rattle.oci_runtime_defaults.specs.Defaults.{default_masked_paths, default_readonly_paths, rootless_namespaces}
 
 -- one mapping: the container's ID 0 stands for this one of the host, and no other for any
 abbrev pub mapping_of : ℕ → Plain

@@ -10,11 +10,11 @@ pub use oci_linux_namespaces::{
     LinuxNamespaceBuilder, LinuxNetDevice, LinuxNetDeviceBuilder, LinuxTimeOffset,
     LinuxTimeOffsetBuilder,
 };
-pub use oci_linux_policies::{
+pub use oci_linux_seccomp::{
     LinuxIntelRdt, LinuxIntelRdtBuilder, LinuxMemoryPolicy, LinuxMemoryPolicyBuilder,
     LinuxPersonality, LinuxPersonalityBuilder, LinuxSeccomp, LinuxSeccompArg,
     LinuxSeccompArgBuilder, LinuxSeccompBuilder, LinuxSyscall, LinuxSyscallBuilder,
 };
-pub use oci_runtime_parts::{
+pub use oci_runtime_defaults::{
     cgroup_of, get_default_maskedpaths, get_default_namespaces, get_default_readonly_paths,
 };

@@ -8,12 +8,14 @@ mod rootless;
 use crate::defaults::resources_without_rules;
 pub use builder::LinuxBuilder;
 use oci_cgroups::LinuxResources;
-use oci_json_schema::{OciRecord, all_4, all_5, copy_optional, fault, optional, write_optional};
+use oci_json_model::{
+    OciRecord, copy_optional, fault, optional, try_join4, try_join5, write_optional,
+};
 use oci_linux_namespaces::{
     LinuxDevice, LinuxIdMapping, LinuxNamespace, LinuxNetDevice, LinuxTimeOffset,
 };
-use oci_linux_policies::{LinuxIntelRdt, LinuxMemoryPolicy, LinuxPersonality, LinuxSeccomp};
-use oci_runtime_parts::{
+use oci_linux_seccomp::{LinuxIntelRdt, LinuxMemoryPolicy, LinuxPersonality, LinuxSeccomp};
+use oci_runtime_defaults::{
     get_default_maskedpaths, get_default_namespaces, get_default_readonly_paths,
 };
 use oci_text_base::{OciSpecError, Result};
@@ -85,7 +87,7 @@ impl Linux {
         ensures ok { IfOk result (λ x. linux_plain x ≡ default_linux) }
         ensures err { IfErr result (λ e. e ≡ OciSpecError.Memory) }
     {
-        let (resources, namespaces, masked_paths, readonly_paths) = all_4(
+        let (resources, namespaces, masked_paths, readonly_paths) = try_join4(
             resources_without_rules(alloc),
             get_default_namespaces(alloc),
             get_default_maskedpaths(alloc),
@@ -114,25 +116,26 @@ impl Linux {
 }
 
 impl OciRecord for Linux {
-    ghost use Rattle.oci_json_kinds.specs.DefaultMembers.{default_number, default_text, default_truth};
-    ghost use Rattle.oci_json_schema.specs.Same.{same_document, same_more, same_last, same_perhaps, same_texts, same_lists, same_maps};
-    ghost use Rattle.oci_linux.specs.Linux.{linux, linux_plain};
+    ghost use Rattle.oci_json_members.specs.DefaultMembers.{default_number, default_text, default_truth};
+    ghost use Rattle.oci_json_model.specs.Same.{same_document, same_more, same_last, same_perhaps, same_texts, same_lists, same_maps};
+    ghost use Rattle.oci_shapes.specs.Linux.{linux};
+    ghost use Rattle.oci_linux.specs.Linux.{linux_plain};
     ghost use Rattle.oci_linux_namespaces.specs.contracts.linux_net_device.LinuxNetDeviceOciRecord.TheImpl.Laws.{same-law as linux_net_device_same};
     ghost use Rattle.oci_linux_namespaces.specs.contracts.linux_id_mapping.LinuxIdMappingOciRecord.TheImpl.Laws.{same-law as linux_id_mapping_same};
     ghost use Rattle.oci_cgroups.specs.contracts.linux_resources.LinuxResourcesOciRecord.TheImpl.Laws.{same-law as linux_resources_same};
     ghost use Rattle.oci_linux_namespaces.specs.contracts.linux_namespace.LinuxNamespaceOciRecord.TheImpl.Laws.{same-law as linux_namespace_same};
     ghost use Rattle.oci_linux_namespaces.specs.contracts.linux_device.LinuxDeviceOciRecord.TheImpl.Laws.{same-law as linux_device_same};
-    ghost use Rattle.oci_linux_policies.specs.contracts.linux_seccomp.LinuxSeccompOciRecord.TheImpl.Laws.{same-law as linux_seccomp_same};
-    ghost use Rattle.oci_linux_policies.specs.contracts.linux_intel_rdt.LinuxIntelRdtOciRecord.TheImpl.Laws.{same-law as linux_intel_rdt_same};
-    ghost use Rattle.oci_linux_policies.specs.contracts.linux_memory_policy.LinuxMemoryPolicyOciRecord.TheImpl.Laws.{same-law as linux_memory_policy_same};
-    ghost use Rattle.oci_linux_policies.specs.contracts.linux_personality.LinuxPersonalityOciRecord.TheImpl.Laws.{same-law as linux_personality_same};
+    ghost use Rattle.oci_linux_seccomp.specs.contracts.linux_seccomp.LinuxSeccompOciRecord.TheImpl.Laws.{same-law as linux_seccomp_same};
+    ghost use Rattle.oci_linux_seccomp.specs.contracts.linux_intel_rdt.LinuxIntelRdtOciRecord.TheImpl.Laws.{same-law as linux_intel_rdt_same};
+    ghost use Rattle.oci_linux_seccomp.specs.contracts.linux_memory_policy.LinuxMemoryPolicyOciRecord.TheImpl.Laws.{same-law as linux_memory_policy_same};
+    ghost use Rattle.oci_linux_seccomp.specs.contracts.linux_personality.LinuxPersonalityOciRecord.TheImpl.Laws.{same-law as linux_personality_same};
     ghost use Rattle.oci_linux_namespaces.specs.contracts.linux_time_offset.LinuxTimeOffsetOciRecord.TheImpl.Laws.{same-law as linux_time_offset_same};
 
     ghost shape = { linux };
 
     ghost plain = { linux_plain };
 
-    #[tactic(auto, using(oci_json_schema::proofs::Readers::refuses_others))]
+    #[tactic(auto, using(oci_json_model::proofs::Readers::refuses_others))]
     fn from_value(alloc: Global, value: &Value) -> Result<Linux> {
         if !value.is_object() {
             return Err(fault::refused(NAME, ""));
@@ -142,27 +145,27 @@ impl OciRecord for Linux {
             (cgroups_path, namespaces, devices, seccomp),
             (rootfs_propagation, masked_paths, readonly_paths, mount_label),
             (intel_rdt, memory_policy, personality, time_offsets),
-        ) = all_4(
-            all_5(
+        ) = try_join4(
+            try_join5(
                 optional(alloc, value, NAME, "netDevices"),
                 optional(alloc, value, NAME, "uidMappings"),
                 optional(alloc, value, NAME, "gidMappings"),
                 optional(alloc, value, NAME, "sysctl"),
                 optional(alloc, value, NAME, "resources"),
             ),
-            all_4(
+            try_join4(
                 optional(alloc, value, NAME, "cgroupsPath"),
                 optional(alloc, value, NAME, "namespaces"),
                 optional(alloc, value, NAME, "devices"),
                 optional(alloc, value, NAME, "seccomp"),
             ),
-            all_4(
+            try_join4(
                 optional(alloc, value, NAME, "rootfsPropagation"),
                 optional(alloc, value, NAME, "maskedPaths"),
                 optional(alloc, value, NAME, "readonlyPaths"),
                 optional(alloc, value, NAME, "mountLabel"),
             ),
-            all_4(
+            try_join4(
                 optional(alloc, value, NAME, "intelRdt"),
                 optional(alloc, value, NAME, "memoryPolicy"),
                 optional(alloc, value, NAME, "personality"),
@@ -192,21 +195,21 @@ impl OciRecord for Linux {
 
     fn to_value(&self, alloc: Global) -> Result<Value> {
         let mut members = Map::new(alloc);
-        all_4(
-            all_5(
+        try_join4(
+            try_join5(
                 write_optional(&mut members, alloc, "netDevices", &self.net_devices),
                 write_optional(&mut members, alloc, "uidMappings", &self.uid_mappings),
                 write_optional(&mut members, alloc, "gidMappings", &self.gid_mappings),
                 write_optional(&mut members, alloc, "sysctl", &self.sysctl),
                 write_optional(&mut members, alloc, "resources", &self.resources),
             ),
-            all_4(
+            try_join4(
                 write_optional(&mut members, alloc, "cgroupsPath", &self.cgroups_path),
                 write_optional(&mut members, alloc, "namespaces", &self.namespaces),
                 write_optional(&mut members, alloc, "devices", &self.devices),
                 write_optional(&mut members, alloc, "seccomp", &self.seccomp),
             ),
-            all_4(
+            try_join4(
                 write_optional(
                     &mut members,
                     alloc,
@@ -217,7 +220,7 @@ impl OciRecord for Linux {
                 write_optional(&mut members, alloc, "readonlyPaths", &self.readonly_paths),
                 write_optional(&mut members, alloc, "mountLabel", &self.mount_label),
             ),
-            all_4(
+            try_join4(
                 write_optional(&mut members, alloc, "intelRdt", &self.intel_rdt),
                 write_optional(&mut members, alloc, "memoryPolicy", &self.memory_policy),
                 write_optional(&mut members, alloc, "personality", &self.personality),
@@ -233,27 +236,27 @@ impl OciRecord for Linux {
             (cgroups_path, namespaces, devices, seccomp),
             (rootfs_propagation, masked_paths, readonly_paths, mount_label),
             (intel_rdt, memory_policy, personality, time_offsets),
-        ) = all_4(
-            all_5(
+        ) = try_join4(
+            try_join5(
                 copy_optional(&self.net_devices, alloc),
                 copy_optional(&self.uid_mappings, alloc),
                 copy_optional(&self.gid_mappings, alloc),
                 copy_optional(&self.sysctl, alloc),
                 copy_optional(&self.resources, alloc),
             ),
-            all_4(
+            try_join4(
                 copy_optional(&self.cgroups_path, alloc),
                 copy_optional(&self.namespaces, alloc),
                 copy_optional(&self.devices, alloc),
                 copy_optional(&self.seccomp, alloc),
             ),
-            all_4(
+            try_join4(
                 copy_optional(&self.rootfs_propagation, alloc),
                 copy_optional(&self.masked_paths, alloc),
                 copy_optional(&self.readonly_paths, alloc),
                 copy_optional(&self.mount_label, alloc),
             ),
-            all_4(
+            try_join4(
                 copy_optional(&self.intel_rdt, alloc),
                 copy_optional(&self.memory_policy, alloc),
                 copy_optional(&self.personality, alloc),

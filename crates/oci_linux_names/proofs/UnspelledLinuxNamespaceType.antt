@@ -2,7 +2,7 @@
 use Rattle.std.proofs.Common.{◌≡◌, ℕ, List, Option, Some, None, codes, sym}
 use Rattle.std.specs.Prelude.{IsTrue, IfNone}
 use Rattle.oci_text_base.specs.Names.{is_listed}
-use Rattle.oci_json_schema.specs.Variants.{listed}
+use Rattle.oci_json_model.specs.Variants.{listed}
 use Rattle.oci_linux_names.specs.LinuxNamespaceType.{linux_namespace_type_name, linux_namespace_type_shown, linux_namespace_type_table, all_linux_namespace_type, linux_namespace_type_back}
 use Rattle.oci_linux_names.specs.declared.linux_namespace_type.LinuxNamespaceType.{LinuxNamespaceType}
 use Rattle.oci_linux_names.specs.declared.linux_namespace_type.LinuxNamespaceType.TheVariants.{Mount, Cgroup, Uts, Ipc, User, Pid, Network, Time}

@@ -1,7 +1,7 @@
 -- The types of devices (runtime specification, "Linux Container Configuration", "Devices", `type`).
 use Rattle.std.specs.Prelude.{◌≡◌, ◌↔◌, ℕ, List, [], ◌∷◌, true, Some, codes, map, refl}
 use denote.Enum.Bare.{sameb}
-use Rattle.oci_json_schema.specs.Variants.{variant_of, told_by_name}
+use Rattle.oci_json_model.specs.Variants.{variant_of, told_by_name}
 use Rattle.oci_linux_names.specs.contracts.linux_device_type.LinuxDeviceType.{the_type}
 use Rattle.oci_linux_names.specs.declared.linux_device_type.LinuxDeviceType.{LinuxDeviceType}
 use Rattle.oci_linux_names.specs.declared.linux_device_type.LinuxDeviceType.TheVariants.{A, B, C, U, P}

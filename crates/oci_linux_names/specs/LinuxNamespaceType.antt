@@ -1,7 +1,7 @@
 -- The types of namespaces (runtime specification, "Linux Container Configuration", "Namespaces", `type`).
 use Rattle.std.specs.Prelude.{◌≡◌, ◌↔◌, ℕ, List, [], ◌∷◌, ◌++◌, true, Some, codes, map, refl}
 use denote.Enum.Bare.{sameb}
-use Rattle.oci_json_schema.specs.Variants.{variant_of, told_by_name}
+use Rattle.oci_json_model.specs.Variants.{variant_of, told_by_name}
 use Rattle.oci_linux_names.specs.contracts.linux_namespace_type.LinuxNamespaceType.{the_type}
 use Rattle.oci_linux_names.specs.declared.linux_namespace_type.LinuxNamespaceType.{LinuxNamespaceType}
 use Rattle.oci_linux_names.specs.declared.linux_namespace_type.LinuxNamespaceType.TheVariants.{Mount, Cgroup, Uts, Ipc, User, Pid, Network, Time}

@@ -1,7 +1,7 @@
 -- The execution domains (runtime specification, "Linux Container Configuration", "Personality", `domain`).
 use Rattle.std.specs.Prelude.{◌≡◌, ◌↔◌, ℕ, List, [], ◌∷◌, true, Some, codes, map, refl}
 use denote.Enum.Bare.{sameb}
-use Rattle.oci_json_schema.specs.Variants.{variant_of, told_by_name}
+use Rattle.oci_json_model.specs.Variants.{variant_of, told_by_name}
 use Rattle.oci_linux_names.specs.contracts.linux_personality_domain.LinuxPersonalityDomain.{the_type}
 use Rattle.oci_linux_names.specs.declared.linux_personality_domain.LinuxPersonalityDomain.{LinuxPersonalityDomain}
 use Rattle.oci_linux_names.specs.declared.linux_personality_domain.LinuxPersonalityDomain.TheVariants.{PerLinux, PerLinux32}

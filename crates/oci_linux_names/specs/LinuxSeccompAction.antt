@@ -1,7 +1,7 @@
 -- What is done about a system call (runtime specification, "Linux Container Configuration", "Seccomp", `action`).
 use Rattle.std.specs.Prelude.{◌≡◌, ◌↔◌, ℕ, List, [], ◌∷◌, true, Some, codes, map, refl}
 use denote.Enum.Bare.{sameb}
-use Rattle.oci_json_schema.specs.Variants.{variant_of, told_by_name}
+use Rattle.oci_json_model.specs.Variants.{variant_of, told_by_name}
 use Rattle.oci_linux_names.specs.contracts.linux_seccomp_action.LinuxSeccompAction.{the_type}
 use Rattle.oci_linux_names.specs.declared.linux_seccomp_action.LinuxSeccompAction.{LinuxSeccompAction}
 use Rattle.oci_linux_names.specs.declared.linux_seccomp_action.LinuxSeccompAction.TheVariants.{ScmpActKill, ScmpActKillThread, ScmpActKillProcess, ScmpActTrap, ScmpActErrno, ScmpActNotify, ScmpActTrace, ScmpActLog, ScmpActAllow}

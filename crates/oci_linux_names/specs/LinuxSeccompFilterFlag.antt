@@ -1,7 +1,7 @@
 -- The flags of a filter (runtime specification, "Linux Container Configuration", "Seccomp", `flags`).
 use Rattle.std.specs.Prelude.{◌≡◌, ◌↔◌, ℕ, List, [], ◌∷◌, true, Some, codes, map, refl}
 use denote.Enum.Bare.{sameb}
-use Rattle.oci_json_schema.specs.Variants.{variant_of, told_by_name}
+use Rattle.oci_json_model.specs.Variants.{variant_of, told_by_name}
 use Rattle.oci_linux_names.specs.contracts.linux_seccomp_filter_flag.LinuxSeccompFilterFlag.{the_type}
 use Rattle.oci_linux_names.specs.declared.linux_seccomp_filter_flag.LinuxSeccompFilterFlag.{LinuxSeccompFilterFlag}
 use Rattle.oci_linux_names.specs.declared.linux_seccomp_filter_flag.LinuxSeccompFilterFlag.TheVariants.{SeccompFilterFlagLog, SeccompFilterFlagTsync, SeccompFilterFlagSpecAllow, SeccompFilterFlagWaitKillableRecv}

@@ -1,7 +1,7 @@
 -- How an argument is compared (runtime specification, "Linux Container Configuration", "Seccomp", `op`).
 use Rattle.std.specs.Prelude.{◌≡◌, ◌↔◌, ℕ, List, [], ◌∷◌, true, Some, codes, map, refl}
 use denote.Enum.Bare.{sameb}
-use Rattle.oci_json_schema.specs.Variants.{variant_of, told_by_name}
+use Rattle.oci_json_model.specs.Variants.{variant_of, told_by_name}
 use Rattle.oci_linux_names.specs.contracts.linux_seccomp_operator.LinuxSeccompOperator.{the_type}
 use Rattle.oci_linux_names.specs.declared.linux_seccomp_operator.LinuxSeccompOperator.{LinuxSeccompOperator}
 use Rattle.oci_linux_names.specs.declared.linux_seccomp_operator.LinuxSeccompOperator.TheVariants.{ScmpCmpNe, ScmpCmpLt, ScmpCmpLe, ScmpCmpEq, ScmpCmpGe, ScmpCmpGt, ScmpCmpMaskedEq}

@@ -1,7 +1,7 @@
 -- The flags of a memory policy (runtime specification, "Linux Container Configuration", `memoryPolicy`, `flags`).
 use Rattle.std.specs.Prelude.{◌≡◌, ◌↔◌, ℕ, List, [], ◌∷◌, true, Some, codes, map, refl}
 use denote.Enum.Bare.{sameb}
-use Rattle.oci_json_schema.specs.Variants.{variant_of, told_by_name}
+use Rattle.oci_json_model.specs.Variants.{variant_of, told_by_name}
 use Rattle.oci_linux_names.specs.contracts.memory_policy_flag_type.MemoryPolicyFlagType.{the_type}
 use Rattle.oci_linux_names.specs.declared.memory_policy_flag_type.MemoryPolicyFlagType.{MemoryPolicyFlagType}
 use Rattle.oci_linux_names.specs.declared.memory_policy_flag_type.MemoryPolicyFlagType.TheVariants.{MpolFNumaBalancing, MpolFRelativeNodes, MpolFStaticNodes}

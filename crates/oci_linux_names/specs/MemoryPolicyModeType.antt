@@ -1,7 +1,7 @@
 -- How memory nodes are chosen (runtime specification, "Linux Container Configuration", `memoryPolicy`, `mode`).
 use Rattle.std.specs.Prelude.{◌≡◌, ◌↔◌, ℕ, List, [], ◌∷◌, true, Some, codes, map, refl}
 use denote.Enum.Bare.{sameb}
-use Rattle.oci_json_schema.specs.Variants.{variant_of, told_by_name}
+use Rattle.oci_json_model.specs.Variants.{variant_of, told_by_name}
 use Rattle.oci_linux_names.specs.contracts.memory_policy_mode_type.MemoryPolicyModeType.{the_type}
 use Rattle.oci_linux_names.specs.declared.memory_policy_mode_type.MemoryPolicyModeType.{MemoryPolicyModeType}
 use Rattle.oci_linux_names.specs.declared.memory_policy_mode_type.MemoryPolicyModeType.TheVariants.{MpolDefault, MpolBind, MpolInterleave, MpolWeightedInterleave, MpolPreferred, MpolPreferredMany, MpolLocal}

@@ -1,7 +1,7 @@
 -- The architectures of system calls (runtime specification, "Linux Container Configuration", "Seccomp", `architectures`).
 use Rattle.std.specs.Prelude.{◌≡◌, ◌↔◌, ℕ, List, [], ◌∷◌, true, Some, codes, map, refl}
 use denote.Enum.Bare.{sameb}
-use Rattle.oci_json_schema.specs.Variants.{variant_of, told_by_name}
+use Rattle.oci_json_model.specs.Variants.{variant_of, told_by_name}
 use Rattle.oci_linux_names.specs.contracts.s_arch.SArch.{the_type}
 use Rattle.oci_linux_names.specs.declared.s_arch.SArch.{SArch}
 use Rattle.oci_linux_names.specs.declared.s_arch.SArch.TheVariants.{ScmpArchNative, ScmpArchX86, ScmpArchX86_64, ScmpArchX32, ScmpArchArm, ScmpArchAarch64, ScmpArchMips, ScmpArchMips64, ScmpArchMips64n32, ScmpArchMipsel, ScmpArchMipsel64, ScmpArchMipsel64n32, ScmpArchPpc, ScmpArchPpc64, ScmpArchPpc64le, ScmpArchS390, ScmpArchS390x, ScmpArchParisc, ScmpArchParisc64, ScmpArchRiscv64, ScmpArchLoongarch64, ScmpArchM68k, ScmpArchSh, ScmpArchSheb}

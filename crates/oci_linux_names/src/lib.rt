@@ -1,6 +1,6 @@
 //! The closed names of the runtime specification, each a type of a few variants with a text each.
 //!
-//! `tools/new_name` prints each of them from a description in `tools/names`. `src/NAME.rt` has the enum, the tables `ALL`,
+//! `tools/gen_names` prints each of them from a description in `tools/names`. `src/NAME.rt` has the enum, the tables `ALL`,
 //! `NAMES` and, where it has numbers or displays other texts, `NUMBERS` and `SHOWN`, in the order of the variants, since
 //! a variant finds its place in them; then `Display` and the calls that it has, `ClosedName` over these tables, and
 //! `OciMember`. `specs/NAME.antt` has text and number variant by variant, which the contracts cite, the list of all

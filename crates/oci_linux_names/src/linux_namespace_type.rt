@@ -3,7 +3,7 @@ ghost use Rattle.std.specs.Prelude.{◌≡◌, ◌⊎◌, IfOk, IfErr, IfSome, I
 ghost use Rattle.oci_linux_names.specs.declared.linux_namespace_type.LinuxNamespaceType.{LinuxNamespaceType};
 ghost use Rattle.oci_linux_names.specs.LinuxNamespaceType.{linux_namespace_type_name, linux_namespace_type_shown, linux_namespace_type_unknown, linux_namespace_type_number};
 
-use oci_json_schema::{ClosedName, OciMember, named, read_name, write_name};
+use oci_json_model::{ClosedName, OciMember, named, read_name, write_name};
 use oci_text_base::{OciSpecError, Result};
 use serde_json::Value;
 use std::alloc::{AllocError, Global};
@@ -128,8 +128,8 @@ impl ClosedName for LinuxNamespaceType {
 
 impl OciMember for LinuxNamespaceType {
     ghost use Rattle.std.specs.Prelude.{refl};
-    ghost use Rattle.oci_json_schema.specs.Shape.{named};
-    ghost use Rattle.oci_json_schema.specs.ClosedNames.{same_variants, variant_plain};
+    ghost use Rattle.oci_json_model.specs.Shape.{named};
+    ghost use Rattle.oci_json_model.specs.ClosedNames.{same_variants, variant_plain};
     ghost use Rattle.oci_linux_names.specs.LinuxNamespaceType.{linux_namespace_type_same, linux_namespace_type_table};
 
     ghost shape = { named linux_namespace_type_table };

@@ -3,7 +3,7 @@ ghost use Rattle.std.specs.Prelude.{◌≡◌, IfOk, IfErr};
 ghost use Rattle.oci_linux_names.specs.declared.linux_personality_domain.LinuxPersonalityDomain.{LinuxPersonalityDomain};
 ghost use Rattle.oci_linux_names.specs.LinuxPersonalityDomain.{linux_personality_domain_name};
 
-use oci_json_schema::{ClosedName, OciMember, parse_name, read_name, write_name};
+use oci_json_model::{ClosedName, OciMember, parse_name, read_name, write_name};
 use oci_text_base::{Result, UnknownName};
 use serde_json::Value;
 use std::alloc::Global;
@@ -69,8 +69,8 @@ impl ClosedName for LinuxPersonalityDomain {
 
 impl OciMember for LinuxPersonalityDomain {
     ghost use Rattle.std.specs.Prelude.{refl};
-    ghost use Rattle.oci_json_schema.specs.Shape.{named};
-    ghost use Rattle.oci_json_schema.specs.ClosedNames.{same_variants, variant_plain};
+    ghost use Rattle.oci_json_model.specs.Shape.{named};
+    ghost use Rattle.oci_json_model.specs.ClosedNames.{same_variants, variant_plain};
     ghost use Rattle.oci_linux_names.specs.LinuxPersonalityDomain.{linux_personality_domain_same, linux_personality_domain_table};
 
     ghost shape = { named linux_personality_domain_table };

@@ -3,7 +3,7 @@ ghost use Rattle.std.specs.Prelude.{◌≡◌, IfOk, IfErr};
 ghost use Rattle.oci_linux_names.specs.declared.linux_seccomp_action.LinuxSeccompAction.{LinuxSeccompAction};
 ghost use Rattle.oci_linux_names.specs.LinuxSeccompAction.{linux_seccomp_action_name};
 
-use oci_json_schema::{ClosedName, OciMember, parse_name, read_name, write_name};
+use oci_json_model::{ClosedName, OciMember, parse_name, read_name, write_name};
 use oci_text_base::{Result, UnknownName};
 use serde_json::Value;
 use std::alloc::Global;
@@ -100,8 +100,8 @@ impl ClosedName for LinuxSeccompAction {
 
 impl OciMember for LinuxSeccompAction {
     ghost use Rattle.std.specs.Prelude.{refl};
-    ghost use Rattle.oci_json_schema.specs.Shape.{named};
-    ghost use Rattle.oci_json_schema.specs.ClosedNames.{same_variants, variant_plain};
+    ghost use Rattle.oci_json_model.specs.Shape.{named};
+    ghost use Rattle.oci_json_model.specs.ClosedNames.{same_variants, variant_plain};
     ghost use Rattle.oci_linux_names.specs.LinuxSeccompAction.{linux_seccomp_action_same, linux_seccomp_action_table};
 
     ghost shape = { named linux_seccomp_action_table };

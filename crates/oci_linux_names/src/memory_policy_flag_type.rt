@@ -3,7 +3,7 @@ ghost use Rattle.std.specs.Prelude.{◌≡◌, IfOk, IfErr};
 ghost use Rattle.oci_linux_names.specs.declared.memory_policy_flag_type.MemoryPolicyFlagType.{MemoryPolicyFlagType};
 ghost use Rattle.oci_linux_names.specs.MemoryPolicyFlagType.{memory_policy_flag_type_name};
 
-use oci_json_schema::{ClosedName, OciMember, parse_name, read_name, write_name};
+use oci_json_model::{ClosedName, OciMember, parse_name, read_name, write_name};
 use oci_text_base::{Result, UnknownName};
 use serde_json::Value;
 use std::alloc::Global;
@@ -74,8 +74,8 @@ impl ClosedName for MemoryPolicyFlagType {
 
 impl OciMember for MemoryPolicyFlagType {
     ghost use Rattle.std.specs.Prelude.{refl};
-    ghost use Rattle.oci_json_schema.specs.Shape.{named};
-    ghost use Rattle.oci_json_schema.specs.ClosedNames.{same_variants, variant_plain};
+    ghost use Rattle.oci_json_model.specs.Shape.{named};
+    ghost use Rattle.oci_json_model.specs.ClosedNames.{same_variants, variant_plain};
     ghost use Rattle.oci_linux_names.specs.MemoryPolicyFlagType.{memory_policy_flag_type_same, memory_policy_flag_type_table};
 
     ghost shape = { named memory_policy_flag_type_table };

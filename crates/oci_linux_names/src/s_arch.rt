@@ -3,7 +3,7 @@ ghost use Rattle.std.specs.Prelude.{◌≡◌, IfOk, IfErr};
 ghost use Rattle.oci_linux_names.specs.declared.s_arch.SArch.{SArch};
 ghost use Rattle.oci_linux_names.specs.SArch.{s_arch_name, s_arch_number};
 
-use oci_json_schema::{ClosedName, OciMember, parse_name, read_name, write_name};
+use oci_json_model::{ClosedName, OciMember, parse_name, read_name, write_name};
 use oci_text_base::{Result, UnknownName};
 use serde_json::Value;
 use std::alloc::Global;
@@ -172,8 +172,8 @@ impl ClosedName for SArch {
 
 impl OciMember for SArch {
     ghost use Rattle.std.specs.Prelude.{refl};
-    ghost use Rattle.oci_json_schema.specs.Shape.{named};
-    ghost use Rattle.oci_json_schema.specs.ClosedNames.{same_variants, variant_plain};
+    ghost use Rattle.oci_json_model.specs.Shape.{named};
+    ghost use Rattle.oci_json_model.specs.ClosedNames.{same_variants, variant_plain};
     ghost use Rattle.oci_linux_names.specs.SArch.{s_arch_same, s_arch_table};
 
     ghost shape = { named s_arch_table };

@@ -1,7 +1,7 @@
 -- Lists that are made of other lists, item by item.
 use Rattle.std.proofs.Common.{◌≡◌, ℕ, ◌+◌, ◌<◌, List, [], ◌∷◌, ◌++◌, length, get_or, take, map, refl}
 use Rattle.std.proofs.lemmas.List.{take_more}
-use Rattle.oci_json_schema.specs.Plain.{Plain, plains}
+use Rattle.oci_json_model.specs.Plain.{Plain, plains}
 
 module _ {T U : Type 0} (f : T → Plain) (g : U → Plain) where
   plains_more : (ys : List T) (xs : List U) (y : T) (x : U) → plains (map f ys) ≡ plains (map g xs) → f y ≡ g x → plains (map f (ys ++ y ∷ [])) ≡ plains (map g (xs ++ x ∷ []))

@@ -1,30 +1,17 @@
 -- A device file that a container has (runtime specification, "Linux Container Configuration", "Devices").
-use Rattle.std.specs.Prelude.{[], ◌∷◌, codes, pos, Option, String, ℕ, ℤ}
+use Rattle.std.specs.Prelude.{[], ◌∷◌, pos, Option, String, ℕ, ℤ}
 use Rattle.std.specs.Borrow.{Lends, MutBor, Fml}
 use Rattle.std.specs.declared.alloc.Global.{Global}
-use Rattle.oci_json_schema.specs.Plain as plain
-use Rattle.oci_json_schema.specs.Plain.{Plain, document, slots, empty, filled}
-use Rattle.oci_linux_names.specs.LinuxDeviceType.{linux_device_type_table, linux_device_type_name, linux_device_type_default}
+use Rattle.oci_json_model.specs.Plain as plain
+use Rattle.oci_json_model.specs.Plain.{Plain, document, slots, empty, filled}
+use Rattle.oci_linux_names.specs.LinuxDeviceType.{linux_device_type_name, linux_device_type_default}
 use Rattle.oci_linux_names.specs.declared.linux_device_type.LinuxDeviceType.{LinuxDeviceType}
 use Rattle.oci_linux_names.specs.contracts.linux_device_type.LinuxDeviceType as linux_device_type
-use Rattle.oci_json_schema.specs.Shape.{Shape, rows, no_rows, listed, required, optional, defaulted, text, named}
-use Rattle.oci_json_schema.specs.Types.{given, perhaps, text_plain, number_plain, integer_plain, variant_plain, u32, i64}
-use Rattle.oci_json_schema.specs.Lent.{text_row, option_row}
+use Rattle.oci_json_model.specs.Types.{given, perhaps, text_plain, number_plain, integer_plain, variant_plain}
+use Rattle.oci_json_model.specs.Lent.{text_row, option_row}
 use Rattle.std.specs.Borrow as borrow
 use Rattle.oci_linux_namespaces.specs.declared.linux_device.LinuxDevice.{LinuxDevice}
 use Rattle.oci_linux_namespaces.specs.contracts.linux_device.LinuxDevice.{the_row}
-
--- the members, in the order in which they are looked at
-abbrev pub linux_device : Shape
-linux_device = rows (
-    listed (codes "path") (defaulted (plain.text [])) text (
-    listed (codes "type") required (named linux_device_type_table) (
-    listed (codes "major") (defaulted (plain.whole (pos 0))) i64 (
-    listed (codes "minor") (defaulted (plain.whole (pos 0))) i64 (
-    listed (codes "fileMode") optional u32 (
-    listed (codes "uid") optional u32 (
-    listed (codes "gid") optional u32
-    no_rows)))))))
 
 -- the content of a document
 abbrev pub linux_device_plain : LinuxDevice → Plain

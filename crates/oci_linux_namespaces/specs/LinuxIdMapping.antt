@@ -1,18 +1,9 @@
 -- A run of user or group IDs of a container, and the IDs of the host that they stand for (runtime specification, "Linux Container Configuration", "User namespace mappings").
-use Rattle.std.specs.Prelude.{[], ◌∷◌, codes, pos}
-use Rattle.oci_json_schema.specs.Plain as plain
-use Rattle.oci_json_schema.specs.Plain.{Plain, document, slots, filled}
-use Rattle.oci_json_schema.specs.Shape.{Shape, rows, no_rows, listed, defaulted}
-use Rattle.oci_json_schema.specs.Types.{given, number_plain, u32}
+use Rattle.std.specs.Prelude.{[], ◌∷◌, pos}
+use Rattle.oci_json_model.specs.Plain as plain
+use Rattle.oci_json_model.specs.Plain.{Plain, document, slots, filled}
+use Rattle.oci_json_model.specs.Types.{given, number_plain}
 use Rattle.oci_linux_namespaces.specs.declared.linux_id_mapping.LinuxIdMapping.{LinuxIdMapping}
-
--- the members, in the order in which they are looked at
-abbrev pub linux_id_mapping : Shape
-linux_id_mapping = rows (
-    listed (codes "hostID") (defaulted (plain.whole (pos 0))) u32 (
-    listed (codes "containerID") (defaulted (plain.whole (pos 0))) u32 (
-    listed (codes "size") (defaulted (plain.whole (pos 0))) u32
-    no_rows)))
 
 -- the content of a document
 abbrev pub linux_id_mapping_plain : LinuxIdMapping → Plain

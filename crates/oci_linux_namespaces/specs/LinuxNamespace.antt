@@ -1,18 +1,10 @@
 -- A namespace that a container has of its own or joins (runtime specification, "Linux Container Configuration", "Namespaces").
-use Rattle.std.specs.Prelude.{[], ◌∷◌, codes}
-use Rattle.oci_json_schema.specs.Plain as plain
-use Rattle.oci_json_schema.specs.Plain.{Plain, document, slots, empty, filled}
-use Rattle.oci_linux_names.specs.LinuxNamespaceType.{linux_namespace_type_table, linux_namespace_type_name, linux_namespace_type_default}
-use Rattle.oci_json_schema.specs.Shape.{Shape, rows, no_rows, listed, required, optional, text, named}
-use Rattle.oci_json_schema.specs.Types.{given, perhaps, text_plain, variant_plain}
+use Rattle.std.specs.Prelude.{[], ◌∷◌}
+use Rattle.oci_json_model.specs.Plain as plain
+use Rattle.oci_json_model.specs.Plain.{Plain, document, slots, empty, filled}
+use Rattle.oci_linux_names.specs.LinuxNamespaceType.{linux_namespace_type_name, linux_namespace_type_default}
+use Rattle.oci_json_model.specs.Types.{given, perhaps, text_plain, variant_plain}
 use Rattle.oci_linux_namespaces.specs.declared.linux_namespace.LinuxNamespace.{LinuxNamespace}
-
--- the members, in the order in which they are looked at
-abbrev pub linux_namespace : Shape
-linux_namespace = rows (
-    listed (codes "type") required (named linux_namespace_type_table) (
-    listed (codes "path") optional text
-    no_rows))
 
 -- the content of a document
 abbrev pub linux_namespace_plain : LinuxNamespace → Plain

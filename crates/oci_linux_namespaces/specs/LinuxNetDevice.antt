@@ -1,19 +1,12 @@
 -- What becomes of a network device that is moved into a container (runtime specification, "Linux Container Configuration", `netDevices`).
-use Rattle.std.specs.Prelude.{[], ◌∷◌, codes, Option, String}
+use Rattle.std.specs.Prelude.{[], ◌∷◌, Option, String}
 use Rattle.std.specs.Borrow.{Lends, MutBor, Fml}
 use Rattle.std.specs.declared.alloc.Global.{Global}
-use Rattle.oci_json_schema.specs.Plain.{Plain, document, slots, empty}
-use Rattle.oci_json_schema.specs.Shape.{Shape, rows, no_rows, listed, nullable, text}
-use Rattle.oci_json_schema.specs.Types.{perhaps, text_plain}
-use Rattle.oci_json_schema.specs.Lent.{text_row, option_row}
+use Rattle.oci_json_model.specs.Plain.{Plain, document, slots, empty}
+use Rattle.oci_json_model.specs.Types.{perhaps, text_plain}
+use Rattle.oci_json_model.specs.Lent.{text_row, option_row}
 use Rattle.oci_linux_namespaces.specs.declared.linux_net_device.LinuxNetDevice.{LinuxNetDevice}
 use Rattle.oci_linux_namespaces.specs.contracts.linux_net_device.LinuxNetDevice.{the_row}
-
--- the members, in the order in which they are looked at
-abbrev pub linux_net_device : Shape
-linux_net_device = rows (
-    listed (codes "name") nullable text
-    no_rows)
 
 -- the content of a document
 abbrev pub linux_net_device_plain : LinuxNetDevice → Plain

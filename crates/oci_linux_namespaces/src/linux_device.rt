@@ -1,10 +1,10 @@
 //! A device file that a container has (runtime specification, "Linux Container Configuration", "Devices").
 ghost use Rattle.std.specs.Prelude.{◌≡◌, IfOk, IfErr};
 
-use oci_json_kinds::defaulted;
-use oci_json_schema::{
-    OciMember, OciRecord, all_2, all_3, all_4, fault, optional, required, write_optional,
-    write_required,
+use oci_json_members::defaulted;
+use oci_json_model::{
+    OciMember, OciRecord, fault, optional, required, try_join2, try_join3, try_join4,
+    write_optional, write_required,
 };
 use oci_linux_names::LinuxDeviceType;
 use oci_text_base::{OciSpecError, Result};
@@ -238,27 +238,28 @@ impl LinuxDevice {
 
 impl OciRecord for LinuxDevice {
     ghost use Rattle.oci_linux_names.specs.LinuxDeviceType.{linux_device_type_same};
-    ghost use Rattle.oci_json_kinds.specs.DefaultMembers.{default_number, default_text};
-    ghost use Rattle.oci_json_schema.specs.Same.{same_document, same_more, same_last, same_given, same_perhaps, same_texts, same_numbers, same_integers, same_variants};
-    ghost use Rattle.oci_linux_namespaces.specs.LinuxDevice.{linux_device, linux_device_plain};
+    ghost use Rattle.oci_json_members.specs.DefaultMembers.{default_number, default_text};
+    ghost use Rattle.oci_json_model.specs.Same.{same_document, same_more, same_last, same_given, same_perhaps, same_texts, same_numbers, same_integers, same_variants};
+    ghost use Rattle.oci_shapes.specs.LinuxDevice.{linux_device};
+    ghost use Rattle.oci_linux_namespaces.specs.LinuxDevice.{linux_device_plain};
 
     ghost shape = { linux_device };
 
     ghost plain = { linux_device_plain };
 
-    #[tactic(auto, using(oci_json_schema::proofs::Readers::refuses_others))]
+    #[tactic(auto, using(oci_json_model::proofs::Readers::refuses_others))]
     fn from_value(alloc: Global, value: &Value) -> Result<LinuxDevice> {
         if !value.is_object() {
             return Err(fault::refused(NAME, ""));
         }
-        let ((path, typ, major, minor), (file_mode, uid, gid)) = all_2(
-            all_4(
+        let ((path, typ, major, minor), (file_mode, uid, gid)) = try_join2(
+            try_join4(
                 defaulted(alloc, value, NAME, "path"),
                 required(alloc, value, NAME, "type"),
                 defaulted(alloc, value, NAME, "major"),
                 defaulted(alloc, value, NAME, "minor"),
             ),
-            all_3(
+            try_join3(
                 optional(alloc, value, NAME, "fileMode"),
                 optional(alloc, value, NAME, "uid"),
                 optional(alloc, value, NAME, "gid"),
@@ -277,14 +278,14 @@ impl OciRecord for LinuxDevice {
 
     fn to_value(&self, alloc: Global) -> Result<Value> {
         let mut members = Map::new(alloc);
-        all_2(
-            all_4(
+        try_join2(
+            try_join4(
                 write_required(&mut members, alloc, "path", &self.path),
                 write_required(&mut members, alloc, "type", &self.typ),
                 write_required(&mut members, alloc, "major", &self.major),
                 write_required(&mut members, alloc, "minor", &self.minor),
             ),
-            all_3(
+            try_join3(
                 write_optional(&mut members, alloc, "fileMode", &self.file_mode),
                 write_optional(&mut members, alloc, "uid", &self.uid),
                 write_optional(&mut members, alloc, "gid", &self.gid),
@@ -331,8 +332,8 @@ pub struct LinuxDeviceBuilder {
 
 impl LinuxDeviceBuilder {
     ghost use Rattle.std.specs.Prelude.{Some, unwrap_or, option_map, pos, []};
-    ghost use Rattle.oci_json_schema.specs.Plain as plain;
-    ghost use Rattle.oci_json_schema.specs.Types.{text_plain, integer_plain, variant_plain};
+    ghost use Rattle.oci_json_model.specs.Plain as plain;
+    ghost use Rattle.oci_json_model.specs.Types.{text_plain, integer_plain, variant_plain};
     ghost use Rattle.oci_linux_names.specs.LinuxDeviceType.{linux_device_type_name, linux_device_type_default};
 
     /// The path of the file in the container.

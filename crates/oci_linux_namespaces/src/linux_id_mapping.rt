@@ -1,8 +1,8 @@
 //! A run of user or group IDs of a container, and the IDs of the host that they stand for (runtime specification, "Linux Container Configuration", "User namespace mappings").
 ghost use Rattle.std.specs.Prelude.{◌≡◌, IfOk, IfErr};
 
-use oci_json_kinds::defaulted;
-use oci_json_schema::{OciRecord, all_3, fault, write_required};
+use oci_json_members::defaulted;
+use oci_json_model::{OciRecord, fault, try_join3, write_required};
 use oci_text_base::{OciSpecError, Result};
 use serde_json::{Map, Value};
 use std::alloc::Global;
@@ -63,20 +63,21 @@ impl LinuxIdMapping {
 }
 
 impl OciRecord for LinuxIdMapping {
-    ghost use Rattle.oci_json_kinds.specs.DefaultMembers.{default_number};
-    ghost use Rattle.oci_json_schema.specs.Same.{same_document, same_more, same_last, same_given, same_numbers};
-    ghost use Rattle.oci_linux_namespaces.specs.LinuxIdMapping.{linux_id_mapping, linux_id_mapping_plain};
+    ghost use Rattle.oci_json_members.specs.DefaultMembers.{default_number};
+    ghost use Rattle.oci_json_model.specs.Same.{same_document, same_more, same_last, same_given, same_numbers};
+    ghost use Rattle.oci_shapes.specs.LinuxIdMapping.{linux_id_mapping};
+    ghost use Rattle.oci_linux_namespaces.specs.LinuxIdMapping.{linux_id_mapping_plain};
 
     ghost shape = { linux_id_mapping };
 
     ghost plain = { linux_id_mapping_plain };
 
-    #[tactic(auto, using(oci_json_schema::proofs::Readers::refuses_others))]
+    #[tactic(auto, using(oci_json_model::proofs::Readers::refuses_others))]
     fn from_value(alloc: Global, value: &Value) -> Result<LinuxIdMapping> {
         if !value.is_object() {
             return Err(fault::refused(NAME, ""));
         }
-        let (host_id, container_id, size) = all_3(
+        let (host_id, container_id, size) = try_join3(
             defaulted(alloc, value, NAME, "hostID"),
             defaulted(alloc, value, NAME, "containerID"),
             defaulted(alloc, value, NAME, "size"),
@@ -90,7 +91,7 @@ impl OciRecord for LinuxIdMapping {
 
     fn to_value(&self, alloc: Global) -> Result<Value> {
         let mut members = Map::new(alloc);
-        all_3(
+        try_join3(
             write_required(&mut members, alloc, "hostID", &self.host_id),
             write_required(&mut members, alloc, "containerID", &self.container_id),
             write_required(&mut members, alloc, "size", &self.size),
@@ -120,8 +121,8 @@ pub struct LinuxIdMappingBuilder {
 
 impl LinuxIdMappingBuilder {
     ghost use Rattle.std.specs.Prelude.{Some, unwrap_or, option_map, pos};
-    ghost use Rattle.oci_json_schema.specs.Plain as plain;
-    ghost use Rattle.oci_json_schema.specs.Types.{number_plain};
+    ghost use Rattle.oci_json_model.specs.Plain as plain;
+    ghost use Rattle.oci_json_model.specs.Types.{number_plain};
 
     /// The first ID on the host.
     pub fn host_id(self, host_id: u32) -> Self

@@ -1,8 +1,8 @@
 //! A namespace that a container has of its own or joins (runtime specification, "Linux Container Configuration", "Namespaces").
 ghost use Rattle.std.specs.Prelude.{◌≡◌, IfOk, IfErr};
 
-use oci_json_schema::{
-    OciRecord, all_2, copy_optional, fault, optional, required, write_optional, write_required,
+use oci_json_model::{
+    OciRecord, copy_optional, fault, optional, required, try_join2, write_optional, write_required,
 };
 use oci_linux_names::LinuxNamespaceType;
 use oci_text_base::{OciSpecError, Result};
@@ -81,19 +81,20 @@ impl LinuxNamespace {
 
 impl OciRecord for LinuxNamespace {
     ghost use Rattle.oci_linux_names.specs.LinuxNamespaceType.{linux_namespace_type_same};
-    ghost use Rattle.oci_json_schema.specs.Same.{same_document, same_more, same_last, same_given, same_perhaps, same_texts, same_variants};
-    ghost use Rattle.oci_linux_namespaces.specs.LinuxNamespace.{linux_namespace, linux_namespace_plain};
+    ghost use Rattle.oci_json_model.specs.Same.{same_document, same_more, same_last, same_given, same_perhaps, same_texts, same_variants};
+    ghost use Rattle.oci_shapes.specs.LinuxNamespace.{linux_namespace};
+    ghost use Rattle.oci_linux_namespaces.specs.LinuxNamespace.{linux_namespace_plain};
 
     ghost shape = { linux_namespace };
 
     ghost plain = { linux_namespace_plain };
 
-    #[tactic(auto, using(oci_json_schema::proofs::Readers::refuses_others))]
+    #[tactic(auto, using(oci_json_model::proofs::Readers::refuses_others))]
     fn from_value(alloc: Global, value: &Value) -> Result<LinuxNamespace> {
         if !value.is_object() {
             return Err(fault::refused(NAME, ""));
         }
-        let (typ, path) = all_2(
+        let (typ, path) = try_join2(
             required(alloc, value, NAME, "type"),
             optional(alloc, value, NAME, "path"),
         )?;
@@ -102,7 +103,7 @@ impl OciRecord for LinuxNamespace {
 
     fn to_value(&self, alloc: Global) -> Result<Value> {
         let mut members = Map::new(alloc);
-        all_2(
+        try_join2(
             write_required(&mut members, alloc, "type", &self.typ),
             write_optional(&mut members, alloc, "path", &self.path),
         )?;
@@ -132,8 +133,8 @@ pub struct LinuxNamespaceBuilder {
 
 impl LinuxNamespaceBuilder {
     ghost use Rattle.std.specs.Prelude.{Some, unwrap_or, option_map};
-    ghost use Rattle.oci_json_schema.specs.Plain as plain;
-    ghost use Rattle.oci_json_schema.specs.Types.{variant_plain};
+    ghost use Rattle.oci_json_model.specs.Plain as plain;
+    ghost use Rattle.oci_json_model.specs.Types.{variant_plain};
     ghost use Rattle.oci_linux_names.specs.LinuxNamespaceType.{linux_namespace_type_name, linux_namespace_type_default};
 
     /// The kind of namespace.

@@ -1,8 +1,8 @@
 //! What becomes of a network device that is moved into a container (runtime specification, "Linux Container Configuration", `netDevices`).
 ghost use Rattle.std.specs.Prelude.{◌≡◌, IfOk, IfErr};
 
-use oci_json_kinds::{nullable, write_nullable};
-use oci_json_schema::{OciRecord, copy_optional, fault};
+use oci_json_members::{nullable, write_nullable};
+use oci_json_model::{OciRecord, copy_optional, fault};
 use oci_text_base::{OciSpecError, Result};
 use serde_json::{Map, Value};
 use std::alloc::Global;
@@ -67,14 +67,15 @@ impl LinuxNetDevice {
 }
 
 impl OciRecord for LinuxNetDevice {
-    ghost use Rattle.oci_json_schema.specs.Same.{same_document, same_last, same_perhaps, same_texts};
-    ghost use Rattle.oci_linux_namespaces.specs.LinuxNetDevice.{linux_net_device, linux_net_device_plain};
+    ghost use Rattle.oci_json_model.specs.Same.{same_document, same_last, same_perhaps, same_texts};
+    ghost use Rattle.oci_shapes.specs.LinuxNetDevice.{linux_net_device};
+    ghost use Rattle.oci_linux_namespaces.specs.LinuxNetDevice.{linux_net_device_plain};
 
     ghost shape = { linux_net_device };
 
     ghost plain = { linux_net_device_plain };
 
-    #[tactic(auto, using(oci_json_schema::proofs::Readers::refuses_others))]
+    #[tactic(auto, using(oci_json_model::proofs::Readers::refuses_others))]
     fn from_value(alloc: Global, value: &Value) -> Result<LinuxNetDevice> {
         if !value.is_object() {
             return Err(fault::refused(NAME, ""));

@@ -1,7 +1,7 @@
 //! By how much a clock of a container's time namespace differs (runtime specification, "Linux Container Configuration", "Offset for Time Namespace").
 ghost use Rattle.std.specs.Prelude.{◌≡◌, IfOk, IfErr};
 
-use oci_json_schema::{OciRecord, all_2, fault, optional, write_optional};
+use oci_json_model::{OciRecord, fault, optional, try_join2, write_optional};
 use oci_text_base::{OciSpecError, Result};
 use serde_json::{Map, Value};
 use std::alloc::Global;
@@ -77,19 +77,20 @@ impl LinuxTimeOffset {
 }
 
 impl OciRecord for LinuxTimeOffset {
-    ghost use Rattle.oci_json_schema.specs.Same.{same_document, same_more, same_last, same_perhaps, same_numbers, same_integers};
-    ghost use Rattle.oci_linux_namespaces.specs.LinuxTimeOffset.{linux_time_offset, linux_time_offset_plain};
+    ghost use Rattle.oci_json_model.specs.Same.{same_document, same_more, same_last, same_perhaps, same_numbers, same_integers};
+    ghost use Rattle.oci_shapes.specs.LinuxTimeOffset.{linux_time_offset};
+    ghost use Rattle.oci_linux_namespaces.specs.LinuxTimeOffset.{linux_time_offset_plain};
 
     ghost shape = { linux_time_offset };
 
     ghost plain = { linux_time_offset_plain };
 
-    #[tactic(auto, using(oci_json_schema::proofs::Readers::refuses_others))]
+    #[tactic(auto, using(oci_json_model::proofs::Readers::refuses_others))]
     fn from_value(alloc: Global, value: &Value) -> Result<LinuxTimeOffset> {
         if !value.is_object() {
             return Err(fault::refused(NAME, ""));
         }
-        let (secs, nanosecs) = all_2(
+        let (secs, nanosecs) = try_join2(
             optional(alloc, value, NAME, "secs"),
             optional(alloc, value, NAME, "nanosecs"),
         )?;
@@ -98,7 +99,7 @@ impl OciRecord for LinuxTimeOffset {
 
     fn to_value(&self, alloc: Global) -> Result<Value> {
         let mut members = Map::new(alloc);
-        all_2(
+        try_join2(
             write_optional(&mut members, alloc, "secs", &self.secs),
             write_optional(&mut members, alloc, "nanosecs", &self.nanosecs),
         )?;

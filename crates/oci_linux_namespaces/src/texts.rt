@@ -1,7 +1,7 @@
 //! Texts in memory of their own.
 ghost use Rattle.std.specs.Prelude.{◌≡◌, IfOk, IfErr, map};
-ghost use Rattle.oci_json_schema.specs.Plain as plain;
-ghost use Rattle.oci_json_schema.specs.Types.{list_plain, text_plain};
+ghost use Rattle.oci_json_model.specs.Plain as plain;
+ghost use Rattle.oci_json_model.specs.Types.{list_plain, text_plain};
 
 use oci_text_base::{OciSpecError, Result};
 use std::alloc::Global;

@@ -8,7 +8,6 @@ pub mod VMImage
 pub mod VMKernel
 pub mod ZOS
 pub mod ZOSNamespace
-pub mod ZOSNamespaceType
 pub use Rattle.oci_text_base.specs.Names
 pub use Rattle.oci_platforms_windows.specs.Windows
 pub use Rattle.oci_platforms_windows.specs.WindowsCPUResources

@@ -1,15 +1,8 @@
 -- How much processor time a Solaris container may use (runtime specification, "Solaris Application Container Configuration", "CappedCPU").
-use Rattle.std.specs.Prelude.{[], ◌∷◌, codes}
-use Rattle.oci_json_schema.specs.Plain.{Plain, document, slots, empty}
-use Rattle.oci_json_schema.specs.Shape.{Shape, rows, no_rows, listed, optional, text}
-use Rattle.oci_json_schema.specs.Types.{perhaps, text_plain}
+use Rattle.std.specs.Prelude.{[], ◌∷◌}
+use Rattle.oci_json_model.specs.Plain.{Plain, document, slots, empty}
+use Rattle.oci_json_model.specs.Types.{perhaps, text_plain}
 use Rattle.oci_platforms.specs.declared.solaris_capped_cpu.SolarisCappedCPU.{SolarisCappedCPU}
-
--- the members, in the order in which they are looked at
-abbrev pub solaris_capped_cpu : Shape
-solaris_capped_cpu = rows (
-    listed (codes "ncpus") optional text
-    no_rows)
 
 -- the content of a document
 abbrev pub solaris_capped_cpu_plain : SolarisCappedCPU → Plain

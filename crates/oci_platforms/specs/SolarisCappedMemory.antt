@@ -1,16 +1,8 @@
 -- How much memory a Solaris container may use (runtime specification, "Solaris Application Container Configuration", "CappedMemory").
-use Rattle.std.specs.Prelude.{[], ◌∷◌, codes}
-use Rattle.oci_json_schema.specs.Plain.{Plain, document, slots, empty}
-use Rattle.oci_json_schema.specs.Shape.{Shape, rows, no_rows, listed, optional, text}
-use Rattle.oci_json_schema.specs.Types.{perhaps, text_plain}
+use Rattle.std.specs.Prelude.{[], ◌∷◌}
+use Rattle.oci_json_model.specs.Plain.{Plain, document, slots, empty}
+use Rattle.oci_json_model.specs.Types.{perhaps, text_plain}
 use Rattle.oci_platforms.specs.declared.solaris_capped_memory.SolarisCappedMemory.{SolarisCappedMemory}
-
--- the members, in the order in which they are looked at
-abbrev pub solaris_capped_memory : Shape
-solaris_capped_memory = rows (
-    listed (codes "physical") optional text (
-    listed (codes "swap") optional text
-    no_rows))
 
 -- the content of a document
 abbrev pub solaris_capped_memory_plain : SolarisCappedMemory → Plain

@@ -1,20 +1,11 @@
 -- The virtual machine that a container runs in (runtime specification, "Virtual-machine-specific Container Configuration").
-use Rattle.std.specs.Prelude.{[], ◌∷◌, codes}
-use Rattle.oci_json_schema.specs.Plain.{Plain, document, slots, empty, filled}
-use Rattle.oci_json_schema.specs.Shape.{Shape, rows, no_rows, listed, required, optional}
-use Rattle.oci_json_schema.specs.Types.{given, perhaps}
-use Rattle.oci_platforms.specs.VMHypervisor.{vm_hypervisor, vm_hypervisor_plain}
-use Rattle.oci_platforms.specs.VMKernel.{vm_kernel, vm_kernel_plain, default_vm_kernel}
-use Rattle.oci_platforms.specs.VMImage.{vm_image, vm_image_plain}
+use Rattle.std.specs.Prelude.{[], ◌∷◌}
+use Rattle.oci_json_model.specs.Plain.{Plain, document, slots, empty, filled}
+use Rattle.oci_json_model.specs.Types.{given, perhaps}
+use Rattle.oci_platforms.specs.VMHypervisor.{vm_hypervisor_plain}
+use Rattle.oci_platforms.specs.VMKernel.{vm_kernel_plain, default_vm_kernel}
+use Rattle.oci_platforms.specs.VMImage.{vm_image_plain}
 use Rattle.oci_platforms.specs.declared.vm.VM.{VM}
-
--- the members, in the order in which they are looked at
-abbrev pub vm : Shape
-vm = rows (
-    listed (codes "hypervisor") optional vm_hypervisor (
-    listed (codes "kernel") required vm_kernel (
-    listed (codes "image") optional vm_image
-    no_rows)))
 
 -- the content of a document
 abbrev pub vm_plain : VM → Plain

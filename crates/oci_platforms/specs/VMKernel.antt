@@ -1,18 +1,9 @@
 -- The kernel of a virtual machine (runtime specification, "Virtual-machine-specific Container Configuration", "Kernel Object").
-use Rattle.std.specs.Prelude.{[], ◌∷◌, codes}
-use Rattle.oci_json_schema.specs.Plain as plain
-use Rattle.oci_json_schema.specs.Plain.{Plain, document, slots, empty, filled}
-use Rattle.oci_json_schema.specs.Shape.{Shape, rows, no_rows, listed, required, optional, text, list}
-use Rattle.oci_json_schema.specs.Types.{given, perhaps, text_plain, list_plain}
+use Rattle.std.specs.Prelude.{[], ◌∷◌}
+use Rattle.oci_json_model.specs.Plain as plain
+use Rattle.oci_json_model.specs.Plain.{Plain, document, slots, empty, filled}
+use Rattle.oci_json_model.specs.Types.{given, perhaps, text_plain, list_plain}
 use Rattle.oci_platforms.specs.declared.vm_kernel.VMKernel.{VMKernel}
-
--- the members, in the order in which they are looked at
-abbrev pub vm_kernel : Shape
-vm_kernel = rows (
-    listed (codes "path") required text (
-    listed (codes "parameters") optional (list text) (
-    listed (codes "initrd") optional text
-    no_rows)))
 
 -- the content of a document
 abbrev pub vm_kernel_plain : VMKernel → Plain

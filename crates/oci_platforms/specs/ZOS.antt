@@ -1,16 +1,9 @@
 -- What only a z/OS container has (runtime specification, `config-zos.md`).
-use Rattle.std.specs.Prelude.{[], ◌∷◌, codes}
-use Rattle.oci_json_schema.specs.Plain.{Plain, document, slots, empty}
-use Rattle.oci_json_schema.specs.Shape.{Shape, rows, no_rows, listed, optional, list}
-use Rattle.oci_json_schema.specs.Types.{perhaps, list_plain}
-use Rattle.oci_platforms.specs.ZOSNamespace.{zos_namespace, zos_namespace_plain}
+use Rattle.std.specs.Prelude.{[], ◌∷◌}
+use Rattle.oci_json_model.specs.Plain.{Plain, document, slots, empty}
+use Rattle.oci_json_model.specs.Types.{perhaps, list_plain}
+use Rattle.oci_platforms.specs.ZOSNamespace.{zos_namespace_plain}
 use Rattle.oci_platforms.specs.declared.zos.ZOS.{ZOS}
-
--- the members, in the order in which they are looked at
-abbrev pub zos : Shape
-zos = rows (
-    listed (codes "namespaces") optional (list zos_namespace)
-    no_rows)
 
 -- the content of a document
 abbrev pub zos_plain : ZOS → Plain

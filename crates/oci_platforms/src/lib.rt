@@ -11,7 +11,6 @@ pub mod vm_image;
 pub mod vm_kernel;
 pub mod zos;
 pub mod zos_namespace;
-pub mod zos_namespace_type;
 
 pub use oci_platforms_windows::{
     Windows, WindowsBuilder, WindowsCPUResources, WindowsCPUResourcesBuilder, WindowsDevice,
@@ -19,6 +18,7 @@ pub use oci_platforms_windows::{
     WindowsMemoryResourcesBuilder, WindowsNetwork, WindowsNetworkBuilder, WindowsResources,
     WindowsResourcesBuilder, WindowsStorageResources, WindowsStorageResourcesBuilder,
 };
+pub use oci_runtime_names::ZOSNamespaceType;
 pub use solaris::{Solaris, SolarisBuilder};
 pub use solaris_anet::{SolarisAnet, SolarisAnetBuilder};
 pub use solaris_capped_cpu::{SolarisCappedCPU, SolarisCappedCPUBuilder};
@@ -29,4 +29,3 @@ pub use vm_image::{VMImage, VMImageBuilder};
 pub use vm_kernel::{VMKernel, VMKernelBuilder};
 pub use zos::{ZOS, ZOSBuilder};
 pub use zos_namespace::{ZOSNamespace, ZOSNamespaceBuilder};
-pub use zos_namespace_type::ZOSNamespaceType;

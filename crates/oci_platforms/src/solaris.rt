@@ -4,7 +4,9 @@ ghost use Rattle.std.specs.Prelude.{◌≡◌, IfOk, IfErr};
 use crate::solaris_anet::SolarisAnet;
 use crate::solaris_capped_cpu::SolarisCappedCPU;
 use crate::solaris_capped_memory::SolarisCappedMemory;
-use oci_json_schema::{OciRecord, all_2, all_3, copy_optional, fault, optional, write_optional};
+use oci_json_model::{
+    OciRecord, copy_optional, fault, optional, try_join2, try_join3, write_optional,
+};
 use oci_text_base::{OciSpecError, Result};
 use serde_json::{Map, Value};
 use std::alloc::Global;
@@ -159,8 +161,9 @@ impl Solaris {
 }
 
 impl OciRecord for Solaris {
-    ghost use Rattle.oci_json_schema.specs.Same.{same_document, same_more, same_last, same_perhaps, same_texts, same_lists};
-    ghost use Rattle.oci_platforms.specs.Solaris.{solaris, solaris_plain};
+    ghost use Rattle.oci_json_model.specs.Same.{same_document, same_more, same_last, same_perhaps, same_texts, same_lists};
+    ghost use Rattle.oci_shapes.specs.Solaris.{solaris};
+    ghost use Rattle.oci_platforms.specs.Solaris.{solaris_plain};
     ghost use Rattle.oci_platforms.specs.contracts.solaris_anet.SolarisAnetOciRecord.TheImpl.Laws.{same-law as solaris_anet_same};
     ghost use Rattle.oci_platforms.specs.contracts.solaris_capped_cpu.SolarisCappedCPUOciRecord.TheImpl.Laws.{same-law as solaris_capped_cpu_same};
     ghost use Rattle.oci_platforms.specs.contracts.solaris_capped_memory.SolarisCappedMemoryOciRecord.TheImpl.Laws.{same-law as solaris_capped_memory_same};
@@ -169,18 +172,18 @@ impl OciRecord for Solaris {
 
     ghost plain = { solaris_plain };
 
-    #[tactic(auto, using(oci_json_schema::proofs::Readers::refuses_others))]
+    #[tactic(auto, using(oci_json_model::proofs::Readers::refuses_others))]
     fn from_value(alloc: Global, value: &Value) -> Result<Solaris> {
         if !value.is_object() {
             return Err(fault::refused(NAME, ""));
         }
-        let ((milestone, limitpriv, max_shm_memory), (anet, capped_cpu, capped_memory)) = all_2(
-            all_3(
+        let ((milestone, limitpriv, max_shm_memory), (anet, capped_cpu, capped_memory)) = try_join2(
+            try_join3(
                 optional(alloc, value, NAME, "milestone"),
                 optional(alloc, value, NAME, "limitpriv"),
                 optional(alloc, value, NAME, "maxShmMemory"),
             ),
-            all_3(
+            try_join3(
                 optional(alloc, value, NAME, "anet"),
                 optional(alloc, value, NAME, "cappedCPU"),
                 optional(alloc, value, NAME, "cappedMemory"),
@@ -198,13 +201,13 @@ impl OciRecord for Solaris {
 
     fn to_value(&self, alloc: Global) -> Result<Value> {
         let mut members = Map::new(alloc);
-        all_2(
-            all_3(
+        try_join2(
+            try_join3(
                 write_optional(&mut members, alloc, "milestone", &self.milestone),
                 write_optional(&mut members, alloc, "limitpriv", &self.limitpriv),
                 write_optional(&mut members, alloc, "maxShmMemory", &self.max_shm_memory),
             ),
-            all_3(
+            try_join3(
                 write_optional(&mut members, alloc, "anet", &self.anet),
                 write_optional(&mut members, alloc, "cappedCPU", &self.capped_cpu),
                 write_optional(&mut members, alloc, "cappedMemory", &self.capped_memory),
@@ -214,13 +217,13 @@ impl OciRecord for Solaris {
     }
 
     fn duplicate(&self, alloc: Global) -> Result<Solaris> {
-        let ((milestone, limitpriv, max_shm_memory), (anet, capped_cpu, capped_memory)) = all_2(
-            all_3(
+        let ((milestone, limitpriv, max_shm_memory), (anet, capped_cpu, capped_memory)) = try_join2(
+            try_join3(
                 copy_optional(&self.milestone, alloc),
                 copy_optional(&self.limitpriv, alloc),
                 copy_optional(&self.max_shm_memory, alloc),
             ),
-            all_3(
+            try_join3(
                 copy_optional(&self.anet, alloc),
                 copy_optional(&self.capped_cpu, alloc),
                 copy_optional(&self.capped_memory, alloc),

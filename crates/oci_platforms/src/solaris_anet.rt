@@ -1,8 +1,8 @@
 //! A network interface that is made for a Solaris container (runtime specification, "Solaris Application Container Configuration", "Automatic Network (anet)").
 ghost use Rattle.std.specs.Prelude.{◌≡◌, IfOk, IfErr};
 
-use oci_json_schema::{
-    OciRecord, all_2, all_3, all_4, copy_optional, fault, optional, write_optional,
+use oci_json_model::{
+    OciRecord, copy_optional, fault, optional, try_join2, try_join3, try_join4, write_optional,
 };
 use oci_text_base::{OciSpecError, Result};
 use serde_json::{Map, Value};
@@ -180,14 +180,15 @@ impl SolarisAnet {
 }
 
 impl OciRecord for SolarisAnet {
-    ghost use Rattle.oci_json_schema.specs.Same.{same_document, same_more, same_last, same_perhaps, same_texts};
-    ghost use Rattle.oci_platforms.specs.SolarisAnet.{solaris_anet, solaris_anet_plain};
+    ghost use Rattle.oci_json_model.specs.Same.{same_document, same_more, same_last, same_perhaps, same_texts};
+    ghost use Rattle.oci_shapes.specs.SolarisAnet.{solaris_anet};
+    ghost use Rattle.oci_platforms.specs.SolarisAnet.{solaris_anet_plain};
 
     ghost shape = { solaris_anet };
 
     ghost plain = { solaris_anet_plain };
 
-    #[tactic(auto, using(oci_json_schema::proofs::Readers::refuses_others))]
+    #[tactic(auto, using(oci_json_model::proofs::Readers::refuses_others))]
     fn from_value(alloc: Global, value: &Value) -> Result<SolarisAnet> {
         if !value.is_object() {
             return Err(fault::refused(NAME, ""));
@@ -195,14 +196,14 @@ impl OciRecord for SolarisAnet {
         let (
             (linkname, lower_link, allowed_address, configure_allowed_address),
             (defrouter, link_protection, mac_address),
-        ) = all_2(
-            all_4(
+        ) = try_join2(
+            try_join4(
                 optional(alloc, value, NAME, "linkname"),
                 optional(alloc, value, NAME, "lowerLink"),
                 optional(alloc, value, NAME, "allowedAddress"),
                 optional(alloc, value, NAME, "configureAllowedAddress"),
             ),
-            all_3(
+            try_join3(
                 optional(alloc, value, NAME, "defrouter"),
                 optional(alloc, value, NAME, "linkProtection"),
                 optional(alloc, value, NAME, "macAddress"),
@@ -221,8 +222,8 @@ impl OciRecord for SolarisAnet {
 
     fn to_value(&self, alloc: Global) -> Result<Value> {
         let mut members = Map::new(alloc);
-        all_2(
-            all_4(
+        try_join2(
+            try_join4(
                 write_optional(&mut members, alloc, "linkname", &self.linkname),
                 write_optional(&mut members, alloc, "lowerLink", &self.lower_link),
                 write_optional(&mut members, alloc, "allowedAddress", &self.allowed_address),
@@ -233,7 +234,7 @@ impl OciRecord for SolarisAnet {
                     &self.configure_allowed_address,
                 ),
             ),
-            all_3(
+            try_join3(
                 write_optional(&mut members, alloc, "defrouter", &self.defrouter),
                 write_optional(&mut members, alloc, "linkProtection", &self.link_protection),
                 write_optional(&mut members, alloc, "macAddress", &self.mac_address),
@@ -246,14 +247,14 @@ impl OciRecord for SolarisAnet {
         let (
             (linkname, lower_link, allowed_address, configure_allowed_address),
             (defrouter, link_protection, mac_address),
-        ) = all_2(
-            all_4(
+        ) = try_join2(
+            try_join4(
                 copy_optional(&self.linkname, alloc),
                 copy_optional(&self.lower_link, alloc),
                 copy_optional(&self.allowed_address, alloc),
                 copy_optional(&self.configure_allowed_address, alloc),
             ),
-            all_3(
+            try_join3(
                 copy_optional(&self.defrouter, alloc),
                 copy_optional(&self.link_protection, alloc),
                 copy_optional(&self.mac_address, alloc),

@@ -1,7 +1,7 @@
 //! How much processor time a Solaris container may use (runtime specification, "Solaris Application Container Configuration", "CappedCPU").
 ghost use Rattle.std.specs.Prelude.{◌≡◌, IfOk, IfErr};
 
-use oci_json_schema::{OciRecord, copy_optional, fault, optional, write_optional};
+use oci_json_model::{OciRecord, copy_optional, fault, optional, write_optional};
 use oci_text_base::{OciSpecError, Result};
 use serde_json::{Map, Value};
 use std::alloc::Global;
@@ -57,14 +57,15 @@ impl SolarisCappedCPU {
 }
 
 impl OciRecord for SolarisCappedCPU {
-    ghost use Rattle.oci_json_schema.specs.Same.{same_document, same_last, same_perhaps, same_texts};
-    ghost use Rattle.oci_platforms.specs.SolarisCappedCPU.{solaris_capped_cpu, solaris_capped_cpu_plain};
+    ghost use Rattle.oci_json_model.specs.Same.{same_document, same_last, same_perhaps, same_texts};
+    ghost use Rattle.oci_shapes.specs.SolarisCappedCPU.{solaris_capped_cpu};
+    ghost use Rattle.oci_platforms.specs.SolarisCappedCPU.{solaris_capped_cpu_plain};
 
     ghost shape = { solaris_capped_cpu };
 
     ghost plain = { solaris_capped_cpu_plain };
 
-    #[tactic(auto, using(oci_json_schema::proofs::Readers::refuses_others))]
+    #[tactic(auto, using(oci_json_model::proofs::Readers::refuses_others))]
     fn from_value(alloc: Global, value: &Value) -> Result<SolarisCappedCPU> {
         if !value.is_object() {
             return Err(fault::refused(NAME, ""));

@@ -1,7 +1,7 @@
 //! How much memory a Solaris container may use (runtime specification, "Solaris Application Container Configuration", "CappedMemory").
 ghost use Rattle.std.specs.Prelude.{◌≡◌, IfOk, IfErr};
 
-use oci_json_schema::{OciRecord, all_2, copy_optional, fault, optional, write_optional};
+use oci_json_model::{OciRecord, copy_optional, fault, optional, try_join2, write_optional};
 use oci_text_base::{OciSpecError, Result};
 use serde_json::{Map, Value};
 use std::alloc::Global;
@@ -77,19 +77,20 @@ impl SolarisCappedMemory {
 }
 
 impl OciRecord for SolarisCappedMemory {
-    ghost use Rattle.oci_json_schema.specs.Same.{same_document, same_more, same_last, same_perhaps, same_texts};
-    ghost use Rattle.oci_platforms.specs.SolarisCappedMemory.{solaris_capped_memory, solaris_capped_memory_plain};
+    ghost use Rattle.oci_json_model.specs.Same.{same_document, same_more, same_last, same_perhaps, same_texts};
+    ghost use Rattle.oci_shapes.specs.SolarisCappedMemory.{solaris_capped_memory};
+    ghost use Rattle.oci_platforms.specs.SolarisCappedMemory.{solaris_capped_memory_plain};
 
     ghost shape = { solaris_capped_memory };
 
     ghost plain = { solaris_capped_memory_plain };
 
-    #[tactic(auto, using(oci_json_schema::proofs::Readers::refuses_others))]
+    #[tactic(auto, using(oci_json_model::proofs::Readers::refuses_others))]
     fn from_value(alloc: Global, value: &Value) -> Result<SolarisCappedMemory> {
         if !value.is_object() {
             return Err(fault::refused(NAME, ""));
         }
-        let (physical, swap) = all_2(
+        let (physical, swap) = try_join2(
             optional(alloc, value, NAME, "physical"),
             optional(alloc, value, NAME, "swap"),
         )?;
@@ -98,7 +99,7 @@ impl OciRecord for SolarisCappedMemory {
 
     fn to_value(&self, alloc: Global) -> Result<Value> {
         let mut members = Map::new(alloc);
-        all_2(
+        try_join2(
             write_optional(&mut members, alloc, "physical", &self.physical),
             write_optional(&mut members, alloc, "swap", &self.swap),
         )?;
@@ -106,7 +107,7 @@ impl OciRecord for SolarisCappedMemory {
     }
 
     fn duplicate(&self, alloc: Global) -> Result<SolarisCappedMemory> {
-        let (physical, swap) = all_2(
+        let (physical, swap) = try_join2(
             copy_optional(&self.physical, alloc),
             copy_optional(&self.swap, alloc),
         )?;

@@ -4,8 +4,8 @@ ghost use Rattle.std.specs.Prelude.{◌≡◌, IfOk, IfErr};
 use crate::vm_hypervisor::VMHypervisor;
 use crate::vm_image::VMImage;
 use crate::vm_kernel::VMKernel;
-use oci_json_schema::{
-    OciMember, OciRecord, all_3, copy_optional, fault, optional, required, write_optional,
+use oci_json_model::{
+    OciMember, OciRecord, copy_optional, fault, optional, required, try_join3, write_optional,
     write_required,
 };
 use oci_text_base::{OciSpecError, Result};
@@ -105,8 +105,9 @@ impl VM {
 }
 
 impl OciRecord for VM {
-    ghost use Rattle.oci_json_schema.specs.Same.{same_document, same_more, same_last, same_given, same_perhaps};
-    ghost use Rattle.oci_platforms.specs.VM.{vm, vm_plain};
+    ghost use Rattle.oci_json_model.specs.Same.{same_document, same_more, same_last, same_given, same_perhaps};
+    ghost use Rattle.oci_shapes.specs.VM.{vm};
+    ghost use Rattle.oci_platforms.specs.VM.{vm_plain};
     ghost use Rattle.oci_platforms.specs.contracts.vm_hypervisor.VMHypervisorOciRecord.TheImpl.Laws.{same-law as vm_hypervisor_same};
     ghost use Rattle.oci_platforms.specs.contracts.vm_kernel.VMKernelOciRecord.TheImpl.Laws.{same-law as vm_kernel_same};
     ghost use Rattle.oci_platforms.specs.contracts.vm_image.VMImageOciRecord.TheImpl.Laws.{same-law as vm_image_same};
@@ -115,12 +116,12 @@ impl OciRecord for VM {
 
     ghost plain = { vm_plain };
 
-    #[tactic(auto, using(oci_json_schema::proofs::Readers::refuses_others))]
+    #[tactic(auto, using(oci_json_model::proofs::Readers::refuses_others))]
     fn from_value(alloc: Global, value: &Value) -> Result<VM> {
         if !value.is_object() {
             return Err(fault::refused(NAME, ""));
         }
-        let (hypervisor, kernel, image) = all_3(
+        let (hypervisor, kernel, image) = try_join3(
             optional(alloc, value, NAME, "hypervisor"),
             required(alloc, value, NAME, "kernel"),
             optional(alloc, value, NAME, "image"),
@@ -134,7 +135,7 @@ impl OciRecord for VM {
 
     fn to_value(&self, alloc: Global) -> Result<Value> {
         let mut members = Map::new(alloc);
-        all_3(
+        try_join3(
             write_optional(&mut members, alloc, "hypervisor", &self.hypervisor),
             write_required(&mut members, alloc, "kernel", &self.kernel),
             write_optional(&mut members, alloc, "image", &self.image),
@@ -143,7 +144,7 @@ impl OciRecord for VM {
     }
 
     fn duplicate(&self, alloc: Global) -> Result<VM> {
-        let (hypervisor, kernel, image) = all_3(
+        let (hypervisor, kernel, image) = try_join3(
             copy_optional(&self.hypervisor, alloc),
             self.kernel.copy(alloc),
             copy_optional(&self.image, alloc),

@@ -1,8 +1,8 @@
 //! The hypervisor of a virtual machine (runtime specification, "Virtual-machine-specific Container Configuration", "Hypervisor Object").
 ghost use Rattle.std.specs.Prelude.{◌≡◌, IfOk, IfErr};
 
-use oci_json_schema::{
-    OciMember, OciRecord, all_2, copy_optional, fault, optional, required, write_optional,
+use oci_json_model::{
+    OciMember, OciRecord, copy_optional, fault, optional, required, try_join2, write_optional,
     write_required,
 };
 use oci_text_base::{OciSpecError, Result};
@@ -80,19 +80,20 @@ impl VMHypervisor {
 }
 
 impl OciRecord for VMHypervisor {
-    ghost use Rattle.oci_json_schema.specs.Same.{same_document, same_more, same_last, same_given, same_perhaps, same_texts, same_lists};
-    ghost use Rattle.oci_platforms.specs.VMHypervisor.{vm_hypervisor, vm_hypervisor_plain};
+    ghost use Rattle.oci_json_model.specs.Same.{same_document, same_more, same_last, same_given, same_perhaps, same_texts, same_lists};
+    ghost use Rattle.oci_shapes.specs.VMHypervisor.{vm_hypervisor};
+    ghost use Rattle.oci_platforms.specs.VMHypervisor.{vm_hypervisor_plain};
 
     ghost shape = { vm_hypervisor };
 
     ghost plain = { vm_hypervisor_plain };
 
-    #[tactic(auto, using(oci_json_schema::proofs::Readers::refuses_others))]
+    #[tactic(auto, using(oci_json_model::proofs::Readers::refuses_others))]
     fn from_value(alloc: Global, value: &Value) -> Result<VMHypervisor> {
         if !value.is_object() {
             return Err(fault::refused(NAME, ""));
         }
-        let (path, parameters) = all_2(
+        let (path, parameters) = try_join2(
             required(alloc, value, NAME, "path"),
             optional(alloc, value, NAME, "parameters"),
         )?;
@@ -101,7 +102,7 @@ impl OciRecord for VMHypervisor {
 
     fn to_value(&self, alloc: Global) -> Result<Value> {
         let mut members = Map::new(alloc);
-        all_2(
+        try_join2(
             write_required(&mut members, alloc, "path", &self.path),
             write_optional(&mut members, alloc, "parameters", &self.parameters),
         )?;
@@ -109,7 +110,7 @@ impl OciRecord for VMHypervisor {
     }
 
     fn duplicate(&self, alloc: Global) -> Result<VMHypervisor> {
-        let (path, parameters) = all_2(
+        let (path, parameters) = try_join2(
             self.path.copy(alloc),
             copy_optional(&self.parameters, alloc),
         )?;
@@ -132,8 +133,8 @@ pub struct VMHypervisorBuilder {
 
 impl VMHypervisorBuilder {
     ghost use Rattle.std.specs.Prelude.{Some, unwrap_or, option_map, []};
-    ghost use Rattle.oci_json_schema.specs.Plain as plain;
-    ghost use Rattle.oci_json_schema.specs.Types.{text_plain};
+    ghost use Rattle.oci_json_model.specs.Plain as plain;
+    ghost use Rattle.oci_json_model.specs.Types.{text_plain};
 
     /// The path of the hypervisor on the host.
     pub fn path(self, path: String) -> Self

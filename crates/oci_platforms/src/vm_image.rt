@@ -1,7 +1,7 @@
 //! The image that a virtual machine's root is in (runtime specification, "Virtual-machine-specific Container Configuration", "Image Object").
 ghost use Rattle.std.specs.Prelude.{◌≡◌, IfOk, IfErr};
 
-use oci_json_schema::{OciMember, OciRecord, all_2, fault, required, write_required};
+use oci_json_model::{OciMember, OciRecord, fault, required, try_join2, write_required};
 use oci_text_base::{OciSpecError, Result};
 use serde_json::{Map, Value};
 use std::alloc::Global;
@@ -77,19 +77,20 @@ impl VMImage {
 }
 
 impl OciRecord for VMImage {
-    ghost use Rattle.oci_json_schema.specs.Same.{same_document, same_more, same_last, same_given, same_texts};
-    ghost use Rattle.oci_platforms.specs.VMImage.{vm_image, vm_image_plain};
+    ghost use Rattle.oci_json_model.specs.Same.{same_document, same_more, same_last, same_given, same_texts};
+    ghost use Rattle.oci_shapes.specs.VMImage.{vm_image};
+    ghost use Rattle.oci_platforms.specs.VMImage.{vm_image_plain};
 
     ghost shape = { vm_image };
 
     ghost plain = { vm_image_plain };
 
-    #[tactic(auto, using(oci_json_schema::proofs::Readers::refuses_others))]
+    #[tactic(auto, using(oci_json_model::proofs::Readers::refuses_others))]
     fn from_value(alloc: Global, value: &Value) -> Result<VMImage> {
         if !value.is_object() {
             return Err(fault::refused(NAME, ""));
         }
-        let (path, format) = all_2(
+        let (path, format) = try_join2(
             required(alloc, value, NAME, "path"),
             required(alloc, value, NAME, "format"),
         )?;
@@ -98,7 +99,7 @@ impl OciRecord for VMImage {
 
     fn to_value(&self, alloc: Global) -> Result<Value> {
         let mut members = Map::new(alloc);
-        all_2(
+        try_join2(
             write_required(&mut members, alloc, "path", &self.path),
             write_required(&mut members, alloc, "format", &self.format),
         )?;
@@ -106,7 +107,7 @@ impl OciRecord for VMImage {
     }
 
     fn duplicate(&self, alloc: Global) -> Result<VMImage> {
-        let (path, format) = all_2(self.path.copy(alloc), self.format.copy(alloc))?;
+        let (path, format) = try_join2(self.path.copy(alloc), self.format.copy(alloc))?;
         Ok(VMImage { path, format })
     }
 
@@ -126,8 +127,8 @@ pub struct VMImageBuilder {
 
 impl VMImageBuilder {
     ghost use Rattle.std.specs.Prelude.{Some, unwrap_or, option_map, []};
-    ghost use Rattle.oci_json_schema.specs.Plain as plain;
-    ghost use Rattle.oci_json_schema.specs.Types.{text_plain};
+    ghost use Rattle.oci_json_model.specs.Plain as plain;
+    ghost use Rattle.oci_json_model.specs.Types.{text_plain};
 
     /// The path of the image on the host.
     pub fn path(self, path: String) -> Self

@@ -1,8 +1,8 @@
 //! The kernel of a virtual machine (runtime specification, "Virtual-machine-specific Container Configuration", "Kernel Object").
 ghost use Rattle.std.specs.Prelude.{◌≡◌, IfOk, IfErr};
 
-use oci_json_schema::{
-    OciMember, OciRecord, all_3, copy_optional, fault, optional, required, write_optional,
+use oci_json_model::{
+    OciMember, OciRecord, copy_optional, fault, optional, required, try_join3, write_optional,
     write_required,
 };
 use oci_text_base::{OciSpecError, Result};
@@ -102,19 +102,20 @@ impl VMKernel {
 }
 
 impl OciRecord for VMKernel {
-    ghost use Rattle.oci_json_schema.specs.Same.{same_document, same_more, same_last, same_given, same_perhaps, same_texts, same_lists};
-    ghost use Rattle.oci_platforms.specs.VMKernel.{vm_kernel, vm_kernel_plain};
+    ghost use Rattle.oci_json_model.specs.Same.{same_document, same_more, same_last, same_given, same_perhaps, same_texts, same_lists};
+    ghost use Rattle.oci_shapes.specs.VMKernel.{vm_kernel};
+    ghost use Rattle.oci_platforms.specs.VMKernel.{vm_kernel_plain};
 
     ghost shape = { vm_kernel };
 
     ghost plain = { vm_kernel_plain };
 
-    #[tactic(auto, using(oci_json_schema::proofs::Readers::refuses_others))]
+    #[tactic(auto, using(oci_json_model::proofs::Readers::refuses_others))]
     fn from_value(alloc: Global, value: &Value) -> Result<VMKernel> {
         if !value.is_object() {
             return Err(fault::refused(NAME, ""));
         }
-        let (path, parameters, initrd) = all_3(
+        let (path, parameters, initrd) = try_join3(
             required(alloc, value, NAME, "path"),
             optional(alloc, value, NAME, "parameters"),
             optional(alloc, value, NAME, "initrd"),
@@ -128,7 +129,7 @@ impl OciRecord for VMKernel {
 
     fn to_value(&self, alloc: Global) -> Result<Value> {
         let mut members = Map::new(alloc);
-        all_3(
+        try_join3(
             write_required(&mut members, alloc, "path", &self.path),
             write_optional(&mut members, alloc, "parameters", &self.parameters),
             write_optional(&mut members, alloc, "initrd", &self.initrd),
@@ -137,7 +138,7 @@ impl OciRecord for VMKernel {
     }
 
     fn duplicate(&self, alloc: Global) -> Result<VMKernel> {
-        let (path, parameters, initrd) = all_3(
+        let (path, parameters, initrd) = try_join3(
             self.path.copy(alloc),
             copy_optional(&self.parameters, alloc),
             copy_optional(&self.initrd, alloc),
@@ -167,8 +168,8 @@ pub struct VMKernelBuilder {
 
 impl VMKernelBuilder {
     ghost use Rattle.std.specs.Prelude.{Some, unwrap_or, option_map, []};
-    ghost use Rattle.oci_json_schema.specs.Plain as plain;
-    ghost use Rattle.oci_json_schema.specs.Types.{text_plain};
+    ghost use Rattle.oci_json_model.specs.Plain as plain;
+    ghost use Rattle.oci_json_model.specs.Types.{text_plain};
 
     /// The path of the kernel on the host.
     pub fn path(self, path: String) -> Self

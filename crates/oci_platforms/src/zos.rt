@@ -2,7 +2,7 @@
 ghost use Rattle.std.specs.Prelude.{◌≡◌, IfOk, IfErr};
 
 use crate::zos_namespace::ZOSNamespace;
-use oci_json_schema::{OciRecord, copy_optional, fault, optional, write_optional};
+use oci_json_model::{OciRecord, copy_optional, fault, optional, write_optional};
 use oci_text_base::{OciSpecError, Result};
 use serde_json::{Map, Value};
 use std::alloc::Global;
@@ -58,15 +58,16 @@ impl ZOS {
 }
 
 impl OciRecord for ZOS {
-    ghost use Rattle.oci_json_schema.specs.Same.{same_document, same_last, same_perhaps, same_lists};
-    ghost use Rattle.oci_platforms.specs.ZOS.{zos, zos_plain};
+    ghost use Rattle.oci_json_model.specs.Same.{same_document, same_last, same_perhaps, same_lists};
+    ghost use Rattle.oci_shapes.specs.ZOS.{zos};
+    ghost use Rattle.oci_platforms.specs.ZOS.{zos_plain};
     ghost use Rattle.oci_platforms.specs.contracts.zos_namespace.ZOSNamespaceOciRecord.TheImpl.Laws.{same-law as zos_namespace_same};
 
     ghost shape = { zos };
 
     ghost plain = { zos_plain };
 
-    #[tactic(auto, using(oci_json_schema::proofs::Readers::refuses_others))]
+    #[tactic(auto, using(oci_json_model::proofs::Readers::refuses_others))]
     fn from_value(alloc: Global, value: &Value) -> Result<ZOS> {
         if !value.is_object() {
             return Err(fault::refused(NAME, ""));

@@ -1,10 +1,10 @@
 //! A namespace that a z/OS container has of its own or joins (runtime specification, `config-zos.md`, "Namespaces").
 ghost use Rattle.std.specs.Prelude.{◌≡◌, IfOk, IfErr};
 
-use crate::zos_namespace_type::ZOSNamespaceType;
-use oci_json_schema::{
-    OciRecord, all_2, copy_optional, fault, optional, required, write_optional, write_required,
+use oci_json_model::{
+    OciRecord, copy_optional, fault, optional, required, try_join2, write_optional, write_required,
 };
+use oci_runtime_names::ZOSNamespaceType;
 use oci_text_base::{OciSpecError, Result};
 use serde_json::{Map, Value};
 use std::alloc::Global;
@@ -80,20 +80,21 @@ impl ZOSNamespace {
 }
 
 impl OciRecord for ZOSNamespace {
-    ghost use Rattle.oci_platforms.specs.ZOSNamespaceType.{zos_namespace_type_same};
-    ghost use Rattle.oci_json_schema.specs.Same.{same_document, same_more, same_last, same_given, same_perhaps, same_texts, same_variants};
-    ghost use Rattle.oci_platforms.specs.ZOSNamespace.{zos_namespace, zos_namespace_plain};
+    ghost use Rattle.oci_runtime_names.specs.ZOSNamespaceType.{zos_namespace_type_same};
+    ghost use Rattle.oci_json_model.specs.Same.{same_document, same_more, same_last, same_given, same_perhaps, same_texts, same_variants};
+    ghost use Rattle.oci_shapes.specs.ZOSNamespace.{zos_namespace};
+    ghost use Rattle.oci_platforms.specs.ZOSNamespace.{zos_namespace_plain};
 
     ghost shape = { zos_namespace };
 
     ghost plain = { zos_namespace_plain };
 
-    #[tactic(auto, using(oci_json_schema::proofs::Readers::refuses_others))]
+    #[tactic(auto, using(oci_json_model::proofs::Readers::refuses_others))]
     fn from_value(alloc: Global, value: &Value) -> Result<ZOSNamespace> {
         if !value.is_object() {
             return Err(fault::refused(NAME, ""));
         }
-        let (typ, path) = all_2(
+        let (typ, path) = try_join2(
             required(alloc, value, NAME, "type"),
             optional(alloc, value, NAME, "path"),
         )?;
@@ -102,7 +103,7 @@ impl OciRecord for ZOSNamespace {
 
     fn to_value(&self, alloc: Global) -> Result<Value> {
         let mut members = Map::new(alloc);
-        all_2(
+        try_join2(
             write_required(&mut members, alloc, "type", &self.typ),
             write_optional(&mut members, alloc, "path", &self.path),
         )?;
@@ -132,9 +133,9 @@ pub struct ZOSNamespaceBuilder {
 
 impl ZOSNamespaceBuilder {
     ghost use Rattle.std.specs.Prelude.{Some, unwrap_or, option_map};
-    ghost use Rattle.oci_json_schema.specs.Plain as plain;
-    ghost use Rattle.oci_json_schema.specs.Types.{variant_plain};
-    ghost use Rattle.oci_platforms.specs.ZOSNamespaceType.{zos_namespace_type_name, zos_namespace_type_default};
+    ghost use Rattle.oci_json_model.specs.Plain as plain;
+    ghost use Rattle.oci_json_model.specs.Types.{variant_plain};
+    ghost use Rattle.oci_runtime_names.specs.ZOSNamespaceType.{zos_namespace_type_name, zos_namespace_type_default};
 
     /// The kind of namespace.
     pub fn typ(self, typ: ZOSNamespaceType) -> Self

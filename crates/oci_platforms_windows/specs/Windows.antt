@@ -1,40 +1,30 @@
 -- What only a Windows container has (runtime specification, "Windows-specific Container Configuration").
-use Rattle.std.specs.Prelude.{[], ◌∷◌, codes, ◌&&◌, Bool, bytes_eq, string_bytes}
+use Rattle.std.specs.Prelude.{[], ◌∷◌, ◌&&◌, Bool, bytes_eq, string_bytes}
 use Rattle.std.specs.Bool.{beq}
 use Rattle.std.specs.Cmp.Lexicographic.{pointwise}
 use Rattle.std.specs.Option.{option_eq}
-use Rattle.oci_json_schema.specs.Plain.{Plain, document, slots, empty}
-use Rattle.oci_json_schema.specs.Shape.{Shape, rows, no_rows, listed, optional, text, truth, list, free_map}
-use Rattle.oci_json_schema.specs.Types.{perhaps, text_plain, truth_plain, list_plain}
-use Rattle.oci_json_schema.specs.Same.{Agrees, same_document, same_more, same_last, same_perhaps, same_texts, same_lists, same_truths}
-use Rattle.oci_json_free.specs.FreeValues.{free_values_plain, free_eq}
-use Rattle.oci_json_free.specs.SameFree.{same_free}
-use Rattle.oci_platforms_windows.specs.WindowsDevice.{windows_device, windows_device_plain}
+use Rattle.oci_json_model.specs.Plain.{Plain, document, slots, empty}
+use Rattle.oci_json_model.specs.Types.{perhaps, text_plain, truth_plain, list_plain}
+use Rattle.oci_json_model.specs.Same.{Agrees, same_document, same_more, same_last, same_perhaps, same_texts, same_lists, same_truths}
+use Rattle.oci_json_members.specs.FreeValues.{free_values_plain, free_eq}
+use Rattle.oci_json_members.specs.SameFree.{same_free}
+use Rattle.oci_shapes.specs.WindowsDevice.{windows_device}
+use Rattle.oci_platforms_windows.specs.WindowsDevice.{windows_device_plain}
 use Rattle.oci_platforms_windows.specs.contracts.windows_device.WindowsDevicePartialEq.TheImpl as windows_device
 use Rattle.oci_platforms_windows.specs.contracts.windows_device.WindowsDeviceOciRecord.TheImpl.Laws.{same-law as windows_device_same}
-use Rattle.oci_platforms_windows.specs.WindowsResources.{windows_resources, windows_resources_plain}
+use Rattle.oci_shapes.specs.WindowsResources.{windows_resources}
+use Rattle.oci_platforms_windows.specs.WindowsResources.{windows_resources_plain}
 use Rattle.oci_platforms_windows.specs.contracts.windows_resources.WindowsResourcesPartialEq.TheImpl as windows_resources
 use Rattle.oci_platforms_windows.specs.contracts.windows_resources.WindowsResourcesOciRecord.TheImpl.Laws.{same-law as windows_resources_same}
-use Rattle.oci_platforms_windows.specs.WindowsHyperV.{windows_hyper_v, windows_hyper_v_plain}
+use Rattle.oci_shapes.specs.WindowsHyperV.{windows_hyper_v}
+use Rattle.oci_platforms_windows.specs.WindowsHyperV.{windows_hyper_v_plain}
 use Rattle.oci_platforms_windows.specs.contracts.windows_hyper_v.WindowsHyperVPartialEq.TheImpl as windows_hyper_v
 use Rattle.oci_platforms_windows.specs.contracts.windows_hyper_v.WindowsHyperVOciRecord.TheImpl.Laws.{same-law as windows_hyper_v_same}
-use Rattle.oci_platforms_windows.specs.WindowsNetwork.{windows_network, windows_network_plain}
+use Rattle.oci_shapes.specs.WindowsNetwork.{windows_network}
+use Rattle.oci_platforms_windows.specs.WindowsNetwork.{windows_network_plain}
 use Rattle.oci_platforms_windows.specs.contracts.windows_network.WindowsNetworkPartialEq.TheImpl as windows_network
 use Rattle.oci_platforms_windows.specs.contracts.windows_network.WindowsNetworkOciRecord.TheImpl.Laws.{same-law as windows_network_same}
 use Rattle.oci_platforms_windows.specs.declared.windows.Windows.{Windows}
-
--- the members, in the order in which they are looked at
-abbrev pub windows : Shape
-windows = rows (
-    listed (codes "layerFolders") optional (list text) (
-    listed (codes "devices") optional (list windows_device) (
-    listed (codes "resources") optional windows_resources (
-    listed (codes "credentialSpec") optional free_map (
-    listed (codes "servicing") optional truth (
-    listed (codes "ignoreFlushesDuringBoot") optional truth (
-    listed (codes "hyperv") optional windows_hyper_v (
-    listed (codes "network") optional windows_network
-    no_rows))))))))
 
 -- the content of a document
 abbrev pub windows_plain : Windows → Plain

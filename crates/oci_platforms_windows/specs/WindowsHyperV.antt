@@ -1,15 +1,8 @@
 -- What a Windows container that Hyper-V keeps apart has (runtime specification, "Windows-specific Container Configuration", "HyperV").
-use Rattle.std.specs.Prelude.{[], ◌∷◌, codes}
-use Rattle.oci_json_schema.specs.Plain.{Plain, document, slots, empty}
-use Rattle.oci_json_schema.specs.Shape.{Shape, rows, no_rows, listed, optional, text}
-use Rattle.oci_json_schema.specs.Types.{perhaps, text_plain}
+use Rattle.std.specs.Prelude.{[], ◌∷◌}
+use Rattle.oci_json_model.specs.Plain.{Plain, document, slots, empty}
+use Rattle.oci_json_model.specs.Types.{perhaps, text_plain}
 use Rattle.oci_platforms_windows.specs.declared.windows_hyper_v.WindowsHyperV.{WindowsHyperV}
-
--- the members, in the order in which they are looked at
-abbrev pub windows_hyper_v : Shape
-windows_hyper_v = rows (
-    listed (codes "utilityVmPath") optional text
-    no_rows)
 
 -- the content of a document
 abbrev pub windows_hyper_v_plain : WindowsHyperV → Plain

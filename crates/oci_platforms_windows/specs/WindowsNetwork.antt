@@ -1,19 +1,8 @@
 -- The network of a Windows container (runtime specification, "Windows-specific Container Configuration", "Network").
-use Rattle.std.specs.Prelude.{[], ◌∷◌, codes}
-use Rattle.oci_json_schema.specs.Plain.{Plain, document, slots, empty}
-use Rattle.oci_json_schema.specs.Shape.{Shape, rows, no_rows, listed, optional, text, truth, list}
-use Rattle.oci_json_schema.specs.Types.{perhaps, text_plain, truth_plain, list_plain}
+use Rattle.std.specs.Prelude.{[], ◌∷◌}
+use Rattle.oci_json_model.specs.Plain.{Plain, document, slots, empty}
+use Rattle.oci_json_model.specs.Types.{perhaps, text_plain, truth_plain, list_plain}
 use Rattle.oci_platforms_windows.specs.declared.windows_network.WindowsNetwork.{WindowsNetwork}
-
--- the members, in the order in which they are looked at
-abbrev pub windows_network : Shape
-windows_network = rows (
-    listed (codes "endpointList") optional (list text) (
-    listed (codes "allowUnqualifiedDNSQuery") optional truth (
-    listed (codes "DNSSearchList") optional (list text) (
-    listed (codes "networkSharedContainerName") optional text (
-    listed (codes "networkNamespace") optional text
-    no_rows)))))
 
 -- the content of a document
 abbrev pub windows_network_plain : WindowsNetwork → Plain

@@ -5,10 +5,11 @@ use crate::windows_device::WindowsDevice;
 use crate::windows_hyper_v::WindowsHyperV;
 use crate::windows_network::WindowsNetwork;
 use crate::windows_resources::WindowsResources;
-use oci_json_free::{FreeValues, equal_optional_values};
-use oci_json_kinds::{copy_optional_as, optional_as, write_optional_as};
-use oci_json_schema::{
-    OciRecord, all_2, all_4, all_5, copy_optional, fault, optional, write_optional,
+use oci_json_members::{
+    FreeValues, copy_optional_as, equal_optional_values, optional_as, write_optional_as,
+};
+use oci_json_model::{
+    OciRecord, copy_optional, fault, optional, try_join2, try_join4, try_join5, write_optional,
 };
 use oci_text_base::{OciSpecError, Result};
 use serde_json::{Map, Value};
@@ -32,7 +33,7 @@ pub struct Windows {
 
 impl PartialEq for Windows {
     ghost use Rattle.std.specs.Cmp.{partial_equiv_from_equiv};
-    ghost use Rattle.oci_json_free.specs.SameFree.{agrees_equiv};
+    ghost use Rattle.oci_json_members.specs.SameFree.{agrees_equiv};
     ghost use Rattle.oci_platforms_windows.specs.Windows.{windows_eq, windows_same};
 
     ghost eq = { windows_eq };
@@ -54,7 +55,7 @@ impl PartialEq for Windows {
 }
 
 impl Eq for Windows {
-    ghost use Rattle.oci_json_free.specs.SameFree.{agrees_equiv};
+    ghost use Rattle.oci_json_members.specs.SameFree.{agrees_equiv};
     ghost use Rattle.oci_platforms_windows.specs.Windows.{windows_same};
 
     ghost laws = { agrees_equiv windows_same };
@@ -239,13 +240,14 @@ impl Windows {
 }
 
 impl OciRecord for Windows {
-    ghost use Rattle.oci_platforms_windows.specs.Windows.{windows, windows_plain, windows_same};
+    ghost use Rattle.oci_shapes.specs.Windows.{windows};
+    ghost use Rattle.oci_platforms_windows.specs.Windows.{windows_plain, windows_same};
 
     ghost shape = { windows };
 
     ghost plain = { windows_plain };
 
-    #[tactic(auto, using(oci_json_schema::proofs::Readers::refuses_others))]
+    #[tactic(auto, using(oci_json_model::proofs::Readers::refuses_others))]
     fn from_value(alloc: Global, value: &Value) -> Result<Windows> {
         if !value.is_object() {
             return Err(fault::refused(NAME, ""));
@@ -253,8 +255,8 @@ impl OciRecord for Windows {
         let (
             (layer_folders, devices, resources, credential_spec),
             (servicing, ignore_flushes_during_boot, hyperv, network),
-        ) = all_2(
-            all_4(
+        ) = try_join2(
+            try_join4(
                 optional(alloc, value, NAME, "layerFolders"),
                 optional(alloc, value, NAME, "devices"),
                 optional(alloc, value, NAME, "resources"),
@@ -265,7 +267,7 @@ impl OciRecord for Windows {
                     "credentialSpec",
                 ),
             ),
-            all_4(
+            try_join4(
                 optional(alloc, value, NAME, "servicing"),
                 optional(alloc, value, NAME, "ignoreFlushesDuringBoot"),
                 optional(alloc, value, NAME, "hyperv"),
@@ -286,8 +288,8 @@ impl OciRecord for Windows {
 
     fn to_value(&self, alloc: Global) -> Result<Value> {
         let mut members = Map::new(alloc);
-        all_2(
-            all_4(
+        try_join2(
+            try_join4(
                 write_optional(&mut members, alloc, "layerFolders", &self.layer_folders),
                 write_optional(&mut members, alloc, "devices", &self.devices),
                 write_optional(&mut members, alloc, "resources", &self.resources),
@@ -299,7 +301,7 @@ impl OciRecord for Windows {
                     &self.credential_spec,
                 ),
             ),
-            all_4(
+            try_join4(
                 write_optional(&mut members, alloc, "servicing", &self.servicing),
                 write_optional(
                     &mut members,
@@ -315,7 +317,7 @@ impl OciRecord for Windows {
     }
 
     fn duplicate(&self, alloc: Global) -> Result<Windows> {
-        let (layer_folders, devices, credential_spec, hyperv, network) = all_5(
+        let (layer_folders, devices, credential_spec, hyperv, network) = try_join5(
             copy_optional(&self.layer_folders, alloc),
             copy_optional(&self.devices, alloc),
             copy_optional_as::<FreeValues, BTreeMap<String, Option<Value>>>(

@@ -1,7 +1,7 @@
 //! How much processor time a Windows container may use (runtime specification, "Windows-specific Container Configuration", "CPU").
 ghost use Rattle.std.specs.Prelude.{◌≡◌, IfOk, IfErr};
 
-use oci_json_schema::{OciRecord, all_3, fault, optional, write_optional};
+use oci_json_model::{OciRecord, fault, optional, try_join3, write_optional};
 use oci_text_base::{OciSpecError, Result};
 use serde_json::{Map, Value};
 use std::alloc::Global;
@@ -89,19 +89,20 @@ impl WindowsCPUResources {
 }
 
 impl OciRecord for WindowsCPUResources {
-    ghost use Rattle.oci_json_schema.specs.Same.{same_document, same_more, same_last, same_perhaps, same_numbers};
-    ghost use Rattle.oci_platforms_windows.specs.WindowsCPUResources.{windows_cpu_resources, windows_cpu_resources_plain};
+    ghost use Rattle.oci_json_model.specs.Same.{same_document, same_more, same_last, same_perhaps, same_numbers};
+    ghost use Rattle.oci_shapes.specs.WindowsCPUResources.{windows_cpu_resources};
+    ghost use Rattle.oci_platforms_windows.specs.WindowsCPUResources.{windows_cpu_resources_plain};
 
     ghost shape = { windows_cpu_resources };
 
     ghost plain = { windows_cpu_resources_plain };
 
-    #[tactic(auto, using(oci_json_schema::proofs::Readers::refuses_others))]
+    #[tactic(auto, using(oci_json_model::proofs::Readers::refuses_others))]
     fn from_value(alloc: Global, value: &Value) -> Result<WindowsCPUResources> {
         if !value.is_object() {
             return Err(fault::refused(NAME, ""));
         }
-        let (count, shares, maximum) = all_3(
+        let (count, shares, maximum) = try_join3(
             optional(alloc, value, NAME, "count"),
             optional(alloc, value, NAME, "shares"),
             optional(alloc, value, NAME, "maximum"),
@@ -115,7 +116,7 @@ impl OciRecord for WindowsCPUResources {
 
     fn to_value(&self, alloc: Global) -> Result<Value> {
         let mut members = Map::new(alloc);
-        all_3(
+        try_join3(
             write_optional(&mut members, alloc, "count", &self.count),
             write_optional(&mut members, alloc, "shares", &self.shares),
             write_optional(&mut members, alloc, "maximum", &self.maximum),

@@ -1,7 +1,7 @@
 //! A device of the host that a Windows container has (runtime specification, "Windows-specific Container Configuration", "Devices").
 ghost use Rattle.std.specs.Prelude.{◌≡◌, IfOk, IfErr};
 
-use oci_json_schema::{OciMember, OciRecord, all_2, fault, required, write_required};
+use oci_json_model::{OciMember, OciRecord, fault, required, try_join2, write_required};
 use oci_text_base::{OciSpecError, Result};
 use serde_json::{Map, Value};
 use std::alloc::Global;
@@ -77,19 +77,20 @@ impl WindowsDevice {
 }
 
 impl OciRecord for WindowsDevice {
-    ghost use Rattle.oci_json_schema.specs.Same.{same_document, same_more, same_last, same_given, same_texts};
-    ghost use Rattle.oci_platforms_windows.specs.WindowsDevice.{windows_device, windows_device_plain};
+    ghost use Rattle.oci_json_model.specs.Same.{same_document, same_more, same_last, same_given, same_texts};
+    ghost use Rattle.oci_shapes.specs.WindowsDevice.{windows_device};
+    ghost use Rattle.oci_platforms_windows.specs.WindowsDevice.{windows_device_plain};
 
     ghost shape = { windows_device };
 
     ghost plain = { windows_device_plain };
 
-    #[tactic(auto, using(oci_json_schema::proofs::Readers::refuses_others))]
+    #[tactic(auto, using(oci_json_model::proofs::Readers::refuses_others))]
     fn from_value(alloc: Global, value: &Value) -> Result<WindowsDevice> {
         if !value.is_object() {
             return Err(fault::refused(NAME, ""));
         }
-        let (id, id_type) = all_2(
+        let (id, id_type) = try_join2(
             required(alloc, value, NAME, "id"),
             required(alloc, value, NAME, "idType"),
         )?;
@@ -98,7 +99,7 @@ impl OciRecord for WindowsDevice {
 
     fn to_value(&self, alloc: Global) -> Result<Value> {
         let mut members = Map::new(alloc);
-        all_2(
+        try_join2(
             write_required(&mut members, alloc, "id", &self.id),
             write_required(&mut members, alloc, "idType", &self.id_type),
         )?;
@@ -106,7 +107,7 @@ impl OciRecord for WindowsDevice {
     }
 
     fn duplicate(&self, alloc: Global) -> Result<WindowsDevice> {
-        let (id, id_type) = all_2(self.id.copy(alloc), self.id_type.copy(alloc))?;
+        let (id, id_type) = try_join2(self.id.copy(alloc), self.id_type.copy(alloc))?;
         Ok(WindowsDevice { id, id_type })
     }
 
@@ -126,8 +127,8 @@ pub struct WindowsDeviceBuilder {
 
 impl WindowsDeviceBuilder {
     ghost use Rattle.std.specs.Prelude.{Some, unwrap_or, option_map, []};
-    ghost use Rattle.oci_json_schema.specs.Plain as plain;
-    ghost use Rattle.oci_json_schema.specs.Types.{text_plain};
+    ghost use Rattle.oci_json_model.specs.Plain as plain;
+    ghost use Rattle.oci_json_model.specs.Types.{text_plain};
 
     /// Which device it is: for the type `class` the GUID of its interface class.
     pub fn id(self, id: String) -> Self

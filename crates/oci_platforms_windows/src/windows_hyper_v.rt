@@ -1,7 +1,7 @@
 //! What a Windows container that Hyper-V keeps apart has (runtime specification, "Windows-specific Container Configuration", "HyperV").
 ghost use Rattle.std.specs.Prelude.{◌≡◌, IfOk, IfErr};
 
-use oci_json_schema::{OciRecord, copy_optional, fault, optional, write_optional};
+use oci_json_model::{OciRecord, copy_optional, fault, optional, write_optional};
 use oci_text_base::{OciSpecError, Result};
 use serde_json::{Map, Value};
 use std::alloc::Global;
@@ -59,14 +59,15 @@ impl WindowsHyperV {
 }
 
 impl OciRecord for WindowsHyperV {
-    ghost use Rattle.oci_json_schema.specs.Same.{same_document, same_last, same_perhaps, same_texts};
-    ghost use Rattle.oci_platforms_windows.specs.WindowsHyperV.{windows_hyper_v, windows_hyper_v_plain};
+    ghost use Rattle.oci_json_model.specs.Same.{same_document, same_last, same_perhaps, same_texts};
+    ghost use Rattle.oci_shapes.specs.WindowsHyperV.{windows_hyper_v};
+    ghost use Rattle.oci_platforms_windows.specs.WindowsHyperV.{windows_hyper_v_plain};
 
     ghost shape = { windows_hyper_v };
 
     ghost plain = { windows_hyper_v_plain };
 
-    #[tactic(auto, using(oci_json_schema::proofs::Readers::refuses_others))]
+    #[tactic(auto, using(oci_json_model::proofs::Readers::refuses_others))]
     fn from_value(alloc: Global, value: &Value) -> Result<WindowsHyperV> {
         if !value.is_object() {
             return Err(fault::refused(NAME, ""));

@@ -1,7 +1,7 @@
 //! How much memory a Windows container may use (runtime specification, "Windows-specific Container Configuration", "Memory").
 ghost use Rattle.std.specs.Prelude.{◌≡◌, IfOk, IfErr};
 
-use oci_json_schema::{OciRecord, fault, optional, write_optional};
+use oci_json_model::{OciRecord, fault, optional, write_optional};
 use oci_text_base::{OciSpecError, Result};
 use serde_json::{Map, Value};
 use std::alloc::Global;
@@ -51,14 +51,15 @@ impl WindowsMemoryResources {
 }
 
 impl OciRecord for WindowsMemoryResources {
-    ghost use Rattle.oci_json_schema.specs.Same.{same_document, same_last, same_perhaps, same_numbers};
-    ghost use Rattle.oci_platforms_windows.specs.WindowsMemoryResources.{windows_memory_resources, windows_memory_resources_plain};
+    ghost use Rattle.oci_json_model.specs.Same.{same_document, same_last, same_perhaps, same_numbers};
+    ghost use Rattle.oci_shapes.specs.WindowsMemoryResources.{windows_memory_resources};
+    ghost use Rattle.oci_platforms_windows.specs.WindowsMemoryResources.{windows_memory_resources_plain};
 
     ghost shape = { windows_memory_resources };
 
     ghost plain = { windows_memory_resources_plain };
 
-    #[tactic(auto, using(oci_json_schema::proofs::Readers::refuses_others))]
+    #[tactic(auto, using(oci_json_model::proofs::Readers::refuses_others))]
     fn from_value(alloc: Global, value: &Value) -> Result<WindowsMemoryResources> {
         if !value.is_object() {
             return Err(fault::refused(NAME, ""));

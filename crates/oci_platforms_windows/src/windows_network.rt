@@ -1,7 +1,9 @@
 //! The network of a Windows container (runtime specification, "Windows-specific Container Configuration", "Network").
 ghost use Rattle.std.specs.Prelude.{◌≡◌, IfOk, IfErr};
 
-use oci_json_schema::{OciRecord, all_4, all_5, copy_optional, fault, optional, write_optional};
+use oci_json_model::{
+    OciRecord, copy_optional, fault, optional, try_join4, try_join5, write_optional,
+};
 use oci_text_base::{OciSpecError, Result};
 use serde_json::{Map, Value};
 use std::alloc::Global;
@@ -143,14 +145,15 @@ impl WindowsNetwork {
 }
 
 impl OciRecord for WindowsNetwork {
-    ghost use Rattle.oci_json_schema.specs.Same.{same_document, same_more, same_last, same_perhaps, same_texts, same_lists, same_truths};
-    ghost use Rattle.oci_platforms_windows.specs.WindowsNetwork.{windows_network, windows_network_plain};
+    ghost use Rattle.oci_json_model.specs.Same.{same_document, same_more, same_last, same_perhaps, same_texts, same_lists, same_truths};
+    ghost use Rattle.oci_shapes.specs.WindowsNetwork.{windows_network};
+    ghost use Rattle.oci_platforms_windows.specs.WindowsNetwork.{windows_network_plain};
 
     ghost shape = { windows_network };
 
     ghost plain = { windows_network_plain };
 
-    #[tactic(auto, using(oci_json_schema::proofs::Readers::refuses_others))]
+    #[tactic(auto, using(oci_json_model::proofs::Readers::refuses_others))]
     fn from_value(alloc: Global, value: &Value) -> Result<WindowsNetwork> {
         if !value.is_object() {
             return Err(fault::refused(NAME, ""));
@@ -161,7 +164,7 @@ impl OciRecord for WindowsNetwork {
             dns_search_list,
             network_shared_container_name,
             network_namespace,
-        ) = all_5(
+        ) = try_join5(
             optional(alloc, value, NAME, "endpointList"),
             optional(alloc, value, NAME, "allowUnqualifiedDNSQuery"),
             optional(alloc, value, NAME, "DNSSearchList"),
@@ -179,7 +182,7 @@ impl OciRecord for WindowsNetwork {
 
     fn to_value(&self, alloc: Global) -> Result<Value> {
         let mut members = Map::new(alloc);
-        all_5(
+        try_join5(
             write_optional(&mut members, alloc, "endpointList", &self.endpoint_list),
             write_optional(
                 &mut members,
@@ -206,7 +209,7 @@ impl OciRecord for WindowsNetwork {
 
     fn duplicate(&self, alloc: Global) -> Result<WindowsNetwork> {
         let (endpoint_list, dns_search_list, network_shared_container_name, network_namespace) =
-            all_4(
+            try_join4(
                 copy_optional(&self.endpoint_list, alloc),
                 copy_optional(&self.dns_search_list, alloc),
                 copy_optional(&self.network_shared_container_name, alloc),

@@ -4,7 +4,7 @@ ghost use Rattle.std.specs.Prelude.{◌≡◌, IfOk, IfErr};
 use crate::windows_cpu_resources::WindowsCPUResources;
 use crate::windows_memory_resources::WindowsMemoryResources;
 use crate::windows_storage_resources::WindowsStorageResources;
-use oci_json_schema::{OciRecord, all_3, fault, optional, write_optional};
+use oci_json_model::{OciRecord, fault, optional, try_join3, write_optional};
 use oci_text_base::{OciSpecError, Result};
 use serde_json::{Map, Value};
 use std::alloc::Global;
@@ -92,8 +92,9 @@ impl WindowsResources {
 }
 
 impl OciRecord for WindowsResources {
-    ghost use Rattle.oci_json_schema.specs.Same.{same_document, same_more, same_last, same_perhaps};
-    ghost use Rattle.oci_platforms_windows.specs.WindowsResources.{windows_resources, windows_resources_plain};
+    ghost use Rattle.oci_json_model.specs.Same.{same_document, same_more, same_last, same_perhaps};
+    ghost use Rattle.oci_shapes.specs.WindowsResources.{windows_resources};
+    ghost use Rattle.oci_platforms_windows.specs.WindowsResources.{windows_resources_plain};
     ghost use Rattle.oci_platforms_windows.specs.contracts.windows_memory_resources.WindowsMemoryResourcesOciRecord.TheImpl.Laws.{same-law as windows_memory_resources_same};
     ghost use Rattle.oci_platforms_windows.specs.contracts.windows_cpu_resources.WindowsCPUResourcesOciRecord.TheImpl.Laws.{same-law as windows_cpu_resources_same};
     ghost use Rattle.oci_platforms_windows.specs.contracts.windows_storage_resources.WindowsStorageResourcesOciRecord.TheImpl.Laws.{same-law as windows_storage_resources_same};
@@ -102,12 +103,12 @@ impl OciRecord for WindowsResources {
 
     ghost plain = { windows_resources_plain };
 
-    #[tactic(auto, using(oci_json_schema::proofs::Readers::refuses_others))]
+    #[tactic(auto, using(oci_json_model::proofs::Readers::refuses_others))]
     fn from_value(alloc: Global, value: &Value) -> Result<WindowsResources> {
         if !value.is_object() {
             return Err(fault::refused(NAME, ""));
         }
-        let (memory, cpu, storage) = all_3(
+        let (memory, cpu, storage) = try_join3(
             optional(alloc, value, NAME, "memory"),
             optional(alloc, value, NAME, "cpu"),
             optional(alloc, value, NAME, "storage"),
@@ -121,7 +122,7 @@ impl OciRecord for WindowsResources {
 
     fn to_value(&self, alloc: Global) -> Result<Value> {
         let mut members = Map::new(alloc);
-        all_3(
+        try_join3(
             write_optional(&mut members, alloc, "memory", &self.memory),
             write_optional(&mut members, alloc, "cpu", &self.cpu),
             write_optional(&mut members, alloc, "storage", &self.storage),

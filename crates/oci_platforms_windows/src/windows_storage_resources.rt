@@ -1,7 +1,7 @@
 //! How a Windows container may use its system drive (runtime specification, "Windows-specific Container Configuration", "Storage").
 ghost use Rattle.std.specs.Prelude.{◌≡◌, IfOk, IfErr};
 
-use oci_json_schema::{OciRecord, all_3, fault, optional, write_optional};
+use oci_json_model::{OciRecord, fault, optional, try_join3, write_optional};
 use oci_text_base::{OciSpecError, Result};
 use serde_json::{Map, Value};
 use std::alloc::Global;
@@ -89,19 +89,20 @@ impl WindowsStorageResources {
 }
 
 impl OciRecord for WindowsStorageResources {
-    ghost use Rattle.oci_json_schema.specs.Same.{same_document, same_more, same_last, same_perhaps, same_numbers};
-    ghost use Rattle.oci_platforms_windows.specs.WindowsStorageResources.{windows_storage_resources, windows_storage_resources_plain};
+    ghost use Rattle.oci_json_model.specs.Same.{same_document, same_more, same_last, same_perhaps, same_numbers};
+    ghost use Rattle.oci_shapes.specs.WindowsStorageResources.{windows_storage_resources};
+    ghost use Rattle.oci_platforms_windows.specs.WindowsStorageResources.{windows_storage_resources_plain};
 
     ghost shape = { windows_storage_resources };
 
     ghost plain = { windows_storage_resources_plain };
 
-    #[tactic(auto, using(oci_json_schema::proofs::Readers::refuses_others))]
+    #[tactic(auto, using(oci_json_model::proofs::Readers::refuses_others))]
     fn from_value(alloc: Global, value: &Value) -> Result<WindowsStorageResources> {
         if !value.is_object() {
             return Err(fault::refused(NAME, ""));
         }
-        let (iops, bps, sandbox_size) = all_3(
+        let (iops, bps, sandbox_size) = try_join3(
             optional(alloc, value, NAME, "iops"),
             optional(alloc, value, NAME, "bps"),
             optional(alloc, value, NAME, "sandboxSize"),
@@ -115,7 +116,7 @@ impl OciRecord for WindowsStorageResources {
 
     fn to_value(&self, alloc: Global) -> Result<Value> {
         let mut members = Map::new(alloc);
-        all_3(
+        try_join3(
             write_optional(&mut members, alloc, "iops", &self.iops),
             write_optional(&mut members, alloc, "bps", &self.bps),
             write_optional(&mut members, alloc, "sandboxSize", &self.sandbox_size),

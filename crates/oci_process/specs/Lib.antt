@@ -8,10 +8,10 @@ pub mod ProcessDefaults
 pub mod RefusedAffinities
 pub mod Scheduler
 pub mod User
-pub use Rattle.oci_process_texts.specs.Affinities
-pub use Rattle.oci_process_texts.specs.Capability
-pub use Rattle.oci_process_texts.specs.CapabilitySets
-pub use Rattle.oci_process_texts.specs.IOPriorityClass
-pub use Rattle.oci_process_texts.specs.LinuxSchedulerFlag
-pub use Rattle.oci_process_texts.specs.LinuxSchedulerPolicy
-pub use Rattle.oci_process_texts.specs.PosixRlimitType
+pub use Rattle.oci_process_names.specs.Affinities
+pub use Rattle.oci_process_names.specs.Capability
+pub use Rattle.oci_process_names.specs.CapabilitySets
+pub use Rattle.oci_process_names.specs.IOPriorityClass
+pub use Rattle.oci_process_names.specs.LinuxSchedulerFlag
+pub use Rattle.oci_process_names.specs.LinuxSchedulerPolicy
+pub use Rattle.oci_process_names.specs.PosixRlimitType

@@ -1,19 +1,10 @@
 -- A limit on what a process may use (runtime specification, "Configuration", "POSIX process", `rlimits`).
-use Rattle.std.specs.Prelude.{[], ◌∷◌, codes, pos}
-use Rattle.oci_json_schema.specs.Plain as plain
-use Rattle.oci_json_schema.specs.Plain.{Plain, document, slots, filled}
-use Rattle.oci_process_texts.specs.PosixRlimitType.{posix_rlimit_type_table, posix_rlimit_type_name, posix_rlimit_type_default}
-use Rattle.oci_json_schema.specs.Shape.{Shape, rows, no_rows, listed, required, defaulted, named}
-use Rattle.oci_json_schema.specs.Types.{given, number_plain, variant_plain, u64}
+use Rattle.std.specs.Prelude.{[], ◌∷◌, pos}
+use Rattle.oci_json_model.specs.Plain as plain
+use Rattle.oci_json_model.specs.Plain.{Plain, document, slots, filled}
+use Rattle.oci_process_names.specs.PosixRlimitType.{posix_rlimit_type_name, posix_rlimit_type_default}
+use Rattle.oci_json_model.specs.Types.{given, number_plain, variant_plain}
 use Rattle.oci_process.specs.declared.posix_rlimit.PosixRlimit.{PosixRlimit}
-
--- the members, in the order in which they are looked at
-abbrev pub posix_rlimit : Shape
-posix_rlimit = rows (
-    listed (codes "type") required (named posix_rlimit_type_table) (
-    listed (codes "hard") (defaulted (plain.whole (pos 0))) u64 (
-    listed (codes "soft") (defaulted (plain.whole (pos 0))) u64
-    no_rows)))
 
 -- the content of a document
 abbrev pub posix_rlimit_plain : PosixRlimit → Plain

@@ -1,45 +1,24 @@
 -- The program that a container runs, and what it runs with (runtime specification, "Configuration", "Process").
-use Rattle.std.specs.Prelude.{[], ◌∷◌, codes, false, true, Option, String, Vec}
+use Rattle.std.specs.Prelude.{[], ◌∷◌, false, true, Option, String, Vec}
 use Rattle.std.specs.Borrow.{Lends, MutBor, Fml}
 use Rattle.std.specs.declared.alloc.Global.{Global}
-use Rattle.oci_json_schema.specs.Plain as plain
-use Rattle.oci_json_schema.specs.Plain.{Plain, document, slots, empty, filled}
-use Rattle.oci_json_schema.specs.Shape.{Shape, rows, no_rows, listed, required, optional, text, truth, list}
-use Rattle.oci_json_schema.specs.Types.{given, perhaps, text_plain, truth_plain, integer_plain, list_plain, i32}
-use Rattle.oci_json_schema.specs.Lent.{text_row, option_row, list_row}
-use Rattle.oci_process.specs.Box.{console_box, console_box_plain}
-use Rattle.oci_process.specs.User.{user, user_plain, default_user}
+use Rattle.oci_json_model.specs.Plain as plain
+use Rattle.oci_json_model.specs.Plain.{Plain, document, slots, empty, filled}
+use Rattle.oci_json_model.specs.Types.{given, perhaps, text_plain, truth_plain, integer_plain, list_plain}
+use Rattle.oci_json_model.specs.Lent.{text_row, option_row, list_row}
+use Rattle.oci_process.specs.Box.{console_box_plain}
+use Rattle.oci_shapes.specs.User.{user}
+use Rattle.oci_process.specs.User.{user_plain, default_user}
 use Rattle.oci_process.specs.declared.user.User.{User}
 use Rattle.oci_process.specs.contracts.user.User as user
-use Rattle.oci_process.specs.LinuxCapabilities.{linux_capabilities, linux_capabilities_plain, default_linux_capabilities}
-use Rattle.oci_process.specs.PosixRlimit.{posix_rlimit, posix_rlimit_plain}
-use Rattle.oci_process.specs.LinuxIOPriority.{linux_io_priority, linux_io_priority_plain}
-use Rattle.oci_process.specs.Scheduler.{scheduler, scheduler_plain}
-use Rattle.oci_process.specs.ExecCPUAffinity.{exec_cpu_affinity, exec_cpu_affinity_plain}
+use Rattle.oci_process.specs.LinuxCapabilities.{linux_capabilities_plain, default_linux_capabilities}
+use Rattle.oci_process.specs.PosixRlimit.{posix_rlimit_plain}
+use Rattle.oci_process.specs.LinuxIOPriority.{linux_io_priority_plain}
+use Rattle.oci_process.specs.Scheduler.{scheduler_plain}
+use Rattle.oci_process.specs.ExecCPUAffinity.{exec_cpu_affinity_plain}
 use Rattle.oci_process.specs.ProcessDefaults.{default_args, default_cwd, default_env, default_rlimits}
 use Rattle.oci_process.specs.declared.process.Process.{Process}
 use Rattle.oci_process.specs.contracts.process.Process.{the_row}
-
--- the members, in the order in which they are looked at
-abbrev pub process : Shape
-process = rows (
-    listed (codes "terminal") optional truth (
-    listed (codes "consoleSize") optional console_box (
-    listed (codes "user") required user (
-    listed (codes "args") optional (list text) (
-    listed (codes "commandLine") optional text (
-    listed (codes "env") optional (list text) (
-    listed (codes "cwd") required text (
-    listed (codes "capabilities") optional linux_capabilities (
-    listed (codes "rlimits") optional (list posix_rlimit) (
-    listed (codes "noNewPrivileges") optional truth (
-    listed (codes "apparmorProfile") optional text (
-    listed (codes "oomScoreAdj") optional i32 (
-    listed (codes "selinuxLabel") optional text (
-    listed (codes "ioPriority") optional linux_io_priority (
-    listed (codes "scheduler") optional scheduler (
-    listed (codes "execCPUAffinity") optional exec_cpu_affinity
-    no_rows))))))))))))))))
 
 -- the content of a document
 abbrev pub process_plain : Process → Plain

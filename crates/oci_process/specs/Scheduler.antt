@@ -1,24 +1,11 @@
 -- When a process may run (runtime specification, "Configuration", "Linux Process", `scheduler`).
-use Rattle.std.specs.Prelude.{[], ◌∷◌, codes}
-use Rattle.oci_json_schema.specs.Plain as plain
-use Rattle.oci_json_schema.specs.Plain.{Plain, document, slots, empty, filled}
-use Rattle.oci_process_texts.specs.LinuxSchedulerFlag.{linux_scheduler_flag_table, linux_scheduler_flag_name}
-use Rattle.oci_process_texts.specs.LinuxSchedulerPolicy.{linux_scheduler_policy_table, linux_scheduler_policy_name, linux_scheduler_policy_default}
-use Rattle.oci_json_schema.specs.Shape.{Shape, rows, no_rows, listed, required, optional, named, list}
-use Rattle.oci_json_schema.specs.Types.{given, perhaps, number_plain, integer_plain, variant_plain, list_plain, u64, i32}
+use Rattle.std.specs.Prelude.{[], ◌∷◌}
+use Rattle.oci_json_model.specs.Plain as plain
+use Rattle.oci_json_model.specs.Plain.{Plain, document, slots, empty, filled}
+use Rattle.oci_process_names.specs.LinuxSchedulerFlag.{linux_scheduler_flag_name}
+use Rattle.oci_process_names.specs.LinuxSchedulerPolicy.{linux_scheduler_policy_name, linux_scheduler_policy_default}
+use Rattle.oci_json_model.specs.Types.{given, perhaps, number_plain, integer_plain, variant_plain, list_plain}
 use Rattle.oci_process.specs.declared.scheduler.Scheduler.{Scheduler}
-
--- the members, in the order in which they are looked at
-abbrev pub scheduler : Shape
-scheduler = rows (
-    listed (codes "policy") required (named linux_scheduler_policy_table) (
-    listed (codes "nice") optional i32 (
-    listed (codes "priority") optional i32 (
-    listed (codes "flags") optional (list (named linux_scheduler_flag_table)) (
-    listed (codes "runtime") optional u64 (
-    listed (codes "deadline") optional u64 (
-    listed (codes "period") optional u64
-    no_rows)))))))
 
 -- the content of a document
 abbrev pub scheduler_plain : Scheduler → Plain

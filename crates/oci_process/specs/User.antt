@@ -1,25 +1,14 @@
 -- The user that a process runs as (runtime specification, "Configuration", "User").
-use Rattle.std.specs.Prelude.{[], ◌∷◌, codes, pos, Option, String, Vec, ℕ}
+use Rattle.std.specs.Prelude.{[], ◌∷◌, pos, Option, String, Vec, ℕ}
 use Rattle.std.specs.Borrow.{Lends, MutBor, Fml}
 use Rattle.std.specs.declared.alloc.Global.{Global}
-use Rattle.oci_json_schema.specs.Plain as plain
-use Rattle.oci_json_schema.specs.Plain.{Plain, document, slots, empty, filled}
-use Rattle.oci_json_schema.specs.Shape.{Shape, rows, no_rows, listed, optional, defaulted, text, list}
-use Rattle.oci_json_schema.specs.Types.{given, perhaps, text_plain, number_plain, list_plain, u32}
-use Rattle.oci_json_schema.specs.Lent.{text_row, option_row, list_row}
+use Rattle.oci_json_model.specs.Plain as plain
+use Rattle.oci_json_model.specs.Plain.{Plain, document, slots, empty, filled}
+use Rattle.oci_json_model.specs.Types.{given, perhaps, text_plain, number_plain, list_plain}
+use Rattle.oci_json_model.specs.Lent.{text_row, option_row, list_row}
 use Rattle.std.specs.Borrow as borrow
 use Rattle.oci_process.specs.declared.user.User.{User}
 use Rattle.oci_process.specs.contracts.user.User.{the_row}
-
--- the members, in the order in which they are looked at
-abbrev pub user : Shape
-user = rows (
-    listed (codes "uid") (defaulted (plain.whole (pos 0))) u32 (
-    listed (codes "gid") (defaulted (plain.whole (pos 0))) u32 (
-    listed (codes "umask") optional u32 (
-    listed (codes "additionalGids") optional (list u32) (
-    listed (codes "username") optional text
-    no_rows)))))
 
 -- the content of a document
 abbrev pub user_plain : User → Plain

@@ -1,8 +1,8 @@
 //! The size of a process's terminal (runtime specification, "Configuration", "Process", `consoleSize`).
 ghost use Rattle.std.specs.Prelude.{◌≡◌, IfOk, IfErr};
 
-use oci_json_kinds::defaulted;
-use oci_json_schema::{OciRecord, all_2, fault, write_required};
+use oci_json_members::defaulted;
+use oci_json_model::{OciRecord, fault, try_join2, write_required};
 use oci_text_base::{OciSpecError, Result};
 use serde_json::{Map, Value};
 use std::alloc::Global;
@@ -54,20 +54,21 @@ impl Box {
 }
 
 impl OciRecord for Box {
-    ghost use Rattle.oci_json_kinds.specs.DefaultMembers.{default_number};
-    ghost use Rattle.oci_json_schema.specs.Same.{same_document, same_more, same_last, same_given, same_numbers};
-    ghost use Rattle.oci_process.specs.Box.{console_box, console_box_plain};
+    ghost use Rattle.oci_json_members.specs.DefaultMembers.{default_number};
+    ghost use Rattle.oci_json_model.specs.Same.{same_document, same_more, same_last, same_given, same_numbers};
+    ghost use Rattle.oci_shapes.specs.Box.{console_box};
+    ghost use Rattle.oci_process.specs.Box.{console_box_plain};
 
     ghost shape = { console_box };
 
     ghost plain = { console_box_plain };
 
-    #[tactic(auto, using(oci_json_schema::proofs::Readers::refuses_others))]
+    #[tactic(auto, using(oci_json_model::proofs::Readers::refuses_others))]
     fn from_value(alloc: Global, value: &Value) -> Result<Box> {
         if !value.is_object() {
             return Err(fault::refused(NAME, ""));
         }
-        let (height, width) = all_2(
+        let (height, width) = try_join2(
             defaulted(alloc, value, NAME, "height"),
             defaulted(alloc, value, NAME, "width"),
         )?;
@@ -76,7 +77,7 @@ impl OciRecord for Box {
 
     fn to_value(&self, alloc: Global) -> Result<Value> {
         let mut members = Map::new(alloc);
-        all_2(
+        try_join2(
             write_required(&mut members, alloc, "height", &self.height),
             write_required(&mut members, alloc, "width", &self.width),
         )?;
@@ -103,8 +104,8 @@ pub struct BoxBuilder {
 
 impl BoxBuilder {
     ghost use Rattle.std.specs.Prelude.{Some, unwrap_or, option_map, pos};
-    ghost use Rattle.oci_json_schema.specs.Plain as plain;
-    ghost use Rattle.oci_json_schema.specs.Types.{number_plain};
+    ghost use Rattle.oci_json_model.specs.Plain as plain;
+    ghost use Rattle.oci_json_model.specs.Types.{number_plain};
 
     /// The height in characters.
     pub fn height(self, height: u64) -> Self

@@ -3,9 +3,9 @@ ghost use Rattle.std.specs.Prelude.{◌≡◌, IfOk, IfErr};
 
 mod build;
 
-use oci_json_kinds::{copy_optional_as, optional_as, write_optional_as};
-use oci_json_schema::{OciRecord, all_2, fault};
-use oci_process_texts::CpuTexts;
+use oci_json_members::{copy_optional_as, optional_as, write_optional_as};
+use oci_json_model::{OciRecord, fault, try_join2};
+use oci_process_names::CpuTexts;
 use oci_text_base::{OciSpecError, Result};
 use serde_json::{Map, Value};
 use std::alloc::Global;
@@ -84,19 +84,20 @@ impl ExecCPUAffinity {
 }
 
 impl OciRecord for ExecCPUAffinity {
-    ghost use Rattle.oci_json_schema.specs.Same.{same_document, same_more, same_last, same_perhaps, same_texts};
-    ghost use Rattle.oci_process.specs.ExecCPUAffinity.{exec_cpu_affinity, exec_cpu_affinity_plain};
+    ghost use Rattle.oci_json_model.specs.Same.{same_document, same_more, same_last, same_perhaps, same_texts};
+    ghost use Rattle.oci_shapes.specs.ExecCPUAffinity.{exec_cpu_affinity};
+    ghost use Rattle.oci_process.specs.ExecCPUAffinity.{exec_cpu_affinity_plain};
 
     ghost shape = { exec_cpu_affinity };
 
     ghost plain = { exec_cpu_affinity_plain };
 
-    #[tactic(auto, using(oci_json_schema::proofs::Readers::refuses_others))]
+    #[tactic(auto, using(oci_json_model::proofs::Readers::refuses_others))]
     fn from_value(alloc: Global, value: &Value) -> Result<ExecCPUAffinity> {
         if !value.is_object() {
             return Err(fault::refused(NAME, ""));
         }
-        let (initial, cpu_affinity_final) = all_2(
+        let (initial, cpu_affinity_final) = try_join2(
             optional_as::<CpuTexts, String>(alloc, value, NAME, "initial"),
             optional_as::<CpuTexts, String>(alloc, value, NAME, "final"),
         )?;
@@ -108,7 +109,7 @@ impl OciRecord for ExecCPUAffinity {
 
     fn to_value(&self, alloc: Global) -> Result<Value> {
         let mut members = Map::new(alloc);
-        all_2(
+        try_join2(
             write_optional_as::<CpuTexts, String>(
                 &mut members,
                 alloc,
@@ -128,7 +129,7 @@ impl OciRecord for ExecCPUAffinity {
     }
 
     fn duplicate(&self, alloc: Global) -> Result<ExecCPUAffinity> {
-        let (initial, cpu_affinity_final) = all_2(
+        let (initial, cpu_affinity_final) = try_join2(
             copy_optional_as::<CpuTexts, String>(&self.initial, alloc),
             copy_optional_as::<CpuTexts, String>(&self.cpu_affinity_final, alloc),
         )?;

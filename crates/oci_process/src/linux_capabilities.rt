@@ -1,9 +1,9 @@
 //! The five sets of capabilities of a process (runtime specification, "Configuration", "Linux Process", `capabilities`).
 ghost use Rattle.std.specs.Prelude.{◌≡◌, IfOk, IfErr};
 
-use oci_json_kinds::{copy_optional_as, optional_as, write_optional_as};
-use oci_json_schema::{OciRecord, all_5, fault};
-use oci_process_texts::{Capability, Caps, default_capabilities};
+use oci_json_members::{copy_optional_as, optional_as, write_optional_as};
+use oci_json_model::{OciRecord, fault, try_join5};
+use oci_process_names::{Capability, Caps, default_capabilities};
 use oci_text_base::{OciSpecError, Result};
 use serde_json::{Map, Value};
 use std::alloc::Global;
@@ -49,7 +49,7 @@ impl LinuxCapabilities {
         ensures ok { IfOk result (λ x. linux_capabilities_plain x ≡ default_linux_capabilities) }
         ensures err { IfErr result (λ e. e ≡ OciSpecError.Memory) }
     {
-        let (bounding, effective, inheritable, permitted, ambient) = all_5(
+        let (bounding, effective, inheritable, permitted, ambient) = try_join5(
             default_capabilities(alloc),
             default_capabilities(alloc),
             default_capabilities(alloc),
@@ -147,20 +147,21 @@ impl LinuxCapabilities {
 }
 
 impl OciRecord for LinuxCapabilities {
-    ghost use Rattle.oci_process_texts.specs.CapabilitySets.{same_sets};
-    ghost use Rattle.oci_json_schema.specs.Same.{same_document, same_more, same_last, same_perhaps};
-    ghost use Rattle.oci_process.specs.LinuxCapabilities.{linux_capabilities, linux_capabilities_plain};
+    ghost use Rattle.oci_process_names.specs.CapabilitySets.{same_sets};
+    ghost use Rattle.oci_json_model.specs.Same.{same_document, same_more, same_last, same_perhaps};
+    ghost use Rattle.oci_shapes.specs.LinuxCapabilities.{linux_capabilities};
+    ghost use Rattle.oci_process.specs.LinuxCapabilities.{linux_capabilities_plain};
 
     ghost shape = { linux_capabilities };
 
     ghost plain = { linux_capabilities_plain };
 
-    #[tactic(auto, using(oci_json_schema::proofs::Readers::refuses_others))]
+    #[tactic(auto, using(oci_json_model::proofs::Readers::refuses_others))]
     fn from_value(alloc: Global, value: &Value) -> Result<LinuxCapabilities> {
         if !value.is_object() {
             return Err(fault::refused(NAME, ""));
         }
-        let (bounding, effective, inheritable, permitted, ambient) = all_5(
+        let (bounding, effective, inheritable, permitted, ambient) = try_join5(
             optional_as::<Caps, HashSet<Capability>>(alloc, value, NAME, "bounding"),
             optional_as::<Caps, HashSet<Capability>>(alloc, value, NAME, "effective"),
             optional_as::<Caps, HashSet<Capability>>(alloc, value, NAME, "inheritable"),
@@ -178,7 +179,7 @@ impl OciRecord for LinuxCapabilities {
 
     fn to_value(&self, alloc: Global) -> Result<Value> {
         let mut members = Map::new(alloc);
-        all_5(
+        try_join5(
             write_optional_as::<Caps, HashSet<Capability>>(
                 &mut members,
                 alloc,
@@ -219,7 +220,7 @@ impl OciRecord for LinuxCapabilities {
     }
 
     fn duplicate(&self, alloc: Global) -> Result<LinuxCapabilities> {
-        let (bounding, effective, inheritable, permitted, ambient) = all_5(
+        let (bounding, effective, inheritable, permitted, ambient) = try_join5(
             copy_optional_as::<Caps, HashSet<Capability>>(&self.bounding, alloc),
             copy_optional_as::<Caps, HashSet<Capability>>(&self.effective, alloc),
             copy_optional_as::<Caps, HashSet<Capability>>(&self.inheritable, alloc),
@@ -257,10 +258,10 @@ pub struct LinuxCapabilitiesBuilder {
 
 impl LinuxCapabilitiesBuilder {
     ghost use Rattle.std.specs.Prelude.{Some, unwrap_or, option_map};
-    ghost use Rattle.oci_json_schema.specs.Plain.{filled};
-    ghost use Rattle.oci_process_texts.specs.CapabilitySets.{set_plain};
-    ghost use Rattle.oci_process_texts.specs.CapabilitySets.{default_set};
-    ghost use Rattle.oci_json_schema.specs.Types.{perhaps};
+    ghost use Rattle.oci_json_model.specs.Plain.{filled};
+    ghost use Rattle.oci_process_names.specs.CapabilitySets.{set_plain};
+    ghost use Rattle.oci_process_names.specs.CapabilitySets.{default_set};
+    ghost use Rattle.oci_json_model.specs.Types.{perhaps};
 
     /// The capabilities that starting a program can give the process at most.
     pub fn bounding(self, bounding: HashSet<Capability>) -> Self
@@ -328,7 +329,7 @@ impl LinuxCapabilitiesBuilder {
             permitted,
             ambient,
         } = self;
-        let (bounding, effective, inheritable, permitted, ambient) = all_5(
+        let (bounding, effective, inheritable, permitted, ambient) = try_join5(
             Self::capabilities_or_default(alloc, bounding),
             Self::capabilities_or_default(alloc, effective),
             Self::capabilities_or_default(alloc, inheritable),

@@ -1,9 +1,9 @@
 //! How soon a process's input and output is served (runtime specification, "Configuration", "Linux Process", `ioPriority`).
 ghost use Rattle.std.specs.Prelude.{◌≡◌, IfOk, IfErr};
 
-use oci_json_kinds::defaulted;
-use oci_json_schema::{OciRecord, all_2, fault, write_required};
-use oci_process_texts::IOPriorityClass;
+use oci_json_members::defaulted;
+use oci_json_model::{OciRecord, fault, try_join2, write_required};
+use oci_process_names::IOPriorityClass;
 use oci_text_base::{OciSpecError, Result};
 use serde_json::{Map, Value};
 use std::alloc::Global;
@@ -55,21 +55,22 @@ impl LinuxIOPriority {
 }
 
 impl OciRecord for LinuxIOPriority {
-    ghost use Rattle.oci_process_texts.specs.IOPriorityClass.{io_priority_class_same};
-    ghost use Rattle.oci_json_kinds.specs.DefaultMembers.{default_name, default_number};
-    ghost use Rattle.oci_json_schema.specs.Same.{same_document, same_more, same_last, same_given, same_integers, same_variants};
-    ghost use Rattle.oci_process.specs.LinuxIOPriority.{linux_io_priority, linux_io_priority_plain};
+    ghost use Rattle.oci_process_names.specs.IOPriorityClass.{io_priority_class_same};
+    ghost use Rattle.oci_json_members.specs.DefaultMembers.{default_name, default_number};
+    ghost use Rattle.oci_json_model.specs.Same.{same_document, same_more, same_last, same_given, same_integers, same_variants};
+    ghost use Rattle.oci_shapes.specs.LinuxIOPriority.{linux_io_priority};
+    ghost use Rattle.oci_process.specs.LinuxIOPriority.{linux_io_priority_plain};
 
     ghost shape = { linux_io_priority };
 
     ghost plain = { linux_io_priority_plain };
 
-    #[tactic(auto, using(oci_json_schema::proofs::Readers::refuses_others))]
+    #[tactic(auto, using(oci_json_model::proofs::Readers::refuses_others))]
     fn from_value(alloc: Global, value: &Value) -> Result<LinuxIOPriority> {
         if !value.is_object() {
             return Err(fault::refused(NAME, ""));
         }
-        let (class, priority) = all_2(
+        let (class, priority) = try_join2(
             defaulted(alloc, value, NAME, "class"),
             defaulted(alloc, value, NAME, "priority"),
         )?;
@@ -78,7 +79,7 @@ impl OciRecord for LinuxIOPriority {
 
     fn to_value(&self, alloc: Global) -> Result<Value> {
         let mut members = Map::new(alloc);
-        all_2(
+        try_join2(
             write_required(&mut members, alloc, "class", &self.class),
             write_required(&mut members, alloc, "priority", &self.priority),
         )?;
@@ -105,9 +106,9 @@ pub struct LinuxIOPriorityBuilder {
 
 impl LinuxIOPriorityBuilder {
     ghost use Rattle.std.specs.Prelude.{Some, unwrap_or, option_map, pos};
-    ghost use Rattle.oci_json_schema.specs.Plain as plain;
-    ghost use Rattle.oci_json_schema.specs.Types.{integer_plain, variant_plain};
-    ghost use Rattle.oci_process_texts.specs.IOPriorityClass.{io_priority_class_name, io_priority_class_default};
+    ghost use Rattle.oci_json_model.specs.Plain as plain;
+    ghost use Rattle.oci_json_model.specs.Types.{integer_plain, variant_plain};
+    ghost use Rattle.oci_process_names.specs.IOPriorityClass.{io_priority_class_name, io_priority_class_default};
 
     /// The class, which counts before the priority.
     pub fn class(self, class: IOPriorityClass) -> Self

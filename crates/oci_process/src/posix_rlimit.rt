@@ -1,9 +1,9 @@
 //! A limit on what a process may use (runtime specification, "Configuration", "POSIX process", `rlimits`).
 ghost use Rattle.std.specs.Prelude.{◌≡◌, IfOk, IfErr};
 
-use oci_json_kinds::defaulted;
-use oci_json_schema::{OciRecord, all_3, fault, required, write_required};
-use oci_process_texts::PosixRlimitType;
+use oci_json_members::defaulted;
+use oci_json_model::{OciRecord, fault, required, try_join3, write_required};
+use oci_process_names::PosixRlimitType;
 use oci_text_base::{OciSpecError, Result};
 use serde_json::{Map, Value};
 use std::alloc::Global;
@@ -64,21 +64,22 @@ impl PosixRlimit {
 }
 
 impl OciRecord for PosixRlimit {
-    ghost use Rattle.oci_process_texts.specs.PosixRlimitType.{posix_rlimit_type_same};
-    ghost use Rattle.oci_json_kinds.specs.DefaultMembers.{default_number};
-    ghost use Rattle.oci_json_schema.specs.Same.{same_document, same_more, same_last, same_given, same_numbers, same_variants};
-    ghost use Rattle.oci_process.specs.PosixRlimit.{posix_rlimit, posix_rlimit_plain};
+    ghost use Rattle.oci_process_names.specs.PosixRlimitType.{posix_rlimit_type_same};
+    ghost use Rattle.oci_json_members.specs.DefaultMembers.{default_number};
+    ghost use Rattle.oci_json_model.specs.Same.{same_document, same_more, same_last, same_given, same_numbers, same_variants};
+    ghost use Rattle.oci_shapes.specs.PosixRlimit.{posix_rlimit};
+    ghost use Rattle.oci_process.specs.PosixRlimit.{posix_rlimit_plain};
 
     ghost shape = { posix_rlimit };
 
     ghost plain = { posix_rlimit_plain };
 
-    #[tactic(auto, using(oci_json_schema::proofs::Readers::refuses_others))]
+    #[tactic(auto, using(oci_json_model::proofs::Readers::refuses_others))]
     fn from_value(alloc: Global, value: &Value) -> Result<PosixRlimit> {
         if !value.is_object() {
             return Err(fault::refused(NAME, ""));
         }
-        let (typ, hard, soft) = all_3(
+        let (typ, hard, soft) = try_join3(
             required(alloc, value, NAME, "type"),
             defaulted(alloc, value, NAME, "hard"),
             defaulted(alloc, value, NAME, "soft"),
@@ -88,7 +89,7 @@ impl OciRecord for PosixRlimit {
 
     fn to_value(&self, alloc: Global) -> Result<Value> {
         let mut members = Map::new(alloc);
-        all_3(
+        try_join3(
             write_required(&mut members, alloc, "type", &self.typ),
             write_required(&mut members, alloc, "hard", &self.hard),
             write_required(&mut members, alloc, "soft", &self.soft),
@@ -118,9 +119,9 @@ pub struct PosixRlimitBuilder {
 
 impl PosixRlimitBuilder {
     ghost use Rattle.std.specs.Prelude.{Some, unwrap_or, option_map, pos};
-    ghost use Rattle.oci_json_schema.specs.Plain as plain;
-    ghost use Rattle.oci_json_schema.specs.Types.{number_plain, variant_plain};
-    ghost use Rattle.oci_process_texts.specs.PosixRlimitType.{posix_rlimit_type_name, posix_rlimit_type_default};
+    ghost use Rattle.oci_json_model.specs.Plain as plain;
+    ghost use Rattle.oci_json_model.specs.Types.{number_plain, variant_plain};
+    ghost use Rattle.oci_process_names.specs.PosixRlimitType.{posix_rlimit_type_name, posix_rlimit_type_default};
 
     /// What is limited.
     pub fn typ(self, typ: PosixRlimitType) -> Self

@@ -13,9 +13,9 @@ use crate::process_defaults::{default_args, default_cwd, default_env, default_rl
 use crate::scheduler::Scheduler;
 use crate::user::User;
 pub use builder::ProcessBuilder;
-use oci_json_schema::{
-    OciMember, OciRecord, all_2, all_3, all_4, copy_optional, fault, optional, required,
-    write_optional, write_required,
+use oci_json_model::{
+    OciMember, OciRecord, copy_optional, fault, optional, required, try_join2, try_join3,
+    try_join4, write_optional, write_required,
 };
 use oci_text_base::{OciSpecError, Result};
 use serde_json::{Map, Value};
@@ -83,13 +83,13 @@ impl Process {
         ensures ok { IfOk result (λ x. process_plain x ≡ default_process) }
         ensures err { IfErr result (λ e. e ≡ OciSpecError.Memory) }
     {
-        let ((user, args, env), (cwd, capabilities, rlimits)) = all_2(
-            all_3(
+        let ((user, args, env), (cwd, capabilities, rlimits)) = try_join2(
+            try_join3(
                 User::try_default(alloc),
                 default_args(alloc),
                 default_env(alloc),
             ),
-            all_3(
+            try_join3(
                 default_cwd(alloc),
                 LinuxCapabilities::try_default(alloc),
                 default_rlimits(alloc),
@@ -117,9 +117,10 @@ impl Process {
 }
 
 impl OciRecord for Process {
-    ghost use Rattle.oci_json_kinds.specs.DefaultMembers.{default_name, default_number};
-    ghost use Rattle.oci_json_schema.specs.Same.{same_document, same_more, same_last, same_given, same_perhaps, same_texts, same_lists, same_integers, same_truths};
-    ghost use Rattle.oci_process.specs.Process.{process, process_plain};
+    ghost use Rattle.oci_json_members.specs.DefaultMembers.{default_name, default_number};
+    ghost use Rattle.oci_json_model.specs.Same.{same_document, same_more, same_last, same_given, same_perhaps, same_texts, same_lists, same_integers, same_truths};
+    ghost use Rattle.oci_shapes.specs.Process.{process};
+    ghost use Rattle.oci_process.specs.Process.{process_plain};
     ghost use Rattle.oci_process.specs.contracts.console_box.BoxOciRecord.TheImpl.Laws.{same-law as console_box_same};
     ghost use Rattle.oci_process.specs.contracts.user.UserOciRecord.TheImpl.Laws.{same-law as user_same};
     ghost use Rattle.oci_process.specs.contracts.linux_capabilities.LinuxCapabilitiesOciRecord.TheImpl.Laws.{same-law as linux_capabilities_same};
@@ -132,7 +133,7 @@ impl OciRecord for Process {
 
     ghost plain = { process_plain };
 
-    #[tactic(auto, using(oci_json_schema::proofs::Readers::refuses_others))]
+    #[tactic(auto, using(oci_json_model::proofs::Readers::refuses_others))]
     fn from_value(alloc: Global, value: &Value) -> Result<Process> {
         if !value.is_object() {
             return Err(fault::refused(NAME, ""));
@@ -142,26 +143,26 @@ impl OciRecord for Process {
             (command_line, env, cwd, capabilities),
             (rlimits, no_new_privileges, apparmor_profile, oom_score_adj),
             (selinux_label, io_priority, scheduler, exec_cpu_affinity),
-        ) = all_4(
-            all_4(
+        ) = try_join4(
+            try_join4(
                 optional(alloc, value, NAME, "terminal"),
                 optional(alloc, value, NAME, "consoleSize"),
                 required(alloc, value, NAME, "user"),
                 optional(alloc, value, NAME, "args"),
             ),
-            all_4(
+            try_join4(
                 optional(alloc, value, NAME, "commandLine"),
                 optional(alloc, value, NAME, "env"),
                 required(alloc, value, NAME, "cwd"),
                 optional(alloc, value, NAME, "capabilities"),
             ),
-            all_4(
+            try_join4(
                 optional(alloc, value, NAME, "rlimits"),
                 optional(alloc, value, NAME, "noNewPrivileges"),
                 optional(alloc, value, NAME, "apparmorProfile"),
                 optional(alloc, value, NAME, "oomScoreAdj"),
             ),
-            all_4(
+            try_join4(
                 optional(alloc, value, NAME, "selinuxLabel"),
                 optional(alloc, value, NAME, "ioPriority"),
                 optional(alloc, value, NAME, "scheduler"),
@@ -190,20 +191,20 @@ impl OciRecord for Process {
 
     fn to_value(&self, alloc: Global) -> Result<Value> {
         let mut members = Map::new(alloc);
-        all_4(
-            all_4(
+        try_join4(
+            try_join4(
                 write_optional(&mut members, alloc, "terminal", &self.terminal),
                 write_optional(&mut members, alloc, "consoleSize", &self.console_size),
                 write_required(&mut members, alloc, "user", &self.user),
                 write_optional(&mut members, alloc, "args", &self.args),
             ),
-            all_4(
+            try_join4(
                 write_optional(&mut members, alloc, "commandLine", &self.command_line),
                 write_optional(&mut members, alloc, "env", &self.env),
                 write_required(&mut members, alloc, "cwd", &self.cwd),
                 write_optional(&mut members, alloc, "capabilities", &self.capabilities),
             ),
-            all_4(
+            try_join4(
                 write_optional(&mut members, alloc, "rlimits", &self.rlimits),
                 write_optional(
                     &mut members,
@@ -219,7 +220,7 @@ impl OciRecord for Process {
                 ),
                 write_optional(&mut members, alloc, "oomScoreAdj", &self.oom_score_adj),
             ),
-            all_4(
+            try_join4(
                 write_optional(&mut members, alloc, "selinuxLabel", &self.selinux_label),
                 write_optional(&mut members, alloc, "ioPriority", &self.io_priority),
                 write_optional(&mut members, alloc, "scheduler", &self.scheduler),
@@ -239,20 +240,20 @@ impl OciRecord for Process {
             (user, args, command_line, env),
             (cwd, capabilities, rlimits, apparmor_profile),
             (selinux_label, scheduler, exec_cpu_affinity),
-        ) = all_3(
-            all_4(
+        ) = try_join3(
+            try_join4(
                 self.user.copy(alloc),
                 copy_optional(&self.args, alloc),
                 copy_optional(&self.command_line, alloc),
                 copy_optional(&self.env, alloc),
             ),
-            all_4(
+            try_join4(
                 self.cwd.copy(alloc),
                 copy_optional(&self.capabilities, alloc),
                 copy_optional(&self.rlimits, alloc),
                 copy_optional(&self.apparmor_profile, alloc),
             ),
-            all_3(
+            try_join3(
                 copy_optional(&self.selinux_label, alloc),
                 copy_optional(&self.scheduler, alloc),
                 copy_optional(&self.exec_cpu_affinity, alloc),

@@ -1,11 +1,11 @@
 //! When a process may run (runtime specification, "Configuration", "Linux Process", `scheduler`).
 ghost use Rattle.std.specs.Prelude.{◌≡◌, IfOk, IfErr};
 
-use oci_json_schema::{
-    OciRecord, all_2, all_3, all_4, copy_optional, fault, optional, required, write_optional,
-    write_required,
+use oci_json_model::{
+    OciRecord, copy_optional, fault, optional, required, try_join2, try_join3, try_join4,
+    write_optional, write_required,
 };
-use oci_process_texts::{LinuxSchedulerFlag, LinuxSchedulerPolicy};
+use oci_process_names::{LinuxSchedulerFlag, LinuxSchedulerPolicy};
 use oci_text_base::{OciSpecError, Result};
 use serde_json::{Map, Value};
 use std::alloc::Global;
@@ -179,28 +179,29 @@ impl Scheduler {
 }
 
 impl OciRecord for Scheduler {
-    ghost use Rattle.oci_process_texts.specs.LinuxSchedulerFlag.{linux_scheduler_flag_same};
-    ghost use Rattle.oci_process_texts.specs.LinuxSchedulerPolicy.{linux_scheduler_policy_same};
-    ghost use Rattle.oci_json_schema.specs.Same.{same_document, same_more, same_last, same_given, same_perhaps, same_lists, same_numbers, same_integers, same_variants};
-    ghost use Rattle.oci_process.specs.Scheduler.{scheduler, scheduler_plain};
+    ghost use Rattle.oci_process_names.specs.LinuxSchedulerFlag.{linux_scheduler_flag_same};
+    ghost use Rattle.oci_process_names.specs.LinuxSchedulerPolicy.{linux_scheduler_policy_same};
+    ghost use Rattle.oci_json_model.specs.Same.{same_document, same_more, same_last, same_given, same_perhaps, same_lists, same_numbers, same_integers, same_variants};
+    ghost use Rattle.oci_shapes.specs.Scheduler.{scheduler};
+    ghost use Rattle.oci_process.specs.Scheduler.{scheduler_plain};
 
     ghost shape = { scheduler };
 
     ghost plain = { scheduler_plain };
 
-    #[tactic(auto, using(oci_json_schema::proofs::Readers::refuses_others))]
+    #[tactic(auto, using(oci_json_model::proofs::Readers::refuses_others))]
     fn from_value(alloc: Global, value: &Value) -> Result<Scheduler> {
         if !value.is_object() {
             return Err(fault::refused(NAME, ""));
         }
-        let ((policy, nice, priority, flags), (runtime, deadline, period)) = all_2(
-            all_4(
+        let ((policy, nice, priority, flags), (runtime, deadline, period)) = try_join2(
+            try_join4(
                 required(alloc, value, NAME, "policy"),
                 optional(alloc, value, NAME, "nice"),
                 optional(alloc, value, NAME, "priority"),
                 optional(alloc, value, NAME, "flags"),
             ),
-            all_3(
+            try_join3(
                 optional(alloc, value, NAME, "runtime"),
                 optional(alloc, value, NAME, "deadline"),
                 optional(alloc, value, NAME, "period"),
@@ -219,14 +220,14 @@ impl OciRecord for Scheduler {
 
     fn to_value(&self, alloc: Global) -> Result<Value> {
         let mut members = Map::new(alloc);
-        all_2(
-            all_4(
+        try_join2(
+            try_join4(
                 write_required(&mut members, alloc, "policy", &self.policy),
                 write_optional(&mut members, alloc, "nice", &self.nice),
                 write_optional(&mut members, alloc, "priority", &self.priority),
                 write_optional(&mut members, alloc, "flags", &self.flags),
             ),
-            all_3(
+            try_join3(
                 write_optional(&mut members, alloc, "runtime", &self.runtime),
                 write_optional(&mut members, alloc, "deadline", &self.deadline),
                 write_optional(&mut members, alloc, "period", &self.period),
@@ -273,9 +274,9 @@ pub struct SchedulerBuilder {
 
 impl SchedulerBuilder {
     ghost use Rattle.std.specs.Prelude.{Some, unwrap_or, option_map};
-    ghost use Rattle.oci_json_schema.specs.Plain as plain;
-    ghost use Rattle.oci_json_schema.specs.Types.{variant_plain};
-    ghost use Rattle.oci_process_texts.specs.LinuxSchedulerPolicy.{linux_scheduler_policy_name, linux_scheduler_policy_default};
+    ghost use Rattle.oci_json_model.specs.Plain as plain;
+    ghost use Rattle.oci_json_model.specs.Types.{variant_plain};
+    ghost use Rattle.oci_process_names.specs.LinuxSchedulerPolicy.{linux_scheduler_policy_name, linux_scheduler_policy_default};
 
     /// The policy by which the process is chosen.
     pub fn policy(self, policy: LinuxSchedulerPolicy) -> Self

@@ -1,9 +1,9 @@
 //! The user that a process runs as (runtime specification, "Configuration", "User").
 ghost use Rattle.std.specs.Prelude.{◌≡◌, IfOk, IfErr};
 
-use oci_json_kinds::defaulted;
-use oci_json_schema::{
-    OciRecord, all_2, all_5, copy_optional, fault, optional, write_optional, write_required,
+use oci_json_members::defaulted;
+use oci_json_model::{
+    OciRecord, copy_optional, fault, optional, try_join2, try_join5, write_optional, write_required,
 };
 use oci_text_base::{OciSpecError, Result};
 use serde_json::{Map, Value};
@@ -181,20 +181,21 @@ impl User {
 }
 
 impl OciRecord for User {
-    ghost use Rattle.oci_json_kinds.specs.DefaultMembers.{default_number};
-    ghost use Rattle.oci_json_schema.specs.Same.{same_document, same_more, same_last, same_given, same_perhaps, same_texts, same_lists, same_numbers};
-    ghost use Rattle.oci_process.specs.User.{user, user_plain};
+    ghost use Rattle.oci_json_members.specs.DefaultMembers.{default_number};
+    ghost use Rattle.oci_json_model.specs.Same.{same_document, same_more, same_last, same_given, same_perhaps, same_texts, same_lists, same_numbers};
+    ghost use Rattle.oci_shapes.specs.User.{user};
+    ghost use Rattle.oci_process.specs.User.{user_plain};
 
     ghost shape = { user };
 
     ghost plain = { user_plain };
 
-    #[tactic(auto, using(oci_json_schema::proofs::Readers::refuses_others))]
+    #[tactic(auto, using(oci_json_model::proofs::Readers::refuses_others))]
     fn from_value(alloc: Global, value: &Value) -> Result<User> {
         if !value.is_object() {
             return Err(fault::refused(NAME, ""));
         }
-        let (uid, gid, umask, additional_gids, username) = all_5(
+        let (uid, gid, umask, additional_gids, username) = try_join5(
             defaulted(alloc, value, NAME, "uid"),
             defaulted(alloc, value, NAME, "gid"),
             optional(alloc, value, NAME, "umask"),
@@ -212,7 +213,7 @@ impl OciRecord for User {
 
     fn to_value(&self, alloc: Global) -> Result<Value> {
         let mut members = Map::new(alloc);
-        all_5(
+        try_join5(
             write_required(&mut members, alloc, "uid", &self.uid),
             write_required(&mut members, alloc, "gid", &self.gid),
             write_optional(&mut members, alloc, "umask", &self.umask),
@@ -223,7 +224,7 @@ impl OciRecord for User {
     }
 
     fn duplicate(&self, alloc: Global) -> Result<User> {
-        let (additional_gids, username) = all_2(
+        let (additional_gids, username) = try_join2(
             copy_optional(&self.additional_gids, alloc),
             copy_optional(&self.username, alloc),
         )?;
@@ -258,8 +259,8 @@ pub struct UserBuilder {
 
 impl UserBuilder {
     ghost use Rattle.std.specs.Prelude.{Some, unwrap_or, option_map, pos};
-    ghost use Rattle.oci_json_schema.specs.Plain as plain;
-    ghost use Rattle.oci_json_schema.specs.Types.{number_plain};
+    ghost use Rattle.oci_json_model.specs.Plain as plain;
+    ghost use Rattle.oci_json_model.specs.Types.{number_plain};
 
     /// The ID of the user, in the container.
     pub fn uid(self, uid: u32) -> Self

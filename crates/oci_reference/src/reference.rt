@@ -8,8 +8,8 @@ ghost use Rattle.oci_reference.specs.Written.{some_text, named, mark_if};
 use crate::limits::limit;
 use crate::names::{Named, default_name, repository_text};
 use crate::texts::{copied, lent, mark_if, owned, some_text, tag_or_latest, text_or_empty};
-use oci_json_schema::{
-    OciRecord, all_5, fault, optional, optional_owned, required, required_owned, taken_5,
+use oci_json_model::{
+    OciRecord, fault, optional, optional_owned, required, required_owned, taken_5, try_join5,
     write_optional, write_required,
 };
 use oci_reference_scan::{ParseError, parts};
@@ -335,19 +335,20 @@ impl Reference {
 }
 
 impl OciRecord for Reference {
-    ghost use Rattle.oci_json_schema.specs.Same.{same_document, same_more, same_last, same_given, same_perhaps, same_bytes};
-    ghost use Rattle.oci_reference.specs.Record.{reference, reference_plain};
+    ghost use Rattle.oci_json_model.specs.Same.{same_document, same_more, same_last, same_given, same_perhaps, same_bytes};
+    ghost use Rattle.oci_shapes.specs.Reference.{reference};
+    ghost use Rattle.oci_reference.specs.Record.{reference_plain};
 
     ghost shape = { reference };
 
     ghost plain = { reference_plain };
 
-    #[tactic(auto, using(oci_json_schema::proofs::Readers::refuses_others))]
+    #[tactic(auto, using(oci_json_model::proofs::Readers::refuses_others))]
     fn from_value(alloc: Global, value: &Value) -> oci_text_base::Result<Reference> {
         if !value.is_object() {
             return Err(fault::refused(NAME, ""));
         }
-        let (registry, mirror_registry, repository, tag, digest) = all_5(
+        let (registry, mirror_registry, repository, tag, digest) = try_join5(
             required(alloc, value, NAME, "registry"),
             optional(alloc, value, NAME, "mirror_registry"),
             required(alloc, value, NAME, "repository"),
@@ -363,7 +364,7 @@ impl OciRecord for Reference {
         })
     }
 
-    #[tactic(auto, using(oci_json_schema::proofs::Readers::refuses_others))]
+    #[tactic(auto, using(oci_json_model::proofs::Readers::refuses_others))]
     fn from_value_owned(alloc: Global, value: Value) -> oci_text_base::Result<Reference> {
         let Some((registry, mirror_registry, repository, tag, digest)) = taken_5(
             alloc,
@@ -373,7 +374,7 @@ impl OciRecord for Reference {
         else {
             return Err(fault::refused(NAME, ""));
         };
-        let (registry, mirror_registry, repository, tag, digest) = all_5(
+        let (registry, mirror_registry, repository, tag, digest) = try_join5(
             required_owned(alloc, registry, NAME, "registry"),
             optional_owned(alloc, mirror_registry, NAME, "mirror_registry"),
             required_owned(alloc, repository, NAME, "repository"),
@@ -391,7 +392,7 @@ impl OciRecord for Reference {
 
     fn to_value(&self, alloc: Global) -> oci_text_base::Result<Value> {
         let mut members = Map::new(alloc);
-        all_5(
+        try_join5(
             write_required(&mut members, alloc, "registry", &self.registry),
             write_optional(
                 &mut members,

@@ -1,7 +1,7 @@
-pub use Rattle.oci_runtime_parts.specs.Answers
-pub use Rattle.oci_runtime_parts.specs.Canonical
+pub use Rattle.oci_runtime_defaults.specs.Answers
+pub use Rattle.oci_runtime_defaults.specs.Canonical
 pub use Rattle.oci_runtime_records.specs.ContainerProcessState
-pub use Rattle.oci_runtime_records.specs.ContainerState
+pub use Rattle.oci_runtime_names.specs.ContainerState
 pub use Rattle.oci_runtime_records.specs.DefaultMounts
 pub use Rattle.oci_runtime_records.specs.Hook
 pub use Rattle.oci_runtime_records.specs.Hooks

@@ -1,13 +1,13 @@
 //! The builder of `Spec`.
 ghost use Rattle.std.specs.Prelude.{◌≡◌, IfOk, IfErr};
 
-use oci_json_schema::{all_2, all_3};
+use oci_json_model::{try_join2, try_join3};
 use oci_linux::Linux;
 use oci_linux_namespaces::LinuxIdMapping;
 use oci_platforms::{Solaris, VM, ZOS};
 use oci_platforms_windows::Windows;
 use oci_process::Process;
-use oci_runtime_parts::text_of;
+use oci_runtime_defaults::text_of;
 use oci_runtime_records::{Hooks, Mount, Root, get_default_mounts};
 use oci_runtime_spec::{Spec, bare};
 use oci_text_base::{OciSpecError, Result};
@@ -36,10 +36,10 @@ pub struct SpecBuilder {
 
 impl SpecBuilder {
     ghost use Rattle.std.specs.Prelude.{Some, unwrap_or, option_map, codes};
-    ghost use Rattle.oci_json_schema.specs.Plain as plain;
-    ghost use Rattle.oci_json_schema.specs.Plain.{filled};
+    ghost use Rattle.oci_json_model.specs.Plain as plain;
+    ghost use Rattle.oci_json_model.specs.Plain.{filled};
     ghost use Rattle.oci_runtime_records.specs.DefaultMounts.{default_mounts};
-    ghost use Rattle.oci_json_schema.specs.Types.{perhaps, text_plain, list_plain, map_plain};
+    ghost use Rattle.oci_json_model.specs.Types.{perhaps, text_plain, list_plain, map_plain};
     ghost use Rattle.oci_runtime_records.specs.Root.{root_plain, default_root};
     ghost use Rattle.oci_runtime_records.specs.Mount.{mount_plain};
     ghost use Rattle.oci_process.specs.Process.{process_plain, default_process};
@@ -231,13 +231,13 @@ impl SpecBuilder {
             uid_mappings,
             gid_mappings,
         } = self;
-        let ((version, root, mounts), (process, hostname, linux)) = all_2(
-            all_3(
+        let ((version, root, mounts), (process, hostname, linux)) = try_join2(
+            try_join3(
                 Self::version_or_default(alloc, version),
                 Self::root_or_default(alloc, root),
                 Self::mounts_or_default(alloc, mounts),
             ),
-            all_3(
+            try_join3(
                 Self::process_or_default(alloc, process),
                 Self::hostname_or_default(alloc, hostname),
                 Self::linux_or_default(alloc, linux),

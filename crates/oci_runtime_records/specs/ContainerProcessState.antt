@@ -1,28 +1,18 @@
 -- What a program that listens to a container's system calls is told (runtime specification, "Linux Container Configuration", "The Container Process State").
-use Rattle.std.specs.Prelude.{[], ◌∷◌, codes, pos, Option, String, Vec, ℤ}
+use Rattle.std.specs.Prelude.{[], ◌∷◌, pos, Option, String, Vec, ℤ}
 use Rattle.std.specs.Borrow.{Lends, MutBor, Fml}
 use Rattle.std.specs.declared.alloc.Global.{Global}
-use Rattle.oci_json_schema.specs.Plain as plain
-use Rattle.oci_json_schema.specs.Plain.{Plain, document, slots, empty, filled, no_plains}
-use Rattle.oci_json_schema.specs.Shape.{Shape, rows, no_rows, listed, optional, defaulted, text, list}
-use Rattle.oci_json_schema.specs.Types.{given, perhaps, text_plain, integer_plain, list_plain, i32}
-use Rattle.oci_json_schema.specs.Lent.{text_row, option_row, list_row}
+use Rattle.oci_json_model.specs.Plain as plain
+use Rattle.oci_json_model.specs.Plain.{Plain, document, slots, empty, filled}
+use Rattle.oci_json_model.specs.Types.{given, perhaps, text_plain, integer_plain, list_plain}
+use Rattle.oci_json_model.specs.Lent.{text_row, option_row, list_row}
 use Rattle.std.specs.Borrow as borrow
-use Rattle.oci_runtime_records.specs.State.{state, state_plain, default_state}
+use Rattle.oci_shapes.specs.State.{state, default_state}
+use Rattle.oci_runtime_records.specs.State.{state_plain}
 use Rattle.oci_runtime_records.specs.declared.state.State.{State}
 use Rattle.oci_runtime_records.specs.contracts.state.State as state
 use Rattle.oci_runtime_records.specs.declared.container_process_state.ContainerProcessState.{ContainerProcessState}
 use Rattle.oci_runtime_records.specs.contracts.container_process_state.ContainerProcessState.{the_row}
-
--- the members, in the order in which they are looked at
-abbrev pub container_process_state : Shape
-container_process_state = rows (
-    listed (codes "ociVersion") (defaulted (plain.text [])) text (
-    listed (codes "fds") (defaulted (plain.list plain.no_plains)) (list text) (
-    listed (codes "pid") (defaulted (plain.whole (pos 0))) i32 (
-    listed (codes "metadata") optional text (
-    listed (codes "state") (defaulted (default_state)) state
-    no_rows)))))
 
 -- the content of a document
 abbrev pub container_process_state_plain : ContainerProcessState → Plain

@@ -1,24 +1,14 @@
 -- A program that is run at a turn of a container's life (runtime specification, "Configuration", "POSIX-platform Hooks").
-use Rattle.std.specs.Prelude.{[], ◌∷◌, codes, Option, String, Vec, ℤ}
+use Rattle.std.specs.Prelude.{[], ◌∷◌, Option, String, Vec, ℤ}
 use Rattle.std.specs.Borrow.{Lends, MutBor, Fml}
 use Rattle.std.specs.declared.alloc.Global.{Global}
-use Rattle.oci_json_schema.specs.Plain as plain
-use Rattle.oci_json_schema.specs.Plain.{Plain, document, slots, empty, filled}
-use Rattle.oci_json_schema.specs.Shape.{Shape, rows, no_rows, listed, required, optional, text, list}
-use Rattle.oci_json_schema.specs.Types.{given, perhaps, text_plain, integer_plain, list_plain, i64}
-use Rattle.oci_json_schema.specs.Lent.{text_row, option_row, list_row}
+use Rattle.oci_json_model.specs.Plain as plain
+use Rattle.oci_json_model.specs.Plain.{Plain, document, slots, empty, filled}
+use Rattle.oci_json_model.specs.Types.{given, perhaps, text_plain, integer_plain, list_plain}
+use Rattle.oci_json_model.specs.Lent.{text_row, option_row, list_row}
 use Rattle.std.specs.Borrow as borrow
 use Rattle.oci_runtime_records.specs.declared.hook.Hook.{Hook}
 use Rattle.oci_runtime_records.specs.contracts.hook.Hook.{the_row}
-
--- the members, in the order in which they are looked at
-abbrev pub hook : Shape
-hook = rows (
-    listed (codes "path") required text (
-    listed (codes "args") optional (list text) (
-    listed (codes "env") optional (list text) (
-    listed (codes "timeout") optional i64
-    no_rows))))
 
 -- the content of a document
 abbrev pub hook_plain : Hook → Plain

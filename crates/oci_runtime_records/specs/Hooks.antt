@@ -1,27 +1,16 @@
 -- The programs that are run at the turns of a container's life, each list in its order (runtime specification, "Configuration", "POSIX-platform Hooks").
-use Rattle.std.specs.Prelude.{[], ◌∷◌, codes, Option, Vec}
+use Rattle.std.specs.Prelude.{[], ◌∷◌, Option, Vec}
 use Rattle.std.specs.Borrow.{Lends, MutBor, Fml}
 use Rattle.std.specs.declared.alloc.Global.{Global}
-use Rattle.oci_json_schema.specs.Plain.{Plain, document, slots, empty}
-use Rattle.oci_json_schema.specs.Shape.{Shape, rows, no_rows, listed, optional, list}
-use Rattle.oci_json_schema.specs.Types.{perhaps, list_plain}
-use Rattle.oci_json_schema.specs.Lent.{option_row, list_row}
-use Rattle.oci_runtime_records.specs.Hook.{hook, hook_plain}
+use Rattle.oci_json_model.specs.Plain.{Plain, document, slots, empty}
+use Rattle.oci_json_model.specs.Types.{perhaps, list_plain}
+use Rattle.oci_json_model.specs.Lent.{option_row, list_row}
+use Rattle.oci_shapes.specs.Hook.{hook}
+use Rattle.oci_runtime_records.specs.Hook.{hook_plain}
 use Rattle.oci_runtime_records.specs.declared.hook.Hook.{Hook}
 use Rattle.oci_runtime_records.specs.contracts.hook.Hook as hook
 use Rattle.oci_runtime_records.specs.declared.hooks.Hooks.{Hooks}
 use Rattle.oci_runtime_records.specs.contracts.hooks.Hooks.{the_row}
-
--- the members, in the order in which they are looked at
-abbrev pub hooks : Shape
-hooks = rows (
-    listed (codes "prestart") optional (list hook) (
-    listed (codes "createRuntime") optional (list hook) (
-    listed (codes "createContainer") optional (list hook) (
-    listed (codes "startContainer") optional (list hook) (
-    listed (codes "poststart") optional (list hook) (
-    listed (codes "poststop") optional (list hook)
-    no_rows))))))
 
 -- the content of a document
 abbrev pub hooks_plain : Hooks → Plain

@@ -1,7 +1,5 @@
 pub mod ContainerProcessState
-pub mod ContainerState
 pub mod DefaultMounts
-pub mod DefaultState
 pub mod Hook
 pub mod Hooks
 pub mod Mount

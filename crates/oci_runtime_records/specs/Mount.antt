@@ -1,28 +1,17 @@
 -- A mount that a container has beside its root (runtime specification, "Configuration", "Mounts").
-use Rattle.std.specs.Prelude.{[], ◌∷◌, codes, Option, String, Vec}
+use Rattle.std.specs.Prelude.{[], ◌∷◌, Option, String, Vec}
 use Rattle.std.specs.Borrow.{Lends, MutBor, Fml}
 use Rattle.std.specs.declared.alloc.Global.{Global}
-use Rattle.oci_json_schema.specs.Plain as plain
-use Rattle.oci_json_schema.specs.Plain.{Plain, document, slots, empty, filled}
-use Rattle.oci_json_schema.specs.Shape.{Shape, rows, no_rows, listed, required, optional, text, list}
-use Rattle.oci_json_schema.specs.Types.{given, perhaps, text_plain, list_plain}
-use Rattle.oci_json_schema.specs.Lent.{text_row, option_row, list_row}
-use Rattle.oci_linux_namespaces.specs.LinuxIdMapping.{linux_id_mapping, linux_id_mapping_plain}
+use Rattle.oci_json_model.specs.Plain as plain
+use Rattle.oci_json_model.specs.Plain.{Plain, document, slots, empty, filled}
+use Rattle.oci_json_model.specs.Types.{given, perhaps, text_plain, list_plain}
+use Rattle.oci_json_model.specs.Lent.{text_row, option_row, list_row}
+use Rattle.oci_shapes.specs.LinuxIdMapping.{linux_id_mapping}
+use Rattle.oci_linux_namespaces.specs.LinuxIdMapping.{linux_id_mapping_plain}
 use Rattle.oci_linux_namespaces.specs.declared.linux_id_mapping.LinuxIdMapping.{LinuxIdMapping}
 use Rattle.oci_linux_namespaces.specs.contracts.linux_id_mapping.LinuxIdMapping as linux_id_mapping
 use Rattle.oci_runtime_records.specs.declared.mount.Mount.{Mount}
 use Rattle.oci_runtime_records.specs.contracts.mount.Mount.{the_row}
-
--- the members, in the order in which they are looked at
-abbrev pub mount : Shape
-mount = rows (
-    listed (codes "destination") required text (
-    listed (codes "type") optional text (
-    listed (codes "source") optional text (
-    listed (codes "options") optional (list text) (
-    listed (codes "uidMappings") optional (list linux_id_mapping) (
-    listed (codes "gidMappings") optional (list linux_id_mapping)
-    no_rows))))))
 
 -- the content of a document
 abbrev pub mount_plain : Mount → Plain

@@ -1,30 +1,17 @@
 -- The state of a container (runtime specification, "Runtime and Lifecycle", "State").
-use Rattle.std.specs.Prelude.{[], ◌∷◌, codes, Option, String, ℤ}
+use Rattle.std.specs.Prelude.{[], ◌∷◌, Option, String, ℤ}
 use Rattle.std.specs.Borrow.{Lends, MutBor, Fml}
 use Rattle.std.specs.declared.alloc.Global.{Global}
 use Rattle.std.specs.BTreeMap.{BTreeMap}
-use Rattle.oci_json_schema.specs.Plain as plain
-use Rattle.oci_json_schema.specs.Plain.{Plain, document, slots, empty, filled}
-use Rattle.oci_runtime_records.specs.ContainerState.{container_state_table, container_state_name, container_state_default}
-use Rattle.oci_runtime_records.specs.declared.container_state.ContainerState.{ContainerState}
-use Rattle.oci_runtime_records.specs.contracts.container_state.ContainerState as container_state
-use Rattle.oci_json_schema.specs.Shape.{Shape, rows, no_rows, listed, optional, defaulted, text, named, map}
-use Rattle.oci_json_schema.specs.Types.{given, perhaps, text_plain, integer_plain, variant_plain, map_plain, i32}
-use Rattle.oci_json_schema.specs.Lent.{text_row, option_row, map_row}
+use Rattle.oci_json_model.specs.Plain.{Plain, document, slots}
+use Rattle.oci_runtime_names.specs.ContainerState.{container_state_name}
+use Rattle.oci_runtime_names.specs.declared.container_state.ContainerState.{ContainerState}
+use Rattle.oci_runtime_names.specs.contracts.container_state.ContainerState as container_state
+use Rattle.oci_json_model.specs.Types.{given, perhaps, text_plain, integer_plain, variant_plain, map_plain}
+use Rattle.oci_json_model.specs.Lent.{text_row, option_row, map_row}
 use Rattle.std.specs.Borrow as borrow
 use Rattle.oci_runtime_records.specs.declared.state.State.{State}
 use Rattle.oci_runtime_records.specs.contracts.state.State.{the_row}
-
--- the members, in the order in which they are looked at
-abbrev pub state : Shape
-state = rows (
-    listed (codes "ociVersion") (defaulted (plain.text [])) text (
-    listed (codes "id") (defaulted (plain.text [])) text (
-    listed (codes "status") (defaulted (plain.variant (container_state_name container_state_default))) (named container_state_table) (
-    listed (codes "pid") optional i32 (
-    listed (codes "bundle") (defaulted (plain.text [])) text (
-    listed (codes "annotations") optional (map text)
-    no_rows))))))
 
 -- the content of a document
 abbrev pub state_plain : State → Plain
@@ -35,17 +22,6 @@ state_plain x = document (slots (
     ∷ perhaps integer_plain x.pid
     ∷ given text_plain x.bundle
     ∷ perhaps (map_plain text_plain) x.annotations
-    ∷ []))
-
--- the content of the default document
-abbrev pub default_state : Plain
-default_state = document (slots (
-    filled (plain.text [])
-    ∷ filled (plain.text [])
-    ∷ filled (plain.variant (container_state_name container_state_default))
-    ∷ empty
-    ∷ filled (plain.text [])
-    ∷ empty
     ∷ []))
 
 -- what a document becomes where its `ociVersion` is lent

@@ -3,21 +3,22 @@ ghost use Rattle.std.specs.Prelude.{None, IfOk, IfErr};
 ghost use Rattle.serde_json.specs.View.{view};
 ghost use Rattle.serde_json.specs.Find.{get};
 ghost use Rattle.oci_text_base.specs.Refused.{IsSchema, IsMemoryOrSchema};
-ghost use Rattle.oci_json_schema.specs.Shape as presence;
-ghost use Rattle.oci_json_schema.specs.Means.{Means, MeansMember};
-ghost use Rattle.oci_json_schema.specs.Refused.{RefusesRecords};
-ghost use Rattle.oci_json_schema.specs.Types.{given};
-ghost use Rattle.oci_runtime_records.specs.State.{state, state_plain, default_state};
+ghost use Rattle.oci_json_model.specs.Shape as presence;
+ghost use Rattle.oci_json_model.specs.Means.{Means, MeansMember};
+ghost use Rattle.oci_json_model.specs.Refused.{RefusesRecords};
+ghost use Rattle.oci_json_model.specs.Types.{given};
+ghost use Rattle.oci_shapes.specs.State.{state, default_state};
+ghost use Rattle.oci_runtime_records.specs.State.{state_plain};
 
 use crate::state::State;
-use oci_json_schema::OciMember;
-use oci_json_schema::fault::placed;
+use oci_json_model::OciMember;
+use oci_json_model::fault::placed;
 use oci_text_base::Result;
 use serde_json::Value;
 use std::alloc::Global;
 
 /// Reads a member that may be absent, and then is the default state. Null is judged as any other value.
-#[tactic(auto, using(oci_json_kinds::proofs::Presences::defaulted_refused, oci_json_kinds::proofs::Presences::defaulted_means, oci_json_kinds::proofs::Presences::absent_means))]
+#[tactic(auto, using(oci_json_members::proofs::Presences::defaulted_refused, oci_json_members::proofs::Presences::defaulted_means, oci_json_members::proofs::Presences::absent_means))]
 pub(crate) fn defaulted_state(
     alloc: Global,
     value: &Value,

@@ -3,9 +3,9 @@ ghost use Rattle.std.specs.Prelude.{◌≡◌, IfOk, IfErr};
 
 use crate::absent::defaulted_state;
 use crate::state::State;
-use oci_json_kinds::defaulted;
-use oci_json_schema::{
-    OciMember, OciRecord, all_4, all_5, copy_optional, fault, optional, write_optional,
+use oci_json_members::defaulted;
+use oci_json_model::{
+    OciMember, OciRecord, copy_optional, fault, optional, try_join4, try_join5, write_optional,
     write_required,
 };
 use oci_text_base::{OciSpecError, Result};
@@ -184,22 +184,23 @@ impl ContainerProcessState {
 }
 
 impl OciRecord for ContainerProcessState {
-    ghost use Rattle.oci_json_kinds.specs.DefaultMembers.{default_list, default_name, default_number, default_text};
-    ghost use Rattle.oci_runtime_records.specs.DefaultState.{default_state_fits};
-    ghost use Rattle.oci_json_schema.specs.Same.{same_document, same_more, same_last, same_given, same_perhaps, same_texts, same_lists, same_integers};
-    ghost use Rattle.oci_runtime_records.specs.ContainerProcessState.{container_process_state, container_process_state_plain};
+    ghost use Rattle.oci_json_members.specs.DefaultMembers.{default_list, default_name, default_number, default_text};
+    ghost use Rattle.oci_shapes.specs.DefaultState.{default_state_fits};
+    ghost use Rattle.oci_json_model.specs.Same.{same_document, same_more, same_last, same_given, same_perhaps, same_texts, same_lists, same_integers};
+    ghost use Rattle.oci_shapes.specs.ContainerProcessState.{container_process_state};
+    ghost use Rattle.oci_runtime_records.specs.ContainerProcessState.{container_process_state_plain};
     ghost use Rattle.oci_runtime_records.specs.contracts.state.StateOciRecord.TheImpl.Laws.{same-law as state_same};
 
     ghost shape = { container_process_state };
 
     ghost plain = { container_process_state_plain };
 
-    #[tactic(auto, using(oci_json_schema::proofs::Readers::refuses_others))]
+    #[tactic(auto, using(oci_json_model::proofs::Readers::refuses_others))]
     fn from_value(alloc: Global, value: &Value) -> Result<ContainerProcessState> {
         if !value.is_object() {
             return Err(fault::refused(NAME, ""));
         }
-        let (version, fds, pid, metadata, state) = all_5(
+        let (version, fds, pid, metadata, state) = try_join5(
             defaulted(alloc, value, NAME, "ociVersion"),
             defaulted(alloc, value, NAME, "fds"),
             defaulted(alloc, value, NAME, "pid"),
@@ -217,7 +218,7 @@ impl OciRecord for ContainerProcessState {
 
     fn to_value(&self, alloc: Global) -> Result<Value> {
         let mut members = Map::new(alloc);
-        all_5(
+        try_join5(
             write_required(&mut members, alloc, "ociVersion", &self.version),
             write_required(&mut members, alloc, "fds", &self.fds),
             write_required(&mut members, alloc, "pid", &self.pid),
@@ -228,7 +229,7 @@ impl OciRecord for ContainerProcessState {
     }
 
     fn duplicate(&self, alloc: Global) -> Result<ContainerProcessState> {
-        let (version, fds, metadata, state) = all_4(
+        let (version, fds, metadata, state) = try_join4(
             self.version.copy(alloc),
             self.fds.copy(alloc),
             copy_optional(&self.metadata, alloc),
@@ -265,9 +266,10 @@ pub struct ContainerProcessStateBuilder {
 
 impl ContainerProcessStateBuilder {
     ghost use Rattle.std.specs.Prelude.{Some, unwrap_or, option_map, pos, []};
-    ghost use Rattle.oci_json_schema.specs.Plain as plain;
-    ghost use Rattle.oci_json_schema.specs.Types.{text_plain, integer_plain, list_plain};
-    ghost use Rattle.oci_runtime_records.specs.State.{state_plain, default_state};
+    ghost use Rattle.oci_json_model.specs.Plain as plain;
+    ghost use Rattle.oci_json_model.specs.Types.{text_plain, integer_plain, list_plain};
+    ghost use Rattle.oci_shapes.specs.State.{default_state};
+    ghost use Rattle.oci_runtime_records.specs.State.{state_plain};
 
     /// The version of the runtime specification that the state keeps to.
     pub fn version(self, version: String) -> Self

@@ -1,8 +1,8 @@
 //! Which mounts a container has by default (runtime specification, "Configuration", "Mounts"; "Linux Container
 //! Configuration", "Default Filesystems").
 ghost use Rattle.std.specs.Prelude.{◌≡◌, IfOk, IfErr, map};
-ghost use Rattle.oci_json_schema.specs.Plain as plain;
-ghost use Rattle.oci_json_schema.specs.Types.{list_plain};
+ghost use Rattle.oci_json_model.specs.Plain as plain;
+ghost use Rattle.oci_json_model.specs.Types.{list_plain};
 ghost use Rattle.oci_runtime_records.specs.Mount.{mount_plain};
 ghost use Rattle.oci_runtime_records.specs.DefaultMounts.{default_mounts, rootless_mounts, mount_of_row};
 

@@ -1,9 +1,9 @@
 //! A program that is run at a turn of a container's life (runtime specification, "Configuration", "POSIX-platform Hooks").
 ghost use Rattle.std.specs.Prelude.{◌≡◌, IfOk, IfErr};
 
-use oci_json_schema::{
-    OciMember, OciRecord, all_3, all_4, copy_optional, fault, optional, required, write_optional,
-    write_required,
+use oci_json_model::{
+    OciMember, OciRecord, copy_optional, fault, optional, required, try_join3, try_join4,
+    write_optional, write_required,
 };
 use oci_text_base::{OciSpecError, Result};
 use serde_json::{Map, Value};
@@ -154,19 +154,20 @@ impl Hook {
 }
 
 impl OciRecord for Hook {
-    ghost use Rattle.oci_json_schema.specs.Same.{same_document, same_more, same_last, same_given, same_perhaps, same_texts, same_lists, same_integers};
-    ghost use Rattle.oci_runtime_records.specs.Hook.{hook, hook_plain};
+    ghost use Rattle.oci_json_model.specs.Same.{same_document, same_more, same_last, same_given, same_perhaps, same_texts, same_lists, same_integers};
+    ghost use Rattle.oci_shapes.specs.Hook.{hook};
+    ghost use Rattle.oci_runtime_records.specs.Hook.{hook_plain};
 
     ghost shape = { hook };
 
     ghost plain = { hook_plain };
 
-    #[tactic(auto, using(oci_json_schema::proofs::Readers::refuses_others))]
+    #[tactic(auto, using(oci_json_model::proofs::Readers::refuses_others))]
     fn from_value(alloc: Global, value: &Value) -> Result<Hook> {
         if !value.is_object() {
             return Err(fault::refused(NAME, ""));
         }
-        let (path, args, env, timeout) = all_4(
+        let (path, args, env, timeout) = try_join4(
             required(alloc, value, NAME, "path"),
             optional(alloc, value, NAME, "args"),
             optional(alloc, value, NAME, "env"),
@@ -182,7 +183,7 @@ impl OciRecord for Hook {
 
     fn to_value(&self, alloc: Global) -> Result<Value> {
         let mut members = Map::new(alloc);
-        all_4(
+        try_join4(
             write_required(&mut members, alloc, "path", &self.path),
             write_optional(&mut members, alloc, "args", &self.args),
             write_optional(&mut members, alloc, "env", &self.env),
@@ -192,7 +193,7 @@ impl OciRecord for Hook {
     }
 
     fn duplicate(&self, alloc: Global) -> Result<Hook> {
-        let (path, args, env) = all_3(
+        let (path, args, env) = try_join3(
             self.path.copy(alloc),
             copy_optional(&self.args, alloc),
             copy_optional(&self.env, alloc),
@@ -225,8 +226,8 @@ pub struct HookBuilder {
 
 impl HookBuilder {
     ghost use Rattle.std.specs.Prelude.{Some, unwrap_or, option_map, []};
-    ghost use Rattle.oci_json_schema.specs.Plain as plain;
-    ghost use Rattle.oci_json_schema.specs.Types.{text_plain};
+    ghost use Rattle.oci_json_model.specs.Plain as plain;
+    ghost use Rattle.oci_json_model.specs.Types.{text_plain};
 
     /// The program, an absolute path.
     pub fn path(self, path: String) -> Self

@@ -2,7 +2,9 @@
 ghost use Rattle.std.specs.Prelude.{◌≡◌, IfOk, IfErr};
 
 use crate::hook::Hook;
-use oci_json_schema::{OciRecord, all_2, all_3, copy_optional, fault, optional, write_optional};
+use oci_json_model::{
+    OciRecord, copy_optional, fault, optional, try_join2, try_join3, write_optional,
+};
 use oci_text_base::{OciSpecError, Result};
 use serde_json::{Map, Value};
 use std::alloc::Global;
@@ -206,27 +208,28 @@ impl Hooks {
 }
 
 impl OciRecord for Hooks {
-    ghost use Rattle.oci_json_schema.specs.Same.{same_document, same_more, same_last, same_perhaps, same_lists};
-    ghost use Rattle.oci_runtime_records.specs.Hooks.{hooks, hooks_plain};
+    ghost use Rattle.oci_json_model.specs.Same.{same_document, same_more, same_last, same_perhaps, same_lists};
+    ghost use Rattle.oci_shapes.specs.Hooks.{hooks};
+    ghost use Rattle.oci_runtime_records.specs.Hooks.{hooks_plain};
     ghost use Rattle.oci_runtime_records.specs.contracts.hook.HookOciRecord.TheImpl.Laws.{same-law as hook_same};
 
     ghost shape = { hooks };
 
     ghost plain = { hooks_plain };
 
-    #[tactic(auto, using(oci_json_schema::proofs::Readers::refuses_others))]
+    #[tactic(auto, using(oci_json_model::proofs::Readers::refuses_others))]
     fn from_value(alloc: Global, value: &Value) -> Result<Hooks> {
         if !value.is_object() {
             return Err(fault::refused(NAME, ""));
         }
         let ((prestart, create_runtime, create_container), (start_container, poststart, poststop)) =
-            all_2(
-                all_3(
+            try_join2(
+                try_join3(
                     optional(alloc, value, NAME, "prestart"),
                     optional(alloc, value, NAME, "createRuntime"),
                     optional(alloc, value, NAME, "createContainer"),
                 ),
-                all_3(
+                try_join3(
                     optional(alloc, value, NAME, "startContainer"),
                     optional(alloc, value, NAME, "poststart"),
                     optional(alloc, value, NAME, "poststop"),
@@ -244,8 +247,8 @@ impl OciRecord for Hooks {
 
     fn to_value(&self, alloc: Global) -> Result<Value> {
         let mut members = Map::new(alloc);
-        all_2(
-            all_3(
+        try_join2(
+            try_join3(
                 write_optional(&mut members, alloc, "prestart", &self.prestart),
                 write_optional(&mut members, alloc, "createRuntime", &self.create_runtime),
                 write_optional(
@@ -255,7 +258,7 @@ impl OciRecord for Hooks {
                     &self.create_container,
                 ),
             ),
-            all_3(
+            try_join3(
                 write_optional(&mut members, alloc, "startContainer", &self.start_container),
                 write_optional(&mut members, alloc, "poststart", &self.poststart),
                 write_optional(&mut members, alloc, "poststop", &self.poststop),
@@ -266,13 +269,13 @@ impl OciRecord for Hooks {
 
     fn duplicate(&self, alloc: Global) -> Result<Hooks> {
         let ((prestart, create_runtime, create_container), (start_container, poststart, poststop)) =
-            all_2(
-                all_3(
+            try_join2(
+                try_join3(
                     copy_optional(&self.prestart, alloc),
                     copy_optional(&self.create_runtime, alloc),
                     copy_optional(&self.create_container, alloc),
                 ),
-                all_3(
+                try_join3(
                     copy_optional(&self.start_container, alloc),
                     copy_optional(&self.poststart, alloc),
                     copy_optional(&self.poststop, alloc),

@@ -5,7 +5,6 @@
 
 mod absent;
 pub mod container_process_state;
-pub mod container_state;
 mod defaults;
 pub mod hook;
 pub mod hooks;
@@ -14,11 +13,11 @@ pub mod root;
 pub mod state;
 
 pub use container_process_state::{ContainerProcessState, ContainerProcessStateBuilder};
-pub use container_state::ContainerState;
 pub use defaults::{get_default_mounts, get_rootless_mounts};
 pub use hook::{Hook, HookBuilder};
 pub use hooks::{Hooks, HooksBuilder};
 pub use mount::{Mount, MountBuilder};
+pub use oci_runtime_names::ContainerState;
 pub use root::{Root, RootBuilder};
 pub use state::{State, StateBuilder};
 

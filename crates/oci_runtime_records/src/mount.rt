@@ -4,9 +4,9 @@ ghost use Rattle.std.specs.Prelude.{◌≡◌, IfOk, IfErr};
 mod build;
 mod rows;
 
-use oci_json_schema::{
-    OciMember, OciRecord, all_2, all_3, copy_optional, fault, optional, required, write_optional,
-    write_required,
+use oci_json_model::{
+    OciMember, OciRecord, copy_optional, fault, optional, required, try_join2, try_join3,
+    write_optional, write_required,
 };
 use oci_linux_namespaces::LinuxIdMapping;
 use oci_text_base::{OciSpecError, Result};
@@ -212,27 +212,28 @@ impl Mount {
 }
 
 impl OciRecord for Mount {
-    ghost use Rattle.oci_json_kinds.specs.DefaultMembers.{default_number};
-    ghost use Rattle.oci_json_schema.specs.Same.{same_document, same_more, same_last, same_given, same_perhaps, same_texts, same_lists};
-    ghost use Rattle.oci_runtime_records.specs.Mount.{mount, mount_plain};
+    ghost use Rattle.oci_json_members.specs.DefaultMembers.{default_number};
+    ghost use Rattle.oci_json_model.specs.Same.{same_document, same_more, same_last, same_given, same_perhaps, same_texts, same_lists};
+    ghost use Rattle.oci_shapes.specs.Mount.{mount};
+    ghost use Rattle.oci_runtime_records.specs.Mount.{mount_plain};
     ghost use Rattle.oci_linux_namespaces.specs.contracts.linux_id_mapping.LinuxIdMappingOciRecord.TheImpl.Laws.{same-law as linux_id_mapping_same};
 
     ghost shape = { mount };
 
     ghost plain = { mount_plain };
 
-    #[tactic(auto, using(oci_json_schema::proofs::Readers::refuses_others))]
+    #[tactic(auto, using(oci_json_model::proofs::Readers::refuses_others))]
     fn from_value(alloc: Global, value: &Value) -> Result<Mount> {
         if !value.is_object() {
             return Err(fault::refused(NAME, ""));
         }
-        let ((destination, typ, source), (options, uid_mappings, gid_mappings)) = all_2(
-            all_3(
+        let ((destination, typ, source), (options, uid_mappings, gid_mappings)) = try_join2(
+            try_join3(
                 required(alloc, value, NAME, "destination"),
                 optional(alloc, value, NAME, "type"),
                 optional(alloc, value, NAME, "source"),
             ),
-            all_3(
+            try_join3(
                 optional(alloc, value, NAME, "options"),
                 optional(alloc, value, NAME, "uidMappings"),
                 optional(alloc, value, NAME, "gidMappings"),
@@ -250,13 +251,13 @@ impl OciRecord for Mount {
 
     fn to_value(&self, alloc: Global) -> Result<Value> {
         let mut members = Map::new(alloc);
-        all_2(
-            all_3(
+        try_join2(
+            try_join3(
                 write_required(&mut members, alloc, "destination", &self.destination),
                 write_optional(&mut members, alloc, "type", &self.typ),
                 write_optional(&mut members, alloc, "source", &self.source),
             ),
-            all_3(
+            try_join3(
                 write_optional(&mut members, alloc, "options", &self.options),
                 write_optional(&mut members, alloc, "uidMappings", &self.uid_mappings),
                 write_optional(&mut members, alloc, "gidMappings", &self.gid_mappings),
@@ -266,13 +267,13 @@ impl OciRecord for Mount {
     }
 
     fn duplicate(&self, alloc: Global) -> Result<Mount> {
-        let ((destination, typ, source), (options, uid_mappings, gid_mappings)) = all_2(
-            all_3(
+        let ((destination, typ, source), (options, uid_mappings, gid_mappings)) = try_join2(
+            try_join3(
                 self.destination.copy(alloc),
                 copy_optional(&self.typ, alloc),
                 copy_optional(&self.source, alloc),
             ),
-            all_3(
+            try_join3(
                 copy_optional(&self.options, alloc),
                 copy_optional(&self.uid_mappings, alloc),
                 copy_optional(&self.gid_mappings, alloc),

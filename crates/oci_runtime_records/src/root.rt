@@ -1,9 +1,9 @@
 //! The root of a container's file system (runtime specification, "Configuration", "Root").
 ghost use Rattle.std.specs.Prelude.{◌≡◌, IfOk, IfErr};
 
-use oci_json_kinds::defaulted;
-use oci_json_schema::{
-    OciMember, OciRecord, all_2, fault, optional, write_optional, write_required,
+use oci_json_members::defaulted;
+use oci_json_model::{
+    OciMember, OciRecord, fault, optional, try_join2, write_optional, write_required,
 };
 use oci_text_base::{OciSpecError, Result};
 use serde_json::{Map, Value};
@@ -80,20 +80,21 @@ impl Root {
 }
 
 impl OciRecord for Root {
-    ghost use Rattle.oci_json_kinds.specs.DefaultMembers.{default_text};
-    ghost use Rattle.oci_json_schema.specs.Same.{same_document, same_more, same_last, same_given, same_perhaps, same_texts, same_truths};
-    ghost use Rattle.oci_runtime_records.specs.Root.{root, root_plain};
+    ghost use Rattle.oci_json_members.specs.DefaultMembers.{default_text};
+    ghost use Rattle.oci_json_model.specs.Same.{same_document, same_more, same_last, same_given, same_perhaps, same_texts, same_truths};
+    ghost use Rattle.oci_shapes.specs.Root.{root};
+    ghost use Rattle.oci_runtime_records.specs.Root.{root_plain};
 
     ghost shape = { root };
 
     ghost plain = { root_plain };
 
-    #[tactic(auto, using(oci_json_schema::proofs::Readers::refuses_others))]
+    #[tactic(auto, using(oci_json_model::proofs::Readers::refuses_others))]
     fn from_value(alloc: Global, value: &Value) -> Result<Root> {
         if !value.is_object() {
             return Err(fault::refused(NAME, ""));
         }
-        let (path, readonly) = all_2(
+        let (path, readonly) = try_join2(
             defaulted(alloc, value, NAME, "path"),
             optional(alloc, value, NAME, "readonly"),
         )?;
@@ -102,7 +103,7 @@ impl OciRecord for Root {
 
     fn to_value(&self, alloc: Global) -> Result<Value> {
         let mut members = Map::new(alloc);
-        all_2(
+        try_join2(
             write_required(&mut members, alloc, "path", &self.path),
             write_optional(&mut members, alloc, "readonly", &self.readonly),
         )?;
@@ -132,9 +133,9 @@ pub struct RootBuilder {
 
 impl RootBuilder {
     ghost use Rattle.std.specs.Prelude.{Some, unwrap_or, option_map, codes, true};
-    ghost use Rattle.oci_json_schema.specs.Plain as plain;
-    ghost use Rattle.oci_json_schema.specs.Plain.{filled};
-    ghost use Rattle.oci_json_schema.specs.Types.{perhaps, text_plain, truth_plain};
+    ghost use Rattle.oci_json_model.specs.Plain as plain;
+    ghost use Rattle.oci_json_model.specs.Plain.{filled};
+    ghost use Rattle.oci_json_model.specs.Types.{perhaps, text_plain, truth_plain};
 
     /// The path of the root on the host, absolute or from the bundle on.
     pub fn path(self, path: String) -> Self

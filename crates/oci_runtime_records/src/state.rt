@@ -3,12 +3,12 @@ ghost use Rattle.std.specs.Prelude.{◌≡◌, IfOk, IfErr};
 
 mod files;
 
-use crate::container_state::ContainerState;
-use oci_json_kinds::defaulted;
-use oci_json_schema::{
-    OciMember, OciRecord, all_2, all_3, all_4, copy_optional, fault, optional, write_optional,
-    write_required,
+use oci_json_members::defaulted;
+use oci_json_model::{
+    OciMember, OciRecord, copy_optional, fault, optional, try_join2, try_join3, try_join4,
+    write_optional, write_required,
 };
+use oci_runtime_names::ContainerState;
 use oci_text_base::{OciSpecError, Result};
 use serde_json::{Map, Value};
 use std::alloc::Global;
@@ -42,7 +42,8 @@ impl Drop for State {
 
 impl State {
     ghost use Rattle.std.specs.Borrow.{sem};
-    ghost use Rattle.oci_runtime_records.specs.State.{default_state, state_plain, lends_version, lends_id, lends_status, lends_pid, lends_bundle, lends_annotations};
+    ghost use Rattle.oci_shapes.specs.State.{default_state};
+    ghost use Rattle.oci_runtime_records.specs.State.{state_plain, lends_version, lends_id, lends_status, lends_pid, lends_bundle, lends_annotations};
 
     /// An equal document.
     pub fn clone(&self, alloc: Global) -> Result<State>
@@ -213,27 +214,28 @@ impl State {
 }
 
 impl OciRecord for State {
-    ghost use Rattle.oci_runtime_records.specs.ContainerState.{container_state_same};
-    ghost use Rattle.oci_json_kinds.specs.DefaultMembers.{default_name, default_text};
-    ghost use Rattle.oci_json_schema.specs.Same.{same_document, same_more, same_last, same_given, same_perhaps, same_texts, same_maps, same_integers, same_variants};
-    ghost use Rattle.oci_runtime_records.specs.State.{state, state_plain};
+    ghost use Rattle.oci_runtime_names.specs.ContainerState.{container_state_same};
+    ghost use Rattle.oci_json_members.specs.DefaultMembers.{default_name, default_text};
+    ghost use Rattle.oci_json_model.specs.Same.{same_document, same_more, same_last, same_given, same_perhaps, same_texts, same_maps, same_integers, same_variants};
+    ghost use Rattle.oci_shapes.specs.State.{state};
+    ghost use Rattle.oci_runtime_records.specs.State.{state_plain};
 
     ghost shape = { state };
 
     ghost plain = { state_plain };
 
-    #[tactic(auto, using(oci_json_schema::proofs::Readers::refuses_others))]
+    #[tactic(auto, using(oci_json_model::proofs::Readers::refuses_others))]
     fn from_value(alloc: Global, value: &Value) -> Result<State> {
         if !value.is_object() {
             return Err(fault::refused(NAME, ""));
         }
-        let ((version, id, status), (pid, bundle, annotations)) = all_2(
-            all_3(
+        let ((version, id, status), (pid, bundle, annotations)) = try_join2(
+            try_join3(
                 defaulted(alloc, value, NAME, "ociVersion"),
                 defaulted(alloc, value, NAME, "id"),
                 defaulted(alloc, value, NAME, "status"),
             ),
-            all_3(
+            try_join3(
                 optional(alloc, value, NAME, "pid"),
                 defaulted(alloc, value, NAME, "bundle"),
                 optional(alloc, value, NAME, "annotations"),
@@ -251,13 +253,13 @@ impl OciRecord for State {
 
     fn to_value(&self, alloc: Global) -> Result<Value> {
         let mut members = Map::new(alloc);
-        all_2(
-            all_3(
+        try_join2(
+            try_join3(
                 write_required(&mut members, alloc, "ociVersion", &self.version),
                 write_required(&mut members, alloc, "id", &self.id),
                 write_required(&mut members, alloc, "status", &self.status),
             ),
-            all_3(
+            try_join3(
                 write_optional(&mut members, alloc, "pid", &self.pid),
                 write_required(&mut members, alloc, "bundle", &self.bundle),
                 write_optional(&mut members, alloc, "annotations", &self.annotations),
@@ -267,7 +269,7 @@ impl OciRecord for State {
     }
 
     fn duplicate(&self, alloc: Global) -> Result<State> {
-        let (version, id, bundle, annotations) = all_4(
+        let (version, id, bundle, annotations) = try_join4(
             self.version.copy(alloc),
             self.id.copy(alloc),
             self.bundle.copy(alloc),
@@ -307,9 +309,9 @@ pub struct StateBuilder {
 
 impl StateBuilder {
     ghost use Rattle.std.specs.Prelude.{Some, unwrap_or, option_map, []};
-    ghost use Rattle.oci_json_schema.specs.Plain as plain;
-    ghost use Rattle.oci_json_schema.specs.Types.{text_plain, variant_plain};
-    ghost use Rattle.oci_runtime_records.specs.ContainerState.{container_state_name, container_state_default};
+    ghost use Rattle.oci_json_model.specs.Plain as plain;
+    ghost use Rattle.oci_json_model.specs.Types.{text_plain, variant_plain};
+    ghost use Rattle.oci_runtime_names.specs.ContainerState.{container_state_name, container_state_default};
 
     /// The version of the runtime specification that the state keeps to.
     pub fn version(self, version: String) -> Self

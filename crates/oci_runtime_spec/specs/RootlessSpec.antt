@@ -1,7 +1,7 @@
 -- What the specification of a container is that a user without privileges starts (runtime specification, "Configuration"; "Linux Container Configuration", "User namespace mappings").
 use Rattle.std.specs.Prelude.{ℕ, [], ◌∷◌, codes}
-use Rattle.oci_json_schema.specs.Plain as plain
-use Rattle.oci_json_schema.specs.Plain.{Plain, document, slots, empty, filled}
+use Rattle.oci_json_model.specs.Plain as plain
+use Rattle.oci_json_model.specs.Plain.{Plain, document, slots, empty, filled}
 use Rattle.oci_process.specs.Process.{default_process}
 use Rattle.oci_linux.specs.Rootless.{rootless_linux}
 use Rattle.oci_runtime_records.specs.DefaultMounts.{rootless_mounts}

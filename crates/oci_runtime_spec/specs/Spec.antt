@@ -3,64 +3,53 @@ use Rattle.std.specs.Prelude.{[], ◌∷◌, codes, Option, String, Vec}
 use Rattle.std.specs.Borrow.{Lends, MutBor, Fml}
 use Rattle.std.specs.declared.alloc.Global.{Global}
 use Rattle.std.specs.BTreeMap.{BTreeMap}
-use Rattle.oci_json_schema.specs.Plain as plain
-use Rattle.oci_json_schema.specs.Plain.{Plain, document, slots, empty, filled}
-use Rattle.oci_json_schema.specs.Shape.{Shape, rows, no_rows, listed, optional, defaulted, text, list, map}
-use Rattle.oci_json_schema.specs.Types.{given, perhaps, text_plain, list_plain, map_plain}
-use Rattle.oci_json_schema.specs.Lent.{text_row, option_row, list_row, map_row}
-use Rattle.oci_runtime_records.specs.Root.{root, root_plain, default_root}
+use Rattle.oci_json_model.specs.Plain as plain
+use Rattle.oci_json_model.specs.Plain.{Plain, document, slots, empty, filled}
+use Rattle.oci_json_model.specs.Types.{given, perhaps, text_plain, list_plain, map_plain}
+use Rattle.oci_json_model.specs.Lent.{text_row, option_row, list_row, map_row}
+use Rattle.oci_shapes.specs.Root.{root}
+use Rattle.oci_runtime_records.specs.Root.{root_plain, default_root}
 use Rattle.oci_runtime_records.specs.declared.root.Root.{Root}
 use Rattle.oci_runtime_records.specs.contracts.root.Root as root
-use Rattle.oci_runtime_records.specs.Mount.{mount, mount_plain}
+use Rattle.oci_shapes.specs.Mount.{mount}
+use Rattle.oci_runtime_records.specs.Mount.{mount_plain}
 use Rattle.oci_runtime_records.specs.declared.mount.Mount.{Mount}
 use Rattle.oci_runtime_records.specs.contracts.mount.Mount as mount
-use Rattle.oci_process.specs.Process.{process, process_plain, default_process}
+use Rattle.oci_shapes.specs.Process.{process}
+use Rattle.oci_process.specs.Process.{process_plain, default_process}
 use Rattle.oci_process.specs.declared.process.Process.{Process}
 use Rattle.oci_process.specs.contracts.process.Process as process
-use Rattle.oci_runtime_records.specs.Hooks.{hooks, hooks_plain}
+use Rattle.oci_shapes.specs.Hooks.{hooks}
+use Rattle.oci_runtime_records.specs.Hooks.{hooks_plain}
 use Rattle.oci_runtime_records.specs.declared.hooks.Hooks.{Hooks}
 use Rattle.oci_runtime_records.specs.contracts.hooks.Hooks as hooks
-use Rattle.oci_linux.specs.Linux.{linux, linux_plain, default_linux}
+use Rattle.oci_shapes.specs.Linux.{linux}
+use Rattle.oci_linux.specs.Linux.{linux_plain, default_linux}
 use Rattle.oci_linux.specs.declared.linux.Linux.{Linux}
 use Rattle.oci_linux.specs.contracts.linux.Linux as linux
-use Rattle.oci_platforms.specs.Solaris.{solaris, solaris_plain}
+use Rattle.oci_shapes.specs.Solaris.{solaris}
+use Rattle.oci_platforms.specs.Solaris.{solaris_plain}
 use Rattle.oci_platforms.specs.declared.solaris.Solaris.{Solaris}
 use Rattle.oci_platforms.specs.contracts.solaris.Solaris as solaris
-use Rattle.oci_platforms_windows.specs.Windows.{windows, windows_plain}
+use Rattle.oci_shapes.specs.Windows.{windows}
+use Rattle.oci_platforms_windows.specs.Windows.{windows_plain}
 use Rattle.oci_platforms_windows.specs.declared.windows.Windows.{Windows}
 use Rattle.oci_platforms_windows.specs.contracts.windows.Windows as windows
-use Rattle.oci_platforms.specs.VM.{vm, vm_plain}
+use Rattle.oci_shapes.specs.VM.{vm}
+use Rattle.oci_platforms.specs.VM.{vm_plain}
 use Rattle.oci_platforms.specs.declared.vm.VM.{VM}
 use Rattle.oci_platforms.specs.contracts.vm.VM as vm
-use Rattle.oci_platforms.specs.ZOS.{zos, zos_plain}
+use Rattle.oci_shapes.specs.ZOS.{zos}
+use Rattle.oci_platforms.specs.ZOS.{zos_plain}
 use Rattle.oci_platforms.specs.declared.zos.ZOS.{ZOS}
 use Rattle.oci_platforms.specs.contracts.zos.ZOS as zos
-use Rattle.oci_linux_namespaces.specs.LinuxIdMapping.{linux_id_mapping, linux_id_mapping_plain}
+use Rattle.oci_shapes.specs.LinuxIdMapping.{linux_id_mapping}
+use Rattle.oci_linux_namespaces.specs.LinuxIdMapping.{linux_id_mapping_plain}
 use Rattle.oci_linux_namespaces.specs.declared.linux_id_mapping.LinuxIdMapping.{LinuxIdMapping}
 use Rattle.oci_linux_namespaces.specs.contracts.linux_id_mapping.LinuxIdMapping as linux_id_mapping
 use Rattle.oci_runtime_records.specs.DefaultMounts.{default_mounts}
 use Rattle.oci_runtime_spec.specs.declared.spec.Spec.{Spec}
 use Rattle.oci_runtime_spec.specs.contracts.spec.Spec.{the_row}
-
--- the members, in the order in which they are looked at
-abbrev pub spec : Shape
-spec = rows (
-    listed (codes "ociVersion") (defaulted (plain.text [])) text (
-    listed (codes "root") optional root (
-    listed (codes "mounts") optional (list mount) (
-    listed (codes "process") optional process (
-    listed (codes "hostname") optional text (
-    listed (codes "domainname") optional text (
-    listed (codes "hooks") optional hooks (
-    listed (codes "annotations") optional (map text) (
-    listed (codes "linux") optional linux (
-    listed (codes "solaris") optional solaris (
-    listed (codes "windows") optional windows (
-    listed (codes "vm") optional vm (
-    listed (codes "zos") optional zos (
-    listed (codes "uidMappings") optional (list linux_id_mapping) (
-    listed (codes "gidMappings") optional (list linux_id_mapping)
-    no_rows)))))))))))))))
 
 -- the content of a document
 abbrev pub spec_plain : Spec → Plain

@@ -6,17 +6,17 @@ mod files;
 mod rootfs;
 mod rootless;
 
-use oci_json_kinds::defaulted;
-use oci_json_schema::{
-    OciMember, OciRecord, all_2, all_3, all_5, copy_optional, fault, optional, write_optional,
-    write_required,
+use oci_json_members::defaulted;
+use oci_json_model::{
+    OciMember, OciRecord, copy_optional, fault, optional, try_join2, try_join3, try_join5,
+    write_optional, write_required,
 };
 use oci_linux::Linux;
 use oci_linux_namespaces::LinuxIdMapping;
 use oci_platforms::{Solaris, VM, ZOS};
 use oci_platforms_windows::Windows;
 use oci_process::Process;
-use oci_runtime_parts::text_of;
+use oci_runtime_defaults::text_of;
 use oci_runtime_records::{Hooks, Mount, Root, get_default_mounts};
 use oci_text_base::{OciSpecError, Result};
 use serde_json::{Map, Value};
@@ -122,13 +122,13 @@ impl Spec {
         ensures ok { IfOk result (λ x. spec_plain x ≡ default_spec) }
         ensures err { IfErr result (λ e. e ≡ OciSpecError.Memory) }
     {
-        let ((version, root, mounts), (process, hostname, linux)) = all_2(
-            all_3(
+        let ((version, root, mounts), (process, hostname, linux)) = try_join2(
+            try_join3(
                 text_of(alloc, "1.0.2-dev"),
                 Root::try_default(alloc),
                 get_default_mounts(alloc),
             ),
-            all_3(
+            try_join3(
                 Process::try_default(alloc),
                 text_of(alloc, "youki"),
                 Linux::try_default(alloc),
@@ -155,9 +155,10 @@ impl Spec {
 }
 
 impl OciRecord for Spec {
-    ghost use Rattle.oci_json_kinds.specs.DefaultMembers.{default_name, default_number, default_text, default_truth};
-    ghost use Rattle.oci_json_schema.specs.Same.{same_document, same_more, same_last, same_given, same_perhaps, same_texts, same_lists, same_maps};
-    ghost use Rattle.oci_runtime_spec.specs.Spec.{spec, spec_plain};
+    ghost use Rattle.oci_json_members.specs.DefaultMembers.{default_name, default_number, default_text, default_truth};
+    ghost use Rattle.oci_json_model.specs.Same.{same_document, same_more, same_last, same_given, same_perhaps, same_texts, same_lists, same_maps};
+    ghost use Rattle.oci_shapes.specs.Spec.{spec};
+    ghost use Rattle.oci_runtime_spec.specs.Spec.{spec_plain};
     ghost use Rattle.oci_runtime_records.specs.contracts.root.RootOciRecord.TheImpl.Laws.{same-law as root_same};
     ghost use Rattle.oci_runtime_records.specs.contracts.mount.MountOciRecord.TheImpl.Laws.{same-law as mount_same};
     ghost use Rattle.oci_process.specs.contracts.process.ProcessOciRecord.TheImpl.Laws.{same-law as process_same};
@@ -173,7 +174,7 @@ impl OciRecord for Spec {
 
     ghost plain = { spec_plain };
 
-    #[tactic(auto, using(oci_json_schema::proofs::Readers::refuses_others))]
+    #[tactic(auto, using(oci_json_model::proofs::Readers::refuses_others))]
     fn from_value(alloc: Global, value: &Value) -> Result<Spec> {
         if !value.is_object() {
             return Err(fault::refused(NAME, ""));
@@ -182,22 +183,22 @@ impl OciRecord for Spec {
             (version, root, mounts, process, hostname),
             (domainname, hooks, annotations, linux, solaris),
             (windows, vm, zos, uid_mappings, gid_mappings),
-        ) = all_3(
-            all_5(
+        ) = try_join3(
+            try_join5(
                 defaulted(alloc, value, NAME, "ociVersion"),
                 optional(alloc, value, NAME, "root"),
                 optional(alloc, value, NAME, "mounts"),
                 optional(alloc, value, NAME, "process"),
                 optional(alloc, value, NAME, "hostname"),
             ),
-            all_5(
+            try_join5(
                 optional(alloc, value, NAME, "domainname"),
                 optional(alloc, value, NAME, "hooks"),
                 optional(alloc, value, NAME, "annotations"),
                 optional(alloc, value, NAME, "linux"),
                 optional(alloc, value, NAME, "solaris"),
             ),
-            all_5(
+            try_join5(
                 optional(alloc, value, NAME, "windows"),
                 optional(alloc, value, NAME, "vm"),
                 optional(alloc, value, NAME, "zos"),
@@ -226,22 +227,22 @@ impl OciRecord for Spec {
 
     fn to_value(&self, alloc: Global) -> Result<Value> {
         let mut members = Map::new(alloc);
-        all_3(
-            all_5(
+        try_join3(
+            try_join5(
                 write_required(&mut members, alloc, "ociVersion", &self.version),
                 write_optional(&mut members, alloc, "root", &self.root),
                 write_optional(&mut members, alloc, "mounts", &self.mounts),
                 write_optional(&mut members, alloc, "process", &self.process),
                 write_optional(&mut members, alloc, "hostname", &self.hostname),
             ),
-            all_5(
+            try_join5(
                 write_optional(&mut members, alloc, "domainname", &self.domainname),
                 write_optional(&mut members, alloc, "hooks", &self.hooks),
                 write_optional(&mut members, alloc, "annotations", &self.annotations),
                 write_optional(&mut members, alloc, "linux", &self.linux),
                 write_optional(&mut members, alloc, "solaris", &self.solaris),
             ),
-            all_5(
+            try_join5(
                 write_optional(&mut members, alloc, "windows", &self.windows),
                 write_optional(&mut members, alloc, "vm", &self.vm),
                 write_optional(&mut members, alloc, "zos", &self.zos),
@@ -257,22 +258,22 @@ impl OciRecord for Spec {
             (version, root, mounts, process, hostname),
             (domainname, hooks, annotations, linux, solaris),
             (windows, vm, zos, uid_mappings, gid_mappings),
-        ) = all_3(
-            all_5(
+        ) = try_join3(
+            try_join5(
                 self.version.copy(alloc),
                 copy_optional(&self.root, alloc),
                 copy_optional(&self.mounts, alloc),
                 copy_optional(&self.process, alloc),
                 copy_optional(&self.hostname, alloc),
             ),
-            all_5(
+            try_join5(
                 copy_optional(&self.domainname, alloc),
                 copy_optional(&self.hooks, alloc),
                 copy_optional(&self.annotations, alloc),
                 copy_optional(&self.linux, alloc),
                 copy_optional(&self.solaris, alloc),
             ),
-            all_5(
+            try_join5(
                 copy_optional(&self.windows, alloc),
                 copy_optional(&self.vm, alloc),
                 copy_optional(&self.zos, alloc),

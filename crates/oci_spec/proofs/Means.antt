@@ -3,13 +3,13 @@ use Rattle.std.proofs.Common.{◌≡◌, ℕ, List, Option, Some, None, Result, 
 use Rattle.serde_json.specs.Data.{Data}
 use Rattle.serde_json.specs.View.{view}
 use Rattle.serde_json.specs.declared.value.Value.{Value}
-use Rattle.oci_json_schema.specs.Plain.{Plain}
-use Rattle.oci_json_schema.specs.Shape.{Shape}
-use Rattle.oci_json_schema.specs.Means.{Means}
-use Rattle.oci_json_schema.specs.Value.{value}
-use Rattle.oci_json_schema.specs.Writable.{Writable}
-use Rattle.oci_json_engines.specs.Engines.{MeansBytes, ReadsAs, IsNotNormalized}
-use Rattle.oci_json_form.specs.Conformed.{IsNotConformed}
+use Rattle.oci_json_model.specs.Plain.{Plain}
+use Rattle.oci_json_model.specs.Shape.{Shape}
+use Rattle.oci_json_model.specs.Means.{Means}
+use Rattle.oci_json_model.specs.Value.{value}
+use Rattle.oci_json_model.specs.Writable.{Writable}
+use Rattle.oci_json_io.specs.Engines.{MeansBytes, ReadsAs, IsNotNormalized}
+use Rattle.oci_schema_walks.specs.Conformed.{IsNotConformed}
 
 pub bytes_mean : (s : Shape) (input : Option (List ℕ)) (d : Data) (p : Plain) → IfSome input (λ bytes. ReadsAs bytes d) → Means s d p → IfSome input (λ bytes. MeansBytes s bytes p)
 bytes_mean s None d p read means = read

@@ -1,15 +1,15 @@
 -- That a table that was made where it is used stands for a shape.
 use Rattle.std.proofs.Common.{◌≡◌, refl, ap, sym, subst, ◌∙◌, ℕ, List, [], ◌∷◌, ◌++◌, Option, Some, None, Bor, Result, Ok, Err, length, drop, slice_index_or, zero, suc, ◌+◌, ◌<◌, ◌≤◌, min, arith, IfOk, IfSome}
 use Rattle.std.specs.List.{zip}
-use Rattle.oci_json_schema.specs.Shape as shape
-use Rattle.oci_json_schema.specs.Shape.{Shape, Rows, no_rows, row}
-use Rattle.oci_json_form.specs.Tables.{shape_of, rows_of, presence_of, name_of}
-use Rattle.oci_json_form.specs.declared.form.Form.{Form}
-use Rattle.oci_json_form.proofs.Listed.{cut_at, drop_at}
-use Rattle.oci_json_form.proofs.Stands.{StandsFor}
-use Rattle.oci_json_form.specs.declared.form.Row.{Row}
+use Rattle.oci_json_model.specs.Shape as shape
+use Rattle.oci_json_model.specs.Shape.{Shape, Rows, no_rows, row}
+use Rattle.oci_schema_walks.specs.Tables.{shape_of, rows_of, presence_of, name_of}
+use Rattle.oci_schema_walks.specs.declared.form.Form.{Form}
+use Rattle.oci_schema_walks.proofs.Listed.{cut_at, drop_at}
+use Rattle.oci_schema_walks.proofs.Stands.{StandsFor}
+use Rattle.oci_schema_walks.specs.declared.form.Row.{Row}
 use Rattle.oci_spec.specs.Made.{Part, made_row, made_rows, record_shape, IsRecordOf}
-use Rattle.oci_json_form.specs.declared.form.Presence.{Presence}
+use Rattle.oci_schema_walks.specs.declared.form.Presence.{Presence}
 use Rattle.std.specs.declared.alloc.AllocError.{AllocError}
 
 -- these rows before others

@@ -2,11 +2,11 @@
 use Rattle.std.specs.Prelude.{◌≡◌, ℕ, List, [], ◌∷◌, Option, Some, None, Result, Ok, Err}
 use Rattle.std.specs.Borrow.{Bor}
 use Rattle.std.specs.declared.alloc.AllocError.{AllocError}
-use Rattle.oci_json_schema.specs.Shape as shape
-use Rattle.oci_json_schema.specs.Shape.{Shape, Rows, no_rows, row}
-use Rattle.oci_json_form.specs.Tables.{shape_of, presence_of}
-use Rattle.oci_json_form.specs.declared.form.Form.{Form}
-use Rattle.oci_json_form.specs.declared.form.Presence.{Presence}
+use Rattle.oci_json_model.specs.Shape as shape
+use Rattle.oci_json_model.specs.Shape.{Shape, Rows, no_rows, row}
+use Rattle.oci_schema_walks.specs.Tables.{shape_of, presence_of}
+use Rattle.oci_schema_walks.specs.declared.form.Form.{Form}
+use Rattle.oci_schema_walks.specs.declared.form.Presence.{Presence}
 
 -- a member's name, and how it is asked for, with its form, or none where there was no memory for it
 abbrev pub Part : Type 0

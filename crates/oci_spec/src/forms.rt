@@ -35,7 +35,7 @@ mod runtime_spec;
 pub mod tabled;
 
 pub use normal::{conform_as, normal_from_reader, normalize, normalize_by_form};
-pub use oci_json_check::{conform, faults};
-pub use oci_json_form::{Absent, Expected, Fault, Form, Leaf, Presence, Row, Wanted};
+pub use oci_schema::{conform, faults};
+pub use oci_schema_walks::{Absent, Expected, Fault, Form, Leaf, Presence, Row, Wanted};
 pub use pretty::{normalize_pretty, normalize_pretty_by_form};
 pub use tabled::{Formed, Tabled, faults_of, form_of};

@@ -6,8 +6,8 @@ pub mod ErrorCode
 pub mod Faults
 pub mod MediaType
 pub mod Os
-pub use Rattle.oci_json_schema.specs.ClosedNames
-pub use Rattle.oci_json_schema.specs.Variants
+pub use Rattle.oci_json_model.specs.ClosedNames
+pub use Rattle.oci_json_model.specs.Variants
 pub use Rattle.oci_text_base.specs.Classes
 pub use Rattle.oci_text_base.specs.CpuList
 pub use Rattle.oci_text_base.specs.Digest

@@ -5,9 +5,9 @@ ghost use Rattle.oci_text_base.specs.Names.{other, opened, is_other, name_text};
 ghost use Rattle.oci_text.specs.Arch.{arch_name, arches};
 
 use crate::place::place;
-use oci_json_schema::OciMember;
-use oci_json_schema::fault::refused;
-use oci_json_schema::owned::into_text;
+use oci_json_model::OciMember;
+use oci_json_model::fault::refused;
+use oci_json_model::owned::into_text;
 use oci_text_base::{OciSpecError, Result};
 use serde_json::Value;
 use std::alloc::Global;
@@ -266,15 +266,15 @@ impl Arch {
 
 impl OciMember for Arch {
     ghost use Rattle.std.specs.Prelude.{refl};
-    ghost use Rattle.oci_json_schema.specs.Shape.{open_name};
-    ghost use Rattle.oci_json_schema.specs.Types.{name_plain};
-    ghost use Rattle.oci_json_schema.specs.Same.{same_named};
+    ghost use Rattle.oci_json_model.specs.Shape.{open_name};
+    ghost use Rattle.oci_json_model.specs.Types.{name_plain};
+    ghost use Rattle.oci_json_model.specs.Same.{same_named};
 
     ghost shape = { open_name arches };
 
     ghost plain = { λ m. name_plain (arch_name m) };
 
-    #[tactic(auto, using(oci_json_schema::proofs::Readers::no_name, crate::proofs::OpenMembers::name_means))]
+    #[tactic(auto, using(oci_json_model::proofs::Readers::no_name, crate::proofs::OpenMembers::name_means))]
     fn read(alloc: Global, value: &Value) -> Result<Arch> {
         match value.as_str() {
             Some(text) => Arch::from_text(alloc, text),
@@ -282,7 +282,7 @@ impl OciMember for Arch {
         }
     }
 
-    #[tactic(auto, using(oci_json_schema::proofs::Readers::no_name, crate::proofs::OpenMembers::name_means))]
+    #[tactic(auto, using(oci_json_model::proofs::Readers::no_name, crate::proofs::OpenMembers::name_means))]
     fn read_owned(_alloc: Global, value: Value) -> Result<Arch> {
         match into_text(value) {
             Some(text) => Ok(Arch::from_string(text)),

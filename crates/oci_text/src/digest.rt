@@ -9,9 +9,9 @@ ghost use Rattle.oci_text.specs.CutDigests.{IsCutDigest};
 
 use crate::digest_algorithm::DigestAlgorithm;
 use crate::fault::{are_lower_hex, digest_fault};
-use oci_json_schema::OciMember;
-use oci_json_schema::fault::refused;
-use oci_json_schema::owned::into_text;
+use oci_json_model::OciMember;
+use oci_json_model::fault::refused;
+use oci_json_model::owned::into_text;
 use oci_text_base::{OciSpecError, Result};
 use serde_json::Value;
 use std::alloc::Global;
@@ -168,15 +168,15 @@ impl Digest {
 }
 
 impl OciMember for Digest {
-    ghost use Rattle.oci_json_schema.specs.Shape.{digest_text};
-    ghost use Rattle.oci_json_schema.specs.Plain as plain_tree;
-    ghost use Rattle.oci_json_schema.specs.Same.{same_bytes};
+    ghost use Rattle.oci_json_model.specs.Shape.{digest_text};
+    ghost use Rattle.oci_json_model.specs.Plain as plain_tree;
+    ghost use Rattle.oci_json_model.specs.Same.{same_bytes};
 
     ghost shape = { digest_text };
 
     ghost plain = { λ d. plain_tree.text d };
 
-    #[tactic(auto, using(oci_json_schema::proofs::Readers::no_text, oci_json_schema::proofs::Readers::not_digest))]
+    #[tactic(auto, using(oci_json_model::proofs::Readers::no_text, oci_json_model::proofs::Readers::not_digest))]
     fn read(alloc: Global, value: &Value) -> Result<Digest> {
         match value.as_str() {
             Some(text) => {
@@ -190,7 +190,7 @@ impl OciMember for Digest {
         }
     }
 
-    #[tactic(auto, using(oci_json_schema::proofs::Readers::no_text, oci_json_schema::proofs::Readers::not_digest))]
+    #[tactic(auto, using(oci_json_model::proofs::Readers::no_text, oci_json_model::proofs::Readers::not_digest))]
     fn read_owned(_alloc: Global, value: Value) -> Result<Digest> {
         match into_text(value) {
             Some(text) => {

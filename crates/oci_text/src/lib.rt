@@ -18,7 +18,7 @@ pub use digest::{Digest, is_digest};
 pub use digest_algorithm::DigestAlgorithm;
 pub use error_code::ErrorCode;
 pub use media_type::{MediaType, ToDockerV2S2};
-pub use oci_json_schema::{JsonName, closed, json_name};
+pub use oci_json_model::{JsonName, closed, json_name};
 pub use oci_text_base::{
     OciSpecError, Result, SchemaFault, SerDeError, UninitializedFieldError, UnknownName,
 };

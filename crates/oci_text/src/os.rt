@@ -5,9 +5,9 @@ ghost use Rattle.oci_text_base.specs.Names.{other, opened, is_other, name_text};
 ghost use Rattle.oci_text.specs.Os.{os_name, oses};
 
 use crate::place::place;
-use oci_json_schema::OciMember;
-use oci_json_schema::fault::refused;
-use oci_json_schema::owned::into_text;
+use oci_json_model::OciMember;
+use oci_json_model::fault::refused;
+use oci_json_model::owned::into_text;
 use oci_text_base::{OciSpecError, Result};
 use serde_json::Value;
 use std::alloc::Global;
@@ -214,15 +214,15 @@ impl Os {
 
 impl OciMember for Os {
     ghost use Rattle.std.specs.Prelude.{refl};
-    ghost use Rattle.oci_json_schema.specs.Shape.{open_name};
-    ghost use Rattle.oci_json_schema.specs.Types.{name_plain};
-    ghost use Rattle.oci_json_schema.specs.Same.{same_named};
+    ghost use Rattle.oci_json_model.specs.Shape.{open_name};
+    ghost use Rattle.oci_json_model.specs.Types.{name_plain};
+    ghost use Rattle.oci_json_model.specs.Same.{same_named};
 
     ghost shape = { open_name oses };
 
     ghost plain = { λ m. name_plain (os_name m) };
 
-    #[tactic(auto, using(oci_json_schema::proofs::Readers::no_name, crate::proofs::OpenMembers::name_means))]
+    #[tactic(auto, using(oci_json_model::proofs::Readers::no_name, crate::proofs::OpenMembers::name_means))]
     fn read(alloc: Global, value: &Value) -> Result<Os> {
         match value.as_str() {
             Some(text) => Os::from_text(alloc, text),
@@ -230,7 +230,7 @@ impl OciMember for Os {
         }
     }
 
-    #[tactic(auto, using(oci_json_schema::proofs::Readers::no_name, crate::proofs::OpenMembers::name_means))]
+    #[tactic(auto, using(oci_json_model::proofs::Readers::no_name, crate::proofs::OpenMembers::name_means))]
     fn read_owned(_alloc: Global, value: Value) -> Result<Os> {
         match into_text(value) {
             Some(text) => Ok(Os::from_string(text)),

@@ -6,11 +6,11 @@ mod files;
 mod images;
 
 use crate::rows::{Work, each};
-use oci_desk::{Desk, GaveUp, Sample};
 use oci_doc_run::Kind;
+use oci_test_harness::{Desk, HarnessOutOfMemory, Sample};
 
 /// All groups of this half.
-pub fn run(desk: &mut Desk<'_>) -> Result<(), GaveUp> {
+pub fn run(desk: &mut Desk<'_>) -> Result<(), HarnessOutOfMemory> {
     each(desk, "samples.rows", &Work::Calls)?;
     each(desk, "documents.rows", &Work::Calls)?;
     each(desk, "texts.rows", &Work::Commands)?;
@@ -21,7 +21,7 @@ pub fn run(desk: &mut Desk<'_>) -> Result<(), GaveUp> {
 }
 
 /// The groups of one document.
-pub fn document(desk: &mut Desk<'_>, sample: &Sample<'_>) -> Result<(), GaveUp> {
+pub fn document(desk: &mut Desk<'_>, sample: &Sample<'_>) -> Result<(), HarnessOutOfMemory> {
     if let Some(kind) = Kind::from_word(sample.kind) {
         documents::all(desk, kind, sample);
         images::all(desk, kind, sample);

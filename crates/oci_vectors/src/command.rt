@@ -1,7 +1,7 @@
 //! The program's commands, run at the desk.
 
-use oci_desk::{Desk, Input, Manner};
 use oci_doc_run::run;
+use oci_test_harness::{Desk, Input, Manner};
 
 /// The status of a command.
 pub fn status(desk: &mut Desk<'_>, words: &[String], input: &mut Input<'_>, manner: Manner) -> u8 {

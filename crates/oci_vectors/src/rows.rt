@@ -1,7 +1,7 @@
 //! The rows of the files of `data/`.
 
 use crate::{calls, vectors};
-use oci_desk::{Desk, GaveUp, Sample};
+use oci_test_harness::{Desk, HarnessOutOfMemory, Sample};
 use std::fs;
 
 /// What is done with a row.
@@ -17,7 +17,7 @@ pub enum Work {
 }
 
 /// Does this with each row of a file.
-pub fn each(desk: &mut Desk<'_>, path: &str, work: &Work) -> Result<(), GaveUp> {
+pub fn each(desk: &mut Desk<'_>, path: &str, work: &Work) -> Result<(), HarnessOutOfMemory> {
     let rows = fs::read_to_string(desk.rt, path)?;
     for row in rows.as_str().trim().split("\n\n") {
         of_row(desk, row, work)?;
@@ -25,7 +25,7 @@ pub fn each(desk: &mut Desk<'_>, path: &str, work: &Work) -> Result<(), GaveUp> 
     Ok(())
 }
 
-fn of_row(desk: &mut Desk<'_>, row: &str, work: &Work) -> Result<(), GaveUp> {
+fn of_row(desk: &mut Desk<'_>, row: &str, work: &Work) -> Result<(), HarnessOutOfMemory> {
     match work {
         Work::Bytes => vectors::document(desk, &Sample::of(row)?, true),
         Work::Streams => vectors::document(desk, &Sample::of(row)?, false),

@@ -6,10 +6,10 @@ mod edges;
 mod faults;
 
 use crate::rows::{Work, each};
-use oci_desk::{Desk, GaveUp, Sample, words};
+use oci_test_harness::{Desk, HarnessOutOfMemory, Sample, words};
 
 /// All groups of this half.
-pub fn run(desk: &mut Desk<'_>) -> Result<(), GaveUp> {
+pub fn run(desk: &mut Desk<'_>) -> Result<(), HarnessOutOfMemory> {
     each(desk, "samples.rows", &Work::Bytes)?;
     each(desk, "documents.rows", &Work::Streams)?;
     edges::all(desk);
@@ -19,7 +19,11 @@ pub fn run(desk: &mut Desk<'_>) -> Result<(), GaveUp> {
 }
 
 /// The groups of one document; it is cut and changed only where that is asked for.
-pub fn document(desk: &mut Desk<'_>, sample: &Sample<'_>, is_changed: bool) -> Result<(), GaveUp> {
+pub fn document(
+    desk: &mut Desk<'_>,
+    sample: &Sample<'_>,
+    is_changed: bool,
+) -> Result<(), HarnessOutOfMemory> {
     let normal = words(desk.rt.alloc(), &["norm", sample.kind])?;
     if is_changed {
         bytes::all(desk, sample, normal.as_slice());

@@ -28,8 +28,8 @@ impl ImageConfigurationBuilder {
     ghost use Rattle.std.specs.Prelude.{Some, unwrap_or, option_map, codes};
     ghost use Rattle.oci_text.specs.Arch.{arch_name};
     ghost use Rattle.oci_text.specs.Os.{os_name};
-    ghost use Rattle.oci_json_schema.specs.Plain as plain;
-    ghost use Rattle.oci_json_schema.specs.Types.{name_plain};
+    ghost use Rattle.oci_json_model.specs.Plain as plain;
+    ghost use Rattle.oci_json_model.specs.Types.{name_plain};
     ghost use Rattle.oci_image.specs.RootFs.{root_fs_plain, default_root_fs};
 
     /// When the image was made, as an RFC 3339 date and time.

@@ -23,7 +23,7 @@ pub struct DescriptorBuilder {
 
 impl DescriptorBuilder {
     ghost use Rattle.std.specs.Prelude.{Some};
-    ghost use Rattle.oci_json_schema.specs.Built.{IsUnset};
+    ghost use Rattle.oci_json_model.specs.Built.{IsUnset};
     ghost use Rattle.oci_image_descriptor.specs.DescriptorBuilder.{descriptor_unset};
 
     /// The media type of the content.

@@ -22,7 +22,7 @@ pub struct ImageManifestBuilder {
 
 impl ImageManifestBuilder {
     ghost use Rattle.std.specs.Prelude.{Some};
-    ghost use Rattle.oci_json_schema.specs.Built.{IsUnset};
+    ghost use Rattle.oci_json_model.specs.Built.{IsUnset};
     ghost use Rattle.oci_image_manifest.specs.ImageManifestBuilder.{image_manifest_unset};
 
     /// The version of the manifest's schema, which is 2.

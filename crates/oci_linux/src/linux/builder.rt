@@ -4,12 +4,12 @@ ghost use Rattle.std.specs.Prelude.{◌≡◌, IfOk, IfErr};
 use crate::defaults::resources_without_rules;
 use crate::linux::Linux;
 use oci_cgroups::LinuxResources;
-use oci_json_schema::all_4;
+use oci_json_model::try_join4;
 use oci_linux_namespaces::{
     LinuxDevice, LinuxIdMapping, LinuxNamespace, LinuxNetDevice, LinuxTimeOffset,
 };
-use oci_linux_policies::{LinuxIntelRdt, LinuxMemoryPolicy, LinuxPersonality, LinuxSeccomp};
-use oci_runtime_parts::{
+use oci_linux_seccomp::{LinuxIntelRdt, LinuxMemoryPolicy, LinuxPersonality, LinuxSeccomp};
+use oci_runtime_defaults::{
     get_default_maskedpaths, get_default_namespaces, get_default_readonly_paths,
 };
 use oci_text_base::{OciSpecError, Result};
@@ -40,10 +40,10 @@ pub struct LinuxBuilder {
 
 impl LinuxBuilder {
     ghost use Rattle.std.specs.Prelude.{Some, unwrap_or, option_map};
-    ghost use Rattle.oci_json_schema.specs.Plain.{filled};
-    ghost use Rattle.oci_runtime_parts.specs.Defaults.{default_masked_paths, default_namespaces, default_readonly_paths};
+    ghost use Rattle.oci_json_model.specs.Plain.{filled};
+    ghost use Rattle.oci_runtime_defaults.specs.Defaults.{default_masked_paths, default_namespaces, default_readonly_paths};
     ghost use Rattle.oci_linux.specs.DefaultResources.{default_resources};
-    ghost use Rattle.oci_json_schema.specs.Types.{perhaps, text_plain, list_plain};
+    ghost use Rattle.oci_json_model.specs.Types.{perhaps, text_plain, list_plain};
     ghost use Rattle.oci_cgroups.specs.LinuxResources.{linux_resources_plain};
     ghost use Rattle.oci_linux_namespaces.specs.LinuxNamespace.{linux_namespace_plain};
 
@@ -257,7 +257,7 @@ impl LinuxBuilder {
             personality,
             time_offsets,
         } = self;
-        let (resources, namespaces, masked_paths, readonly_paths) = all_4(
+        let (resources, namespaces, masked_paths, readonly_paths) = try_join4(
             Self::resources_or_default(alloc, resources),
             Self::namespaces_or_default(alloc, namespaces),
             Self::masked_paths_or_default(alloc, masked_paths),

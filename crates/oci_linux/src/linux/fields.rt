@@ -6,7 +6,7 @@ use oci_cgroups::LinuxResources;
 use oci_linux_namespaces::{
     LinuxDevice, LinuxIdMapping, LinuxNamespace, LinuxNetDevice, LinuxTimeOffset,
 };
-use oci_linux_policies::{LinuxIntelRdt, LinuxMemoryPolicy, LinuxPersonality, LinuxSeccomp};
+use oci_linux_seccomp::{LinuxIntelRdt, LinuxMemoryPolicy, LinuxPersonality, LinuxSeccomp};
 use std::collections::BTreeMap;
 
 impl Linux {

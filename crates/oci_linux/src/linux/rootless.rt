@@ -1,14 +1,14 @@
 //! The Linux part of a container that a user without privileges starts.
 ghost use Rattle.std.specs.Prelude.{◌≡◌, IfOk, IfErr};
-ghost use Rattle.oci_json_schema.specs.Types.{list_plain};
+ghost use Rattle.oci_json_model.specs.Types.{list_plain};
 ghost use Rattle.oci_linux.specs.Linux.{linux_plain};
 ghost use Rattle.oci_linux.specs.Rootless.{mapping_of, rootless_linux};
 ghost use Rattle.oci_linux_namespaces.specs.LinuxIdMapping.{linux_id_mapping_plain};
 
 use super::Linux;
-use oci_json_schema::all_5;
+use oci_json_model::try_join5;
 use oci_linux_namespaces::{LinuxIdMapping, LinuxIdMappingBuilder};
-use oci_runtime_parts::{
+use oci_runtime_defaults::{
     get_default_maskedpaths, get_default_readonly_paths, get_rootless_namespaces,
 };
 use oci_text_base::{OciSpecError, Result};
@@ -21,7 +21,7 @@ impl Linux {
         ensures ok { IfOk result (λ x. linux_plain x ≡ rootless_linux uid gid) }
         ensures err { IfErr result (λ e. e ≡ OciSpecError.Memory) }
     {
-        let (uid_mappings, gid_mappings, namespaces, masked_paths, readonly_paths) = all_5(
+        let (uid_mappings, gid_mappings, namespaces, masked_paths, readonly_paths) = try_join5(
             mapping_to(alloc, uid),
             mapping_to(alloc, gid),
             get_rootless_namespaces(alloc),

@@ -1,11 +1,11 @@
 //! What the builder of `ExecCPUAffinity` refuses.
 ghost use Rattle.std.specs.Prelude.{◌≡◌, ◌++◌, ◌⊎◌, ℕ, List, Some, IfOk, IfErr, codes, string_bytes};
 ghost use Rattle.oci_text_base.specs.Refused.{Says};
-ghost use Rattle.oci_process_texts.specs.Affinities.{AreLists, IsFirstOther};
+ghost use Rattle.oci_process_names.specs.Affinities.{AreLists, IsFirstOther};
 ghost use Rattle.oci_process.specs.RefusedAffinities.{affinity_refusal};
 
 use super::{ExecCPUAffinity, ExecCPUAffinityBuilder};
-use oci_process_texts::refused_affinity;
+use oci_process_names::refused_affinity;
 use oci_text_base::{OciSpecError, Result};
 use std::alloc::{AllocError, Global};
 

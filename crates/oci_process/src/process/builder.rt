@@ -10,7 +10,7 @@ use crate::process::Process;
 use crate::process_defaults::{default_args, default_cwd, default_env, default_rlimits};
 use crate::scheduler::Scheduler;
 use crate::user::User;
-use oci_json_schema::{all_2, all_3};
+use oci_json_model::{try_join2, try_join3};
 use oci_text_base::{OciSpecError, Result};
 use std::alloc::Global;
 
@@ -37,10 +37,10 @@ pub struct ProcessBuilder {
 
 impl ProcessBuilder {
     ghost use Rattle.std.specs.Prelude.{Some, unwrap_or, option_map, false, true};
-    ghost use Rattle.oci_json_schema.specs.Plain as plain;
-    ghost use Rattle.oci_json_schema.specs.Plain.{filled};
+    ghost use Rattle.oci_json_model.specs.Plain as plain;
+    ghost use Rattle.oci_json_model.specs.Plain.{filled};
     ghost use Rattle.oci_process.specs.ProcessDefaults.{default_args, default_cwd, default_env, default_rlimits};
-    ghost use Rattle.oci_json_schema.specs.Types.{perhaps, text_plain, truth_plain, list_plain};
+    ghost use Rattle.oci_json_model.specs.Types.{perhaps, text_plain, truth_plain, list_plain};
     ghost use Rattle.oci_process.specs.User.{user_plain, default_user};
     ghost use Rattle.oci_process.specs.LinuxCapabilities.{linux_capabilities_plain, default_linux_capabilities};
     ghost use Rattle.oci_process.specs.PosixRlimit.{posix_rlimit_plain};
@@ -243,13 +243,13 @@ impl ProcessBuilder {
             scheduler,
             exec_cpu_affinity,
         } = self;
-        let ((user, args, env), (cwd, capabilities, rlimits)) = all_2(
-            all_3(
+        let ((user, args, env), (cwd, capabilities, rlimits)) = try_join2(
+            try_join3(
                 Self::user_or_default(alloc, user),
                 Self::args_or_default(alloc, args),
                 Self::env_or_default(alloc, env),
             ),
-            all_3(
+            try_join3(
                 Self::cwd_or_default(alloc, cwd),
                 Self::capabilities_or_default(alloc, capabilities),
                 Self::rlimits_or_default(alloc, rlimits),

@@ -1,8 +1,8 @@
 //! What the builder of `Mount` refuses.
 ghost use Rattle.std.specs.Prelude.{◌≡◌, None, IfOk, IfErr, OnOk, unwrap_or, option_map, []};
 ghost use Rattle.oci_text_base.specs.Refused.{Refuses};
-ghost use Rattle.oci_json_schema.specs.Plain as plain;
-ghost use Rattle.oci_json_schema.specs.Types.{text_plain};
+ghost use Rattle.oci_json_model.specs.Plain as plain;
+ghost use Rattle.oci_json_model.specs.Types.{text_plain};
 ghost use Rattle.oci_runtime_records.specs.MountBuilder.{mount_refusal, has_items};
 
 use super::{Mount, MountBuilder};

@@ -1,7 +1,7 @@
 //! Mounts from a table.
 ghost use Rattle.std.specs.Prelude.{◌≡◌, IfOk, IfErr, map};
-ghost use Rattle.oci_json_schema.specs.Plain as plain;
-ghost use Rattle.oci_json_schema.specs.Types.{perhaps, list_plain, text_plain};
+ghost use Rattle.oci_json_model.specs.Plain as plain;
+ghost use Rattle.oci_json_model.specs.Types.{perhaps, list_plain, text_plain};
 ghost use Rattle.oci_runtime_records.specs.Mount.{mount_plain};
 ghost use Rattle.oci_runtime_records.specs.DefaultMounts.{mount_of_row, options_slot};
 

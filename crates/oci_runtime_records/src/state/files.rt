@@ -13,13 +13,13 @@ impl State {
     pub fn load<R: Files>(rt: &R, alloc: Global, path: &str) -> Result<State>
         ensures kind { IfErr result IsMemorySerDeOrIo }
     {
-        oci_json_engines::from_file(rt, alloc, path)
+        oci_json_io::from_file(rt, alloc, path)
     }
 
     /// Writes the compact text to a file, which is created or emptied once the text is made. Each state is writable.
     pub fn save<R: Files>(&self, rt: &R, alloc: Global, path: &str) -> Result<()>
         ensures kind { IfErr result IsMemoryOrIo }
     {
-        oci_json_engines::to_file(rt, self, alloc, path)
+        oci_json_io::to_file(rt, self, alloc, path)
     }
 }

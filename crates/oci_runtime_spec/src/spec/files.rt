@@ -1,8 +1,9 @@
 //! Specifications in files.
 ghost use Rattle.std.specs.Prelude.{IfErr, OnOk};
 ghost use Rattle.oci_text_base.specs.Refused.{IsSchema, IsMemorySchemaOrIo, IsMemorySerDeOrIo};
-ghost use Rattle.oci_json_schema.specs.Writable.{Writable};
-ghost use Rattle.oci_runtime_spec.specs.Spec.{spec, spec_plain};
+ghost use Rattle.oci_json_model.specs.Writable.{Writable};
+ghost use Rattle.oci_shapes.specs.Spec.{spec};
+ghost use Rattle.oci_runtime_spec.specs.Spec.{spec_plain};
 
 use super::Spec;
 use oci_text_base::Result;
@@ -15,7 +16,7 @@ impl Spec {
     pub fn load<R: Files>(rt: &R, alloc: Global, path: &str) -> Result<Spec>
         ensures kind { IfErr result IsMemorySerDeOrIo }
     {
-        oci_json_engines::from_file(rt, alloc, path)
+        oci_json_io::from_file(rt, alloc, path)
     }
 
     /// Writes the compact text to a file, which is created or emptied once the text is made; so the file is as it was after
@@ -25,6 +26,6 @@ impl Spec {
         ensures err { IfErr result (λ e. IsSchema e → ¬ Writable spec (spec_plain self.now)) }
         ensures kind { IfErr result IsMemorySchemaOrIo }
     {
-        oci_json_engines::to_file(rt, self, alloc, path)
+        oci_json_io::to_file(rt, self, alloc, path)
     }
 }

@@ -4,10 +4,10 @@ ghost use Rattle.oci_runtime_spec.specs.Spec.{spec_plain};
 ghost use Rattle.oci_runtime_spec.specs.RootlessSpec.{rootless_spec};
 
 use super::Spec;
-use oci_json_schema::{all_2, all_3};
+use oci_json_model::{try_join2, try_join3};
 use oci_linux::Linux;
 use oci_process::Process;
-use oci_runtime_parts::{rootless_parts, text_of};
+use oci_runtime_defaults::{rootless_parts, text_of};
 use oci_text_base::{OciSpecError, Result};
 use std::alloc::Global;
 use std::collections::BTreeMap;
@@ -19,9 +19,9 @@ impl Spec {
         ensures ok { IfOk result (λ x. spec_plain x ≡ rootless_spec uid gid) }
         ensures err { IfErr result (λ e. e ≡ OciSpecError.Memory) }
     {
-        let ((version, root, mounts), (process, hostname, linux)) = all_2(
+        let ((version, root, mounts), (process, hostname, linux)) = try_join2(
             rootless_parts(alloc),
-            all_3(
+            try_join3(
                 Process::try_default(alloc),
                 text_of(alloc, "youki"),
                 Linux::rootless(alloc, uid, gid),

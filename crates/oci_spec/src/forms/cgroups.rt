@@ -8,8 +8,8 @@ use oci_cgroups::{
     LinuxResources, LinuxThrottleDevice, LinuxWeightDevice,
 };
 use oci_cgroups_network::{LinuxNetwork, LinuxRdma};
-use oci_json_form::forms::{I64, TEXT, TRUTH, U16, U64};
-use oci_json_form::{Absent, Form, Presence, Row};
+use oci_schema_walks::forms::{I64, TEXT, TRUTH, U16, U64};
+use oci_schema_walks::{Absent, Form, Presence, Row};
 use std::alloc::AllocError;
 
 /// A rule for which devices a container may use, and how (runtime specification, "Linux Container Configuration", "Allowed Device list").

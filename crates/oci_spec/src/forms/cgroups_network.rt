@@ -1,8 +1,8 @@
 //! The forms of the records of `oci_cgroups_network`.
 use crate::forms::Formed;
 use oci_cgroups_network::{LinuxInterfacePriority, LinuxNetwork, LinuxRdma};
-use oci_json_form::forms::{TEXT, U32};
-use oci_json_form::{Absent, Form, Presence, Row};
+use oci_schema_walks::forms::{TEXT, U32};
+use oci_schema_walks::{Absent, Form, Presence, Row};
 
 /// The priority of a container's traffic on one network interface (runtime specification, "Linux Container Configuration", "Network").
 pub const LINUX_INTERFACE_PRIORITY: Form<'static> = Form::Record(

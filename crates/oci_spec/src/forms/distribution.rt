@@ -2,8 +2,8 @@
 use crate::forms::Formed;
 use crate::forms::names::ERROR_CODE;
 use oci_distribution::{ErrorInfo, ErrorResponse, RepositoryList, TagList};
-use oci_json_form::forms::{DETAIL, TEXT};
-use oci_json_form::{Form, Presence, Row};
+use oci_schema_walks::forms::{DETAIL, TEXT};
+use oci_schema_walks::{Form, Presence, Row};
 
 /// One error of a registry's reply (distribution specification, "Error Codes").
 pub const ERROR_INFO: Form<'static> = Form::Record(

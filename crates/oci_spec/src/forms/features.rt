@@ -7,8 +7,8 @@ use oci_features::{
     Apparmor, Cgroup, Features, IDMap, IntelRdt, LinuxFeature, MemoryPolicy, MountExtensions,
     NetDevices, Seccomp, Selinux,
 };
-use oci_json_form::forms::{TEXT, TRUTH};
-use oci_json_form::{Form, Presence, Row};
+use oci_schema_walks::forms::{TEXT, TRUTH};
+use oci_schema_walks::{Form, Presence, Row};
 use std::alloc::AllocError;
 
 /// What a runtime can do with control groups, whatever its host has (runtime specification, "Linux Features Structure", `cgroup`).

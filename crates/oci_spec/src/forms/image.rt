@@ -1,8 +1,8 @@
 //! The forms of the records of `oci_image`.
 use crate::forms::Formed;
 use oci_image::{Config, History, ImageConfiguration, RootFs};
-use oci_json_form::forms::{ARCH, KEYS, OS, TEXT, TRUTH};
-use oci_json_form::{Form, Presence, Row};
+use oci_schema_walks::forms::{ARCH, KEYS, OS, TEXT, TRUTH};
+use oci_schema_walks::{Form, Presence, Row};
 
 /// How one layer of an image came about (image specification, "Image Configuration", `history`).
 pub const HISTORY: Form<'static> = Form::Record(

@@ -2,8 +2,8 @@
 use crate::forms::Formed;
 use crate::forms::image_platform::PLATFORM;
 use oci_image_descriptor::Descriptor;
-use oci_json_form::forms::{DIGEST, MEDIA_TYPE, TEXT, U64};
-use oci_json_form::{Form, Presence, Row};
+use oci_schema_walks::forms::{DIGEST, MEDIA_TYPE, TEXT, U64};
+use oci_schema_walks::{Form, Presence, Row};
 
 /// What a document points to: its media type, its digest and its size (image specification, "Content Descriptors").
 pub const DESCRIPTOR: Form<'static> = Form::Record(

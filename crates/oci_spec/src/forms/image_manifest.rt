@@ -2,8 +2,8 @@
 use crate::forms::Formed;
 use crate::forms::image_descriptor::DESCRIPTOR;
 use oci_image_manifest::{ArtifactManifest, ImageIndex, ImageManifest, OciLayout};
-use oci_json_form::forms::{MEDIA_TYPE, TEXT, U32};
-use oci_json_form::{Form, Presence, Row};
+use oci_schema_walks::forms::{MEDIA_TYPE, TEXT, U32};
+use oci_schema_walks::{Form, Presence, Row};
 
 /// A configuration and layers for one image on one machine (image specification, "Image Manifest").
 pub const IMAGE_MANIFEST: Form<'static> = Form::Record(

@@ -1,8 +1,8 @@
 //! The forms of the records of `oci_image_platform`.
 use crate::forms::Formed;
 use oci_image_platform::Platform;
-use oci_json_form::forms::{ARCH, OS, TEXT};
-use oci_json_form::{Form, Presence, Row};
+use oci_schema_walks::forms::{ARCH, OS, TEXT};
+use oci_schema_walks::{Form, Presence, Row};
 
 /// The machine that an image is for (image specification, "Image Index", `platform`).
 pub const PLATFORM: Form<'static> = Form::Record(

@@ -3,12 +3,12 @@ use crate::forms::Tabled;
 use crate::forms::made::{Member, list_of, map_of, map_of_texts, record, text, texts};
 use bumpalo::Bump;
 use oci_cgroups::LinuxResources;
-use oci_json_form::{Form, Presence};
 use oci_linux::Linux;
 use oci_linux_namespaces::{
     LinuxDevice, LinuxIdMapping, LinuxNamespace, LinuxNetDevice, LinuxTimeOffset,
 };
-use oci_linux_policies::{LinuxIntelRdt, LinuxMemoryPolicy, LinuxPersonality, LinuxSeccomp};
+use oci_linux_seccomp::{LinuxIntelRdt, LinuxMemoryPolicy, LinuxPersonality, LinuxSeccomp};
+use oci_schema_walks::{Form, Presence};
 use std::alloc::AllocError;
 
 /// The members of `Linux`.

@@ -1,11 +1,11 @@
 //! The forms of the records of `oci_linux_namespaces`.
 use crate::forms::Formed;
 use crate::forms::names::{LINUX_DEVICE_TYPE, LINUX_NAMESPACE_TYPE};
-use oci_json_form::forms::{I64, TEXT, U32};
-use oci_json_form::{Absent, Form, Presence, Row};
 use oci_linux_namespaces::{
     LinuxDevice, LinuxIdMapping, LinuxNamespace, LinuxNetDevice, LinuxTimeOffset,
 };
+use oci_schema_walks::forms::{I64, TEXT, U32};
+use oci_schema_walks::{Absent, Form, Presence, Row};
 
 /// A run of user or group IDs of a container, and the IDs of the host that they stand for (runtime specification, "Linux Container Configuration", "User namespace mappings").
 pub const LINUX_ID_MAPPING: Form<'static> = Form::Record(

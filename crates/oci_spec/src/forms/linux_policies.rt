@@ -1,14 +1,14 @@
-//! The forms of the records of `oci_linux_policies`.
+//! The forms of the records of `oci_linux_seccomp`.
 use crate::forms::Formed;
 use crate::forms::names::{
     LINUX_PERSONALITY_DOMAIN, LINUX_SECCOMP_ACTION, LINUX_SECCOMP_FILTER_FLAG,
     LINUX_SECCOMP_OPERATOR, MEMORY_POLICY_FLAG_TYPE, MEMORY_POLICY_MODE_TYPE, S_ARCH,
 };
-use oci_json_form::forms::{TEXT, TRUTH, U32, U64, USIZE};
-use oci_json_form::{Form, Presence, Row};
-use oci_linux_policies::{
+use oci_linux_seccomp::{
     LinuxIntelRdt, LinuxMemoryPolicy, LinuxPersonality, LinuxSeccomp, LinuxSeccompArg, LinuxSyscall,
 };
+use oci_schema_walks::forms::{TEXT, TRUTH, U32, U64, USIZE};
+use oci_schema_walks::{Form, Presence, Row};
 
 /// A condition on one argument of a system call (runtime specification, "Linux Container Configuration", "Seccomp", `args`).
 pub const LINUX_SECCOMP_ARG: Form<'static> = Form::Record(

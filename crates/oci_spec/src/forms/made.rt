@@ -1,16 +1,16 @@
 //! Parts of tables that are made where they are used.
 ghost use Rattle.std.specs.Prelude.{◌≡◌, Some, IfOk};
 ghost use Rattle.std.specs.List.{zip};
-ghost use Rattle.oci_json_schema.specs.Shape.{text as text_shape, truth as truth_shape, list as list_shape, map as map_shape};
-ghost use Rattle.oci_json_schema.specs.Types.{i32};
-ghost use Rattle.oci_json_form.specs.Tables.{shape_of};
+ghost use Rattle.oci_json_model.specs.Shape.{text as text_shape, truth as truth_shape, list as list_shape, map as map_shape};
+ghost use Rattle.oci_json_model.specs.Types.{i32};
+ghost use Rattle.oci_schema_walks.specs.Tables.{shape_of};
 ghost use Rattle.oci_spec.specs.Made.{IsRecordOf};
 
 use crate::forms::Tabled;
 use bumpalo::Bump;
 use bumpalo::collections::into_bump_slice;
-use oci_json_form::forms::{I32, TEXT, TRUTH};
-use oci_json_form::{Form, Presence, Row};
+use oci_schema_walks::forms::{I32, TEXT, TRUTH};
+use oci_schema_walks::{Form, Presence, Row};
 use std::alloc::AllocError;
 
 static TEXT_FORM: Form<'static> = TEXT;

@@ -1,5 +1,5 @@
 //! The forms of names that the specifications list.
-use oci_json_form::{Form, Leaf};
+use oci_schema_walks::{Form, Leaf};
 
 /// `ContainerState`.
 pub const CONTAINER_STATE: Form<'static> = Form::Leaf(Leaf::Named(&[

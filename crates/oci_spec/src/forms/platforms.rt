@@ -1,12 +1,12 @@
 //! The forms of the records of `oci_platforms`.
 use crate::forms::Formed;
 use crate::forms::names::ZOS_NAMESPACE_TYPE;
-use oci_json_form::forms::TEXT;
-use oci_json_form::{Form, Presence, Row};
 use oci_platforms::{
     Solaris, SolarisAnet, SolarisCappedCPU, SolarisCappedMemory, VM, VMHypervisor, VMImage,
     VMKernel, ZOS, ZOSNamespace,
 };
+use oci_schema_walks::forms::TEXT;
+use oci_schema_walks::{Form, Presence, Row};
 
 /// A network interface that is made for a Solaris container (runtime specification, "Solaris Application Container Configuration", "Automatic Network (anet)").
 pub const SOLARIS_ANET: Form<'static> = Form::Record(

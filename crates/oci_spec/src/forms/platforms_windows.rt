@@ -1,11 +1,11 @@
 //! The forms of the records of `oci_platforms_windows`.
 use crate::forms::Formed;
-use oci_json_form::forms::{FREE_VALUES, TEXT, TRUTH, U16, U64};
-use oci_json_form::{Form, Presence, Row};
 use oci_platforms_windows::{
     Windows, WindowsCPUResources, WindowsDevice, WindowsHyperV, WindowsMemoryResources,
     WindowsNetwork, WindowsResources, WindowsStorageResources,
 };
+use oci_schema_walks::forms::{FREE_VALUES, TEXT, TRUTH, U16, U64};
+use oci_schema_walks::{Form, Presence, Row};
 
 /// A device of the host that a Windows container has (runtime specification, "Windows-specific Container Configuration", "Devices").
 pub const WINDOWS_DEVICE: Form<'static> = Form::Record(

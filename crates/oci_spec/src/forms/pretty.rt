@@ -2,15 +2,15 @@
 ghost use Rattle.std.specs.Prelude.{◌⊎◌, IfErr, IfSome, OnOk};
 ghost use Rattle.std.specs.Io.KnownBytes.{Appends, Keeps};
 ghost use Rattle.oci_text_base.specs.Refused.{IsSchema, IsJson, IsMemorySerDeOrIo, IsIo};
-ghost use Rattle.oci_json_schema.specs.WellFormed.{WellFormed};
-ghost use Rattle.oci_json_engines.specs.Engines.{AppendsSome, KeepsUnlessIo, IsNotNormalized, IsNoJson};
-ghost use Rattle.oci_json_form.specs.Tables.{shape_of};
+ghost use Rattle.oci_json_model.specs.WellFormed.{WellFormed};
+ghost use Rattle.oci_json_io.specs.Engines.{AppendsSome, KeepsUnlessIo, IsNotNormalized, IsNoJson};
+ghost use Rattle.oci_schema_walks.specs.Tables.{shape_of};
 ghost use Rattle.oci_spec.specs.Pretty.{WritesPretty};
 
 use crate::forms::{Tabled, form_of, normal_from_reader};
 use bumpalo::Bump;
-use oci_json_engines::write_text;
-use oci_json_form::Form;
+use oci_json_io::write_text;
+use oci_schema_walks::Form;
 use oci_text_base::Result;
 use std::alloc::Global;
 use std::io::{Read, Write};

@@ -5,11 +5,11 @@ use crate::forms::names::{
 };
 use crate::forms::{Formed, Tabled};
 use bumpalo::Bump;
-use oci_json_form::forms::{CAPABILITIES, I32, I64, PROCESSORS, TEXT, U32, U64};
-use oci_json_form::{Absent, Form, Presence, Row};
 use oci_process::{
     Box, ExecCPUAffinity, LinuxCapabilities, LinuxIOPriority, PosixRlimit, Process, Scheduler, User,
 };
+use oci_schema_walks::forms::{CAPABILITIES, I32, I64, PROCESSORS, TEXT, U32, U64};
+use oci_schema_walks::{Absent, Form, Presence, Row};
 use std::alloc::AllocError;
 
 /// The size of a process's terminal (runtime specification, "Configuration", "Process", `consoleSize`).

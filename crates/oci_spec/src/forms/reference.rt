@@ -1,8 +1,8 @@
 //! The form of references as documents.
 use crate::forms::Formed;
-use oci_json_form::forms::TEXT;
-use oci_json_form::{Form, Presence, Row};
 use oci_reference::Reference;
+use oci_schema_walks::forms::TEXT;
+use oci_schema_walks::{Form, Presence, Row};
 
 /// A reference to an image, in its parts.
 pub const REFERENCE: Form<'static> = Form::Record(

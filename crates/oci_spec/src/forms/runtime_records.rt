@@ -2,9 +2,9 @@
 use crate::forms::Formed;
 use crate::forms::linux_namespaces::LINUX_ID_MAPPING;
 use crate::forms::names::CONTAINER_STATE;
-use oci_json_form::forms::{I32, I64, TEXT, TRUTH};
-use oci_json_form::{Absent, Form, Presence, Row};
 use oci_runtime_records::{ContainerProcessState, Hook, Hooks, Mount, Root, State};
+use oci_schema_walks::forms::{I32, I64, TEXT, TRUTH};
+use oci_schema_walks::{Absent, Form, Presence, Row};
 
 /// The root of a container's file system (runtime specification, "Configuration", "Root").
 pub const ROOT: Form<'static> = Form::Record(

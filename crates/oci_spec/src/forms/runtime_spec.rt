@@ -2,7 +2,6 @@
 use crate::forms::Tabled;
 use crate::forms::made::{Member, list_of, map_of_texts, record, text};
 use bumpalo::Bump;
-use oci_json_form::{Absent, Form, Presence};
 use oci_linux::Linux;
 use oci_linux_namespaces::LinuxIdMapping;
 use oci_platforms::{Solaris, VM, ZOS};
@@ -10,6 +9,7 @@ use oci_platforms_windows::Windows;
 use oci_process::Process;
 use oci_runtime_records::{Hooks, Mount, Root};
 use oci_runtime_spec::Spec;
+use oci_schema_walks::{Absent, Form, Presence};
 use std::alloc::AllocError;
 
 /// The members of `Spec`.

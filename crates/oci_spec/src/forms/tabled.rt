@@ -1,16 +1,16 @@
 //! Records with a form.
 ghost use Rattle.std.specs.Prelude.{◌≡◌, ◌↔◌, [], map, IfOk};
 ghost use Rattle.serde_json.specs.View.{view};
-ghost use Rattle.oci_json_schema.specs.Plain.{Plain};
-ghost use Rattle.oci_json_schema.specs.Means.{Means};
-ghost use Rattle.oci_json_schema.specs.WellFormed.{WellFormed};
-ghost use Rattle.oci_json_form.specs.Faults.{told, faults as all_faults};
-ghost use Rattle.oci_json_form.specs.Tables.{shape_of};
+ghost use Rattle.oci_json_model.specs.Plain.{Plain};
+ghost use Rattle.oci_json_model.specs.Means.{Means};
+ghost use Rattle.oci_json_model.specs.WellFormed.{WellFormed};
+ghost use Rattle.oci_schema_walks.specs.Faults.{told, faults as all_faults};
+ghost use Rattle.oci_schema_walks.specs.Tables.{shape_of};
 
 use bumpalo::Bump;
-use oci_json_check::faults;
-use oci_json_form::{Fault, Form};
-use oci_json_schema::OciRecord;
+use oci_json_model::OciRecord;
+use oci_schema::faults;
+use oci_schema_walks::{Fault, Form};
 use serde_json::Value;
 use std::alloc::{AllocError, Global};
 

@@ -1,10 +1,10 @@
 //! The commands on documents.
 
 use crate::command::status;
-use oci_desk::{Desk, GaveUp, Input, Manner, Sample, words};
+use oci_test_harness::{Desk, HarnessOutOfMemory, Input, Manner, Sample, words};
 
 /// The commands on one document.
-pub fn all(desk: &mut Desk<'_>, sample: &Sample<'_>) -> Result<(), GaveUp> {
+pub fn all(desk: &mut Desk<'_>, sample: &Sample<'_>) -> Result<(), HarnessOutOfMemory> {
     command(desk, "norm", sample)?;
     command(desk, "pretty", sample)?;
     desk.end(sample.kind, "commands");
@@ -12,7 +12,7 @@ pub fn all(desk: &mut Desk<'_>, sample: &Sample<'_>) -> Result<(), GaveUp> {
 }
 
 /// A command is done and writes the document's text, or tells `Memory` and writes nothing.
-fn command(desk: &mut Desk<'_>, word: &str, sample: &Sample<'_>) -> Result<(), GaveUp> {
+fn command(desk: &mut Desk<'_>, word: &str, sample: &Sample<'_>) -> Result<(), HarnessOutOfMemory> {
     let words = words(desk.rt.alloc(), &[word, sample.kind])?;
     let mut input = Input::new(sample.text.as_bytes(), Manner::AMPLE);
     let status = status(desk, words.as_slice(), &mut input, Manner::AMPLE);

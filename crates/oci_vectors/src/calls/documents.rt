@@ -1,15 +1,15 @@
 //! The calls that every document has.
 
-use oci_desk::{Desk, Sample};
 use oci_doc_run::Kind;
-use oci_json_engines::{from_slice, to_string, to_string_pretty};
-use oci_json_schema::OciRecord;
+use oci_json_io::{from_slice, to_string, to_string_pretty};
+use oci_json_model::OciRecord;
 use oci_spec::Result;
 use oci_spec::distribution::{ErrorResponse, Reference, RepositoryList, TagList};
 use oci_spec::image::{
     ArtifactManifest, Descriptor, ImageConfiguration, ImageIndex, ImageManifest, OciLayout,
 };
 use oci_spec::runtime::{ContainerProcessState, Features, Spec, State};
+use oci_test_harness::{Desk, Sample};
 use std::alloc::Global;
 
 /// What is done with a document that is read from bytes, before it is written.

@@ -1,11 +1,11 @@
 //! The calls on files: a file is as before where memory is refused or a document is not writable.
 
-use oci_desk::{Desk, GaveUp};
-use oci_json_engines::{from_file, from_slice, to_file, to_file_pretty, to_string};
-use oci_json_schema::OciRecord;
+use oci_json_io::{from_file, from_slice, to_file, to_file_pretty, to_string};
+use oci_json_model::OciRecord;
 use oci_spec::distribution::ErrorResponse;
 use oci_spec::runtime::{ExecCPUAffinity, Process, ProcessBuilder, Spec, SpecBuilder, State};
 use oci_spec::{OciSpecError, Result, SerDeError};
+use oci_test_harness::{Desk, HarnessOutOfMemory};
 use std::alloc::Global;
 use std::fs;
 
@@ -103,7 +103,7 @@ fn is_kept(desk: &mut Desk<'_>, answer: &Result<()>, expected: Option<&str>, byt
     }
 }
 
-fn writes(desk: &mut Desk<'_>) -> std::result::Result<(), GaveUp> {
+fn writes(desk: &mut Desk<'_>) -> std::result::Result<(), HarnessOutOfMemory> {
     for (call, name, expected) in &CALLS {
         fs::write(desk.rt, PATH, KEPT)?;
         let answer = written(desk.rt, call);
@@ -132,7 +132,7 @@ fn loaded_state(rt: &HostRuntime) -> Result<State> {
 }
 
 /// All calls on files.
-pub fn all(desk: &mut Desk<'_>) -> std::result::Result<(), GaveUp> {
+pub fn all(desk: &mut Desk<'_>) -> std::result::Result<(), HarnessOutOfMemory> {
     writes(desk)?;
     let spec = Spec::try_default(desk.rt.alloc());
     desk.same("save and load", loaded_spec(desk.rt), spec);

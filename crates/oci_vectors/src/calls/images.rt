@@ -1,10 +1,10 @@
 //! The reading and writing calls that image documents have of their own.
 
-use oci_desk::{Desk, Input, Manner, Output, Sample};
 use oci_doc_run::Kind;
-use oci_json_engines::write_text;
+use oci_json_io::write_text;
 use oci_spec::image::{ArtifactManifest, ImageConfiguration, ImageIndex, ImageManifest, OciLayout};
 use oci_spec::{OciSpecError, Result};
+use oci_test_harness::{Desk, Input, Manner, Output, Sample};
 use std::alloc::Global;
 use std::fmt::Display;
 use std::io::Write;

@@ -1,7 +1,7 @@
 //! A document's text, cut at each byte, and with each byte replaced.
 
 use crate::command::{gives_itself, status, tells};
-use oci_desk::{Desk, Input, Manner, Sample};
+use oci_test_harness::{Desk, Input, Manner, Sample};
 
 /// What each byte is replaced by, and whether a text that has it may be JSON.
 static REPLACEMENTS: [(&[u8], bool); 6] = [

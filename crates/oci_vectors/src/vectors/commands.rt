@@ -8,7 +8,7 @@
 //! In the place of its answer a command may tell `Memory`, which is counted.
 
 use crate::command::status;
-use oci_desk::{Desk, GaveUp, Input, Manner};
+use oci_test_harness::{Desk, HarnessOutOfMemory, Input, Manner};
 use std::alloc::Global;
 
 /// What stands in the row's first line with this mark.
@@ -23,7 +23,12 @@ fn marked<'a>(row: &'a str, mark: &str) -> Option<&'a str> {
 }
 
 /// Adds what stands in all lines with this mark, each with its end.
-fn add_marked(text: &mut String, row: &str, mark: &str, end: &str) -> Result<(), GaveUp> {
+fn add_marked(
+    text: &mut String,
+    row: &str,
+    mark: &str,
+    end: &str,
+) -> Result<(), HarnessOutOfMemory> {
     for line in row.split("\n") {
         if let Some(rest) = line.strip_prefix(mark) {
             text.push_str(rest)?;
@@ -33,7 +38,7 @@ fn add_marked(text: &mut String, row: &str, mark: &str, end: &str) -> Result<(),
     Ok(())
 }
 
-fn split(alloc: Global, text: &str) -> Result<Vec<String>, GaveUp> {
+fn split(alloc: Global, text: &str) -> Result<Vec<String>, HarnessOutOfMemory> {
     let mut words = Vec::new(alloc);
     for word in text.split(" ") {
         words.push(String::from_str(alloc, word)?)?;
@@ -52,7 +57,7 @@ fn status_of(told: &str) -> u8 {
 }
 
 /// Whether the last command wrote and told what its row says, in this status.
-fn is_answered(desk: &Desk<'_>, row: &str, status: u8) -> Result<bool, GaveUp> {
+fn is_answered(desk: &Desk<'_>, row: &str, status: u8) -> Result<bool, HarnessOutOfMemory> {
     let mut written = String::new(desk.rt.alloc());
     add_marked(&mut written, row, "> ", "\n")?;
     add_marked(&mut written, row, "= ", "")?;
@@ -63,7 +68,7 @@ fn is_answered(desk: &Desk<'_>, row: &str, status: u8) -> Result<bool, GaveUp> {
 }
 
 /// A command answers as its row says.
-pub fn answers(desk: &mut Desk<'_>, row: &str) -> Result<(), GaveUp> {
+pub fn answers(desk: &mut Desk<'_>, row: &str) -> Result<(), HarnessOutOfMemory> {
     let line = marked(row, "$ ").unwrap_or("");
     let words = split(desk.rt.alloc(), line)?;
     let given = marked(row, "< ");

@@ -1,8 +1,8 @@
 //! No words, and refusals that no input leads to.
 
 use crate::command::status;
-use oci_desk::{Desk, Input, Manner};
 use oci_doc_run::Refusal;
+use oci_test_harness::{Desk, Input, Manner};
 use std::io::ErrorKind;
 
 const USAGE: &str = "usage: ocidoc norm KIND | pretty KIND | ref TEXT | digest TEXT | pin TEXT\n";

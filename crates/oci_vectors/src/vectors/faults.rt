@@ -1,7 +1,7 @@
 //! A document over streams that give and take little, or fail.
 
 use crate::command::{ends_in, tells};
-use oci_desk::{Desk, Manner, Sample};
+use oci_test_harness::{Desk, Manner, Sample};
 use std::io::ErrorKind;
 
 /// Bytes that a reader gives at most before it fails.

@@ -1,7 +1,7 @@
 use Rattle.std.proofs.Common.{subst, IfErr}
 use Rattle.std.specs.Prelude.{OnOk}
 use Rattle.std.specs.Io.KnownBytes.{Appends}
-use Rattle.oci_spec.specs.Engines.{WritesDocument}
+use Rattle.oci_json_io.specs.Engines.{WritesDocument}
 use Rattle.oci_doc_run.specs.Refusals.{TellsOfNormal}
 use Rattle.oci_doc_run.proofs.document.normal_of_kind.Goals as goal
 

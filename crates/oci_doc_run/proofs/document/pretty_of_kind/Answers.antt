@@ -1,7 +1,7 @@
 use Rattle.std.proofs.Common.{subst, IfErr}
 use Rattle.std.specs.Prelude.{OnOk}
 use Rattle.std.specs.Io.KnownBytes.{Appends}
-use Rattle.oci_spec.specs.Pretty.{WritesPretty}
+use Rattle.oci_schema.specs.Pretty.{WritesPretty}
 use Rattle.oci_doc_run.specs.Refusals.{TellsOfPretty}
 use Rattle.oci_doc_run.proofs.document.pretty_of_kind.Goals as goal
 

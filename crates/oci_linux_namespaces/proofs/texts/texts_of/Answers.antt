@@ -1,5 +1,5 @@
-use Rattle.oci_json_schema.specs.Plain as plain
-use Rattle.oci_json_schema.specs.Types.{text_plain}
+use Rattle.oci_json_model.specs.Plain as plain
+use Rattle.oci_json_model.specs.Types.{text_plain}
 use Rattle.std.proofs.Common.{ap}
 use Rattle.oci_linux_namespaces.proofs.Lists.{plains_next}
 use Rattle.oci_linux_namespaces.proofs.texts.texts_of.Goals as goal

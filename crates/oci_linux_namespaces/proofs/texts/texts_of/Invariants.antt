@@ -1,6 +1,6 @@
 use Rattle.std.proofs.Common.{◌≡◌, take, map}
-use Rattle.oci_json_schema.specs.Plain as plain
-use Rattle.oci_json_schema.specs.Types.{text_plain}
+use Rattle.oci_json_model.specs.Plain as plain
+use Rattle.oci_json_model.specs.Types.{text_plain}
 use Rattle.oci_linux_namespaces.proofs.texts.texts_of.Given as goal
 
 abbrev pub invariant-loop-text : goal.invariant-loop-text

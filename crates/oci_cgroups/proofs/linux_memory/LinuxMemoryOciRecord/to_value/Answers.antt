@@ -2,14 +2,14 @@ use Rattle.std.proofs.Common.{codes, ap, ◌∙◌}
 use Rattle.serde_json.specs.Data.{object}
 use Rattle.serde_json.specs.View.{members_view}
 use Rattle.serde_json.proofs.Views.{view-Object}
-use Rattle.oci_json_schema.specs.Value.{with_member}
-use Rattle.oci_json_schema.proofs.Together.{answered, done}
+use Rattle.oci_json_model.specs.Value.{with_member}
+use Rattle.oci_json_model.proofs.Together.{answered, done}
 use Rattle.oci_cgroups.proofs.linux_memory.LinuxMemoryOciRecord.to_value.Goals as goal
 
 pub returns-clause-ok : goal.returns-clause-ok
 returns-clause-ok c =
-    let first = answered _ _ _ c.in_ok-all_2.ensures.ok.0 c.all_5.ensures.ok in
-    let second = answered _ _ _ c.in_ok-all_2.ensures.ok.1 c.all_4.ensures.ok in
+    let first = answered _ _ _ c.in_ok-try_join2.ensures.ok.0 c.try_join5.ensures.ok in
+    let second = answered _ _ _ c.in_ok-try_join2.ensures.ok.1 c.try_join4.ensures.ok in
     view-Object _ ∙ ap object (
     done _ _ _ second.3 c.write_optional-9.ensures.ok ∙ ap (with_member (codes "checkBeforeUpdate") _) (
     done _ _ _ second.2 c.write_optional-8.ensures.ok ∙ ap (with_member (codes "useHierarchy") _) (

@@ -2,22 +2,23 @@ use Rattle.std.proofs.Common.{codes, ap, refl, Err, ◌∙◌}
 use Rattle.serde_json.specs.Data.{object}
 use Rattle.serde_json.specs.View.{members_view}
 use Rattle.serde_json.proofs.Views.{view-Object}
-use Rattle.oci_json_schema.specs.Value.{with_member}
-use Rattle.oci_json_schema.proofs.Together.{answered, done}
-use Rattle.oci_json_schema.proofs.Lists.{exits}
+use Rattle.oci_json_model.specs.Value.{with_member}
+use Rattle.oci_json_model.proofs.Together.{answered, done}
+use Rattle.oci_json_model.proofs.Lists.{exits}
 use Rattle.oci_text_base.specs.Refused.{IsSchema}
 use Rattle.oci_text_base.specs.declared.error.OciSpecError.{OciSpecError}
-use Rattle.oci_json_schema.specs.Writable.{Writable}
-use Rattle.oci_linux.specs.Linux.{linux, linux_plain}
-use Rattle.oci_json_schema.proofs.Refusals.{each_4, each_5, weaker}
+use Rattle.oci_json_model.specs.Writable.{Writable}
+use Rattle.oci_shapes.specs.Linux.{linux}
+use Rattle.oci_linux.specs.Linux.{linux_plain}
+use Rattle.oci_json_model.proofs.Refusals.{each_4, each_5, weaker}
 use Rattle.oci_linux.proofs.linux.LinuxOciRecord.to_value.Goals as goal
 
 pub returns-clause-ok : goal.returns-clause-ok
 returns-clause-ok c =
-    let first = answered _ _ _ c.in_ok-all_4.ensures.ok.0 c.all_5.ensures.ok in
-    let second = answered _ _ _ c.in_ok-all_4.ensures.ok.1 c.all_4.ensures.ok in
-    let third = answered _ _ _ c.in_ok-all_4.ensures.ok.2 c.all_4-2.ensures.ok in
-    let fourth = answered _ _ _ c.in_ok-all_4.ensures.ok.3 c.all_4-3.ensures.ok in
+    let first = answered _ _ _ c.in_ok-try_join4.ensures.ok.0 c.try_join5.ensures.ok in
+    let second = answered _ _ _ c.in_ok-try_join4.ensures.ok.1 c.try_join4.ensures.ok in
+    let third = answered _ _ _ c.in_ok-try_join4.ensures.ok.2 c.try_join4-2.ensures.ok in
+    let fourth = answered _ _ _ c.in_ok-try_join4.ensures.ok.3 c.try_join4-3.ensures.ok in
     view-Object _ ∙ ap object (
     done _ _ _ fourth.3 c.write_optional-17.ensures.ok ∙ ap (with_member (codes "timeOffsets") _) (
     done _ _ _ fourth.2 c.write_optional-16.ensures.ok ∙ ap (with_member (codes "personality") _) (
@@ -40,10 +41,10 @@ returns-clause-ok c =
 
 pub returns-clause-fits : goal.returns-clause-fits
 returns-clause-fits c =
-    let first = answered _ _ _ c.in_ok-all_4.ensures.ok.0 c.all_5.ensures.ok in
-    let second = answered _ _ _ c.in_ok-all_4.ensures.ok.1 c.all_4.ensures.ok in
-    let third = answered _ _ _ c.in_ok-all_4.ensures.ok.2 c.all_4-2.ensures.ok in
-    let fourth = answered _ _ _ c.in_ok-all_4.ensures.ok.3 c.all_4-3.ensures.ok in (
+    let first = answered _ _ _ c.in_ok-try_join4.ensures.ok.0 c.try_join5.ensures.ok in
+    let second = answered _ _ _ c.in_ok-try_join4.ensures.ok.1 c.try_join4.ensures.ok in
+    let third = answered _ _ _ c.in_ok-try_join4.ensures.ok.2 c.try_join4-2.ensures.ok in
+    let fourth = answered _ _ _ c.in_ok-try_join4.ensures.ok.3 c.try_join4-3.ensures.ok in (
       _,
       refl,
       (
@@ -100,12 +101,12 @@ returns-clause-fits c =
       ),
     )
 
-pub returns-in_err-all_4-clause-err : goal.returns-in_err-all_4-clause-err
-returns-in_err-all_4-clause-err c =
+pub returns-in_err-try_join4-clause-err : goal.returns-in_err-try_join4-clause-err
+returns-in_err-try_join4-clause-err c =
     let Refuses : OciSpecError → Type 0 = λ e. IsSchema e → ¬ Writable linux (linux_plain c.args.self.now) in
     exits _ _ _ c.from_residual.ensures.1 (each_4 {T = OciSpecError} Refuses _ _ _ _ (Err _)
-    (each_5 Refuses _ _ _ _ _ _ (weaker _ _ _ c.write_optional.ensures.err (λ w. w.0)) (weaker _ _ _ c.write_optional-2.ensures.err (λ w. w.1.0)) (weaker _ _ _ c.write_optional-3.ensures.err (λ w. w.1.1.0)) (weaker _ _ _ c.write_optional-4.ensures.err (λ w. w.1.1.1.0)) (weaker _ _ _ c.write_optional-5.ensures.err (λ w. w.1.1.1.1.0)) c.all_5.ensures.err)
-    (each_4 Refuses _ _ _ _ _ (weaker _ _ _ c.write_optional-6.ensures.err (λ w. w.1.1.1.1.1.0)) (weaker _ _ _ c.write_optional-7.ensures.err (λ w. w.1.1.1.1.1.1.0)) (weaker _ _ _ c.write_optional-8.ensures.err (λ w. w.1.1.1.1.1.1.1.0)) (weaker _ _ _ c.write_optional-9.ensures.err (λ w. w.1.1.1.1.1.1.1.1.0)) c.all_4.ensures.err)
-    (each_4 Refuses _ _ _ _ _ (weaker _ _ _ c.write_optional-10.ensures.err (λ w. w.1.1.1.1.1.1.1.1.1.0)) (weaker _ _ _ c.write_optional-11.ensures.err (λ w. w.1.1.1.1.1.1.1.1.1.1.0)) (weaker _ _ _ c.write_optional-12.ensures.err (λ w. w.1.1.1.1.1.1.1.1.1.1.1.0)) (weaker _ _ _ c.write_optional-13.ensures.err (λ w. w.1.1.1.1.1.1.1.1.1.1.1.1.0)) c.all_4-2.ensures.err)
-    (each_4 Refuses _ _ _ _ _ (weaker _ _ _ c.write_optional-14.ensures.err (λ w. w.1.1.1.1.1.1.1.1.1.1.1.1.1.0)) (weaker _ _ _ c.write_optional-15.ensures.err (λ w. w.1.1.1.1.1.1.1.1.1.1.1.1.1.1.0)) (weaker _ _ _ c.write_optional-16.ensures.err (λ w. w.1.1.1.1.1.1.1.1.1.1.1.1.1.1.1.0)) (weaker _ _ _ c.write_optional-17.ensures.err (λ w. w.1.1.1.1.1.1.1.1.1.1.1.1.1.1.1.1.0)) c.all_4-3.ensures.err)
-    c.in_err-all_4.ensures.err)
+    (each_5 Refuses _ _ _ _ _ _ (weaker _ _ _ c.write_optional.ensures.err (λ w. w.0)) (weaker _ _ _ c.write_optional-2.ensures.err (λ w. w.1.0)) (weaker _ _ _ c.write_optional-3.ensures.err (λ w. w.1.1.0)) (weaker _ _ _ c.write_optional-4.ensures.err (λ w. w.1.1.1.0)) (weaker _ _ _ c.write_optional-5.ensures.err (λ w. w.1.1.1.1.0)) c.try_join5.ensures.err)
+    (each_4 Refuses _ _ _ _ _ (weaker _ _ _ c.write_optional-6.ensures.err (λ w. w.1.1.1.1.1.0)) (weaker _ _ _ c.write_optional-7.ensures.err (λ w. w.1.1.1.1.1.1.0)) (weaker _ _ _ c.write_optional-8.ensures.err (λ w. w.1.1.1.1.1.1.1.0)) (weaker _ _ _ c.write_optional-9.ensures.err (λ w. w.1.1.1.1.1.1.1.1.0)) c.try_join4.ensures.err)
+    (each_4 Refuses _ _ _ _ _ (weaker _ _ _ c.write_optional-10.ensures.err (λ w. w.1.1.1.1.1.1.1.1.1.0)) (weaker _ _ _ c.write_optional-11.ensures.err (λ w. w.1.1.1.1.1.1.1.1.1.1.0)) (weaker _ _ _ c.write_optional-12.ensures.err (λ w. w.1.1.1.1.1.1.1.1.1.1.1.0)) (weaker _ _ _ c.write_optional-13.ensures.err (λ w. w.1.1.1.1.1.1.1.1.1.1.1.1.0)) c.try_join4-2.ensures.err)
+    (each_4 Refuses _ _ _ _ _ (weaker _ _ _ c.write_optional-14.ensures.err (λ w. w.1.1.1.1.1.1.1.1.1.1.1.1.1.0)) (weaker _ _ _ c.write_optional-15.ensures.err (λ w. w.1.1.1.1.1.1.1.1.1.1.1.1.1.1.0)) (weaker _ _ _ c.write_optional-16.ensures.err (λ w. w.1.1.1.1.1.1.1.1.1.1.1.1.1.1.1.0)) (weaker _ _ _ c.write_optional-17.ensures.err (λ w. w.1.1.1.1.1.1.1.1.1.1.1.1.1.1.1.1.0)) c.try_join4-3.ensures.err)
+    c.in_err-try_join4.ensures.err)

@@ -1,12 +1,12 @@
 -- Each member's meaning, from its reading.
 use Rattle.std.proofs.Common.{refl, rules}
-use Rattle.oci_json_schema.proofs.Together.{answered}
+use Rattle.oci_json_model.proofs.Together.{answered}
 use Rattle.oci_linux_namespaces.proofs.linux_device.LinuxDeviceOciRecord.from_value.Goals as goal
 
 pub returns-clause-ok : goal.returns-clause-ok
 returns-clause-ok c =
-    let first = answered _ _ _ c.in_ok-path.ensures.ok.0 c.all_4.ensures.ok in
-    let second = answered _ _ _ c.in_ok-path.ensures.ok.1 c.all_3.ensures.ok in (
+    let first = answered _ _ _ c.in_ok-path.ensures.ok.0 c.try_join4.ensures.ok in
+    let second = answered _ _ _ c.in_ok-path.ensures.ok.1 c.try_join3.ensures.ok in (
       _,
       (let h = c.if-not-is_object.ensures in cc),
       refl,

@@ -1,14 +1,14 @@
 -- Each member's meaning, from its reading.
 use Rattle.std.proofs.Common.{refl, rules}
-use Rattle.oci_json_schema.proofs.Together.{answered}
+use Rattle.oci_json_model.proofs.Together.{answered}
 use Rattle.oci_process.proofs.process.ProcessOciRecord.from_value.Goals as goal
 
 pub returns-clause-ok : goal.returns-clause-ok
 returns-clause-ok c =
-    let first = answered _ _ _ c.in_ok-terminal.ensures.ok.0 c.all_4.ensures.ok in
-    let second = answered _ _ _ c.in_ok-terminal.ensures.ok.1 c.all_4-2.ensures.ok in
-    let third = answered _ _ _ c.in_ok-terminal.ensures.ok.2 c.all_4-3.ensures.ok in
-    let fourth = answered _ _ _ c.in_ok-terminal.ensures.ok.3 c.all_4-4.ensures.ok in (
+    let first = answered _ _ _ c.in_ok-terminal.ensures.ok.0 c.try_join4.ensures.ok in
+    let second = answered _ _ _ c.in_ok-terminal.ensures.ok.1 c.try_join4-2.ensures.ok in
+    let third = answered _ _ _ c.in_ok-terminal.ensures.ok.2 c.try_join4-3.ensures.ok in
+    let fourth = answered _ _ _ c.in_ok-terminal.ensures.ok.3 c.try_join4-4.ensures.ok in (
       _,
       (let h = c.if-not-is_object.ensures in cc),
       refl,

@@ -1,7 +1,7 @@
 -- What each member means, of what stood under its name.
 use Rattle.std.proofs.Common.{refl, rules}
 use Rattle.serde_json.specs.View.{view}
-use Rattle.oci_json_schema.proofs.Together.{answered}
+use Rattle.oci_json_model.proofs.Together.{answered}
 use Rattle.oci_reference.proofs.reference.ReferenceOciRecord.from_value_owned.Goals as goal
 
 pub returns-clause-ok : goal.returns-clause-ok

@@ -2,15 +2,15 @@ use Rattle.std.proofs.Common.{codes, ap, ◌∙◌}
 use Rattle.serde_json.specs.Data.{object, put}
 use Rattle.serde_json.specs.View.{members_view}
 use Rattle.serde_json.proofs.Views.{view-Object}
-use Rattle.oci_json_schema.specs.Value.{with_member}
-use Rattle.oci_json_schema.proofs.Together.{answered, done}
+use Rattle.oci_json_model.specs.Value.{with_member}
+use Rattle.oci_json_model.proofs.Together.{answered, done}
 use Rattle.oci_runtime_spec.proofs.spec.SpecOciRecord.to_value.Goals as goal
 
 pub returns-clause-ok : goal.returns-clause-ok
 returns-clause-ok c =
-    let first = answered _ _ _ c.in_ok-all_3.ensures.ok.0 c.all_5.ensures.ok in
-    let second = answered _ _ _ c.in_ok-all_3.ensures.ok.1 c.all_5-2.ensures.ok in
-    let third = answered _ _ _ c.in_ok-all_3.ensures.ok.2 c.all_5-3.ensures.ok in
+    let first = answered _ _ _ c.in_ok-try_join3.ensures.ok.0 c.try_join5.ensures.ok in
+    let second = answered _ _ _ c.in_ok-try_join3.ensures.ok.1 c.try_join5-2.ensures.ok in
+    let third = answered _ _ _ c.in_ok-try_join3.ensures.ok.2 c.try_join5-3.ensures.ok in
     view-Object _ ∙ ap object (
     done _ _ _ third.4 c.write_optional-14.ensures.ok ∙ ap (with_member (codes "gidMappings") _) (
     done _ _ _ third.3 c.write_optional-13.ensures.ok ∙ ap (with_member (codes "uidMappings") _) (

@@ -1,6 +1,6 @@
 use Rattle.std.proofs.Common.{ap, ◌∙◌}
-use Rattle.oci_json_form.specs.Tables.{shape_of}
-use Rattle.oci_json_form.proofs.Tables.{shape_map}
+use Rattle.oci_schema_walks.specs.Tables.{shape_of}
+use Rattle.oci_schema_walks.proofs.Tables.{shape_map}
 use Rattle.oci_spec.proofs.forms.made.map.Goals as goal
 
 pub returns : goal.returns

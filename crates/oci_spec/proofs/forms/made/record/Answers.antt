@@ -1,7 +1,7 @@
 use Rattle.std.proofs.Common.{Some, refl, ap, sym, ◌∙◌}
-use Rattle.oci_json_schema.specs.Shape as shape
-use Rattle.oci_json_form.specs.Tables.{rows_of}
-use Rattle.oci_json_form.proofs.Tables.{record_is}
+use Rattle.oci_json_model.specs.Shape as shape
+use Rattle.oci_schema_walks.specs.Tables.{rows_of}
+use Rattle.oci_schema_walks.proofs.Tables.{record_is}
 use Rattle.oci_spec.specs.Made.{made_rows, record_shape}
 use Rattle.oci_spec.proofs.Rooms.{one_more, pair_more, no_pair, all_made, before}
 use Rattle.oci_spec.proofs.forms.made.record.Goals as goal

@@ -1,11 +1,11 @@
 use Rattle.std.proofs.Common.{◌≡◌, subst, IfOk, IfErr}
 use Rattle.serde_json.specs.View.{view}
 use Rattle.oci_text_base.specs.Refused.{IsSchema}
-use Rattle.oci_json_schema.specs.Plain.{Plain}
-use Rattle.oci_json_schema.specs.Means.{Means}
-use Rattle.oci_json_schema.specs.Value.{value}
-use Rattle.oci_json_schema.specs.Writable.{Writable}
-use Rattle.oci_json_form.specs.Conformed.{IsNotConformed}
+use Rattle.oci_json_model.specs.Plain.{Plain}
+use Rattle.oci_json_model.specs.Means.{Means}
+use Rattle.oci_json_model.specs.Value.{value}
+use Rattle.oci_json_model.specs.Writable.{Writable}
+use Rattle.oci_schema_walks.specs.Conformed.{IsNotConformed}
 use Rattle.oci_spec.proofs.forms.normal.conform_as.Goals as goal
 
 pub returns-clause-ok : goal.returns-clause-ok

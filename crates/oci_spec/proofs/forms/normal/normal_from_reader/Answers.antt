@@ -1,6 +1,6 @@
 use Rattle.std.proofs.lemmas.Result.{IfErr-weaker}
 use Rattle.serde_json.specs.View.{view}
-use Rattle.oci_json_form.specs.Tables.{shape_of}
+use Rattle.oci_schema_walks.specs.Tables.{shape_of}
 use Rattle.oci_spec.proofs.Means.{normal_of, not_normalized}
 use Rattle.oci_spec.proofs.forms.normal.normal_from_reader.Goals as goal
 

@@ -2,7 +2,7 @@ use Rattle.std.proofs.Common.{◌⊎◌, subst, IfErr, IfSome}
 use Rattle.std.specs.Prelude.{OnOk}
 use Rattle.std.specs.Io.KnownBytes.{Appends, Keeps}
 use Rattle.oci_text_base.specs.Refused.{IsSchema, IsIo}
-use Rattle.oci_json_engines.specs.Engines.{AppendsSome, WritesDocument, ReadsBackDocument, IsNotNormalized}
+use Rattle.oci_json_io.specs.Engines.{AppendsSome, WritesDocument, ReadsBackDocument, IsNotNormalized}
 use Rattle.oci_spec.proofs.forms.normal.normalize.Goals as goal
 
 pub returns-clause-ok : goal.returns-clause-ok

@@ -3,9 +3,9 @@ use Rattle.std.specs.Io.KnownBytes.{Appends}
 use Rattle.serde_json.specs.View.{view}
 use Rattle.serde_json.specs.Written.{compact_text}
 use Rattle.oci_text_base.specs.Refused.{IsIo}
-use Rattle.oci_json_engines.specs.Engines.{AppendsSome}
-use Rattle.oci_json_engines.proofs.Texts.{none_in, read_back}
-use Rattle.oci_json_form.specs.Tables.{shape_of}
+use Rattle.oci_json_io.specs.Engines.{AppendsSome}
+use Rattle.oci_json_io.proofs.Texts.{none_in, read_back}
+use Rattle.oci_schema_walks.specs.Tables.{shape_of}
 use Rattle.oci_spec.proofs.Means.{after_error}
 use Rattle.oci_spec.proofs.forms.normal.normalize_by_form.Goals as goal
 

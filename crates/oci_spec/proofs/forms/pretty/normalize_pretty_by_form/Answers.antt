@@ -1,9 +1,9 @@
 use Rattle.std.proofs.Common.{subst}
 use Rattle.std.specs.Io.KnownBytes.{Appends}
 use Rattle.serde_json.specs.View.{view}
-use Rattle.oci_json_schema.specs.Value.{value}
-use Rattle.oci_json_engines.proofs.Texts.{is_pretty}
-use Rattle.oci_json_form.specs.Tables.{shape_of}
+use Rattle.oci_json_model.specs.Value.{value}
+use Rattle.oci_json_io.proofs.Texts.{is_pretty}
+use Rattle.oci_schema_walks.specs.Tables.{shape_of}
 use Rattle.oci_spec.proofs.forms.pretty.normalize_pretty_by_form.Goals as goal
 
 pub returns-clause-ok : goal.returns-clause-ok

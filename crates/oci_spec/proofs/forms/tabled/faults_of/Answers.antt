@@ -1,8 +1,8 @@
 use Rattle.std.proofs.Common.{◌≡◌, ◌↔◌, [], map, subst, IfOk}
 use Rattle.serde_json.specs.View.{view}
-use Rattle.oci_json_schema.specs.Plain.{Plain}
-use Rattle.oci_json_schema.specs.Means.{Means}
-use Rattle.oci_json_form.specs.Faults.{told, faults}
+use Rattle.oci_json_model.specs.Plain.{Plain}
+use Rattle.oci_json_model.specs.Means.{Means}
+use Rattle.oci_schema_walks.specs.Faults.{told, faults}
 use Rattle.oci_spec.proofs.forms.tabled.faults_of.Goals as goal
 
 pub returns-clause-all : goal.returns-clause-all

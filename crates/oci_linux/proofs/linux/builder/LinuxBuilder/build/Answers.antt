@@ -2,7 +2,7 @@
 use Rattle.std.proofs.Common.{◌≡◌, Err}
 use Rattle.oci_text_base.specs.declared.error.OciSpecError.{OciSpecError}
 use Rattle.oci_text_base.specs.declared.error.OciSpecError.TheVariants.{Memory}
-use Rattle.oci_json_schema.proofs.Refusals.{each_4, left_with}
+use Rattle.oci_json_model.proofs.Refusals.{each_4, left_with}
 use Rattle.oci_linux.proofs.linux.builder.LinuxBuilder.build.Goals as goal
 
 pub returns-in_err-resources-clause-err : goal.returns-in_err-resources-clause-err

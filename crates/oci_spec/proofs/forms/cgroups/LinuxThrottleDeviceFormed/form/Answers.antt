@@ -1,4 +1,4 @@
-use Rattle.oci_json_form.proofs.Stands.{shape_is, a_leaf, a_record, ◌▸◌, no_row}
+use Rattle.oci_schema_walks.proofs.Stands.{shape_is, a_leaf, a_record, ◌▸◌, no_row}
 use Rattle.oci_spec.proofs.forms.cgroups.LinuxThrottleDeviceFormed.form.Goals as goal
 
 pub returns : goal.returns

@@ -1,4 +1,4 @@
-use Rattle.oci_json_form.proofs.Stands.{a_leaf}
+use Rattle.oci_schema_walks.proofs.Stands.{a_leaf}
 use Rattle.oci_spec.proofs.Rooms.{◌▹◌, no_part, is_made, list_holds}
 use Rattle.oci_spec.proofs.forms.features.LinuxFeatureTabled.table.Goals as goal
 

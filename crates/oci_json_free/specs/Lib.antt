@@ -1,9 +1,0 @@
-pub mod Alike
-pub mod FreeValues
-pub mod SameFree
-pub mod SameTrees
-pub use Rattle.oci_json_schema.specs.Erased
-pub use Rattle.oci_json_schema.specs.Means
-pub use Rattle.oci_json_schema.specs.Plain
-pub use Rattle.oci_json_schema.specs.Shape
-pub use Rattle.oci_json_schema.specs.Value

@@ -1,4 +1,0 @@
-pub mod KeySets
-pub mod Presences
-pub mod RefusedDetails
-pub mod Sorting

@@ -1,0 +1,188 @@
+//! Kinds of members, and the readers and writers of optional members of a kind.
+ghost use Rattle.std.specs.Prelude.{◌≡◌, None, option_map, IfOk, IfErr, OnOk, OnErr};
+ghost use Rattle.std.specs.BTreeMap.{IsUnchanged};
+ghost use Rattle.serde_json.specs.View.{view, members_view};
+ghost use Rattle.serde_json.specs.Find.{get};
+ghost use Rattle.oci_text_base.specs.Refused.{IsSchema, IsMemoryOrSchema};
+ghost use Rattle.oci_json_model.specs.Plain.{Plain};
+ghost use Rattle.oci_json_model.specs.Shape.{Shape};
+ghost use Rattle.oci_json_model.specs.Shape as presence;
+ghost use Rattle.oci_json_model.specs.Fits.{Fits, FitsMember, IfFilled};
+ghost use Rattle.oci_json_model.specs.Means.{Means, MeansMember};
+ghost use Rattle.oci_json_model.specs.Refused.{IsRefused, IsMemberRefused, RefusesRecords};
+ghost use Rattle.oci_json_model.specs.Types.{perhaps};
+ghost use Rattle.oci_json_model.specs.Value.{value as json_of, with_member, member_value};
+ghost use Rattle.oci_json_model.specs.Writable.{Writable};
+
+use oci_json_model::Found;
+use oci_json_model::fault::placed;
+use oci_text_base::{OciSpecError, Result};
+use serde_json::{Map, Value};
+use std::alloc::Global;
+
+/// A way to read and write values of a type that has other ways too: a list of texts, for one, may stand for an array
+/// or for the names of an object.
+pub trait OciKind<T> {
+    /// The JSON that is allowed.
+    ghost shape: { Shape };
+
+    /// The content.
+    ghost plain: { T → Plain };
+
+    /// What the value means; `SerDe(Schema)` where the shape does not allow it.
+    fn read(alloc: Global, value: &Value) -> Result<T>
+        ensures ok { IfOk result (λ x. Means shape (view value.now) (plain x)) }
+        ensures err { IfErr result (λ e. IsSchema e → IsRefused shape (view value.now)) }
+        ensures kind { IfErr result IsMemoryOrSchema };
+
+    /// What the value means, from a value that may be taken apart. It is consumed also where it is refused.
+    fn read_owned(alloc: Global, value: Value) -> Result<T>
+        ensures ok { IfOk result (λ x. Means shape (view value) (plain x)) }
+        ensures err { IfErr result (λ e. IsSchema e → IsRefused shape (view value)) }
+        ensures kind { IfErr result IsMemoryOrSchema }
+    {
+        Self::read(alloc, &value)
+    }
+
+    /// The value of the content; `SerDe(Schema)` where it is not writable.
+    fn write(x: &T, alloc: Global) -> Result<Value>
+        ensures ok { IfOk result (λ v. view v ≡ json_of shape (plain x.now)) }
+        ensures fits { IfOk result (λ v. Fits shape (plain x.now)) }
+        ensures writable { IfOk result (λ v. Writable shape (plain x.now)) }
+        ensures err { IfErr result (λ e. IsSchema e → ¬ Writable shape (plain x.now)) }
+        ensures kind { IfErr result IsMemoryOrSchema };
+
+    /// An equal value.
+    fn copy(x: &T, alloc: Global) -> Result<T>
+        ensures ok { IfOk result (λ y. plain y ≡ plain x.now) }
+        ensures err { IfErr result (λ e. e ≡ OciSpecError.Memory) };
+}
+
+/// Reads what was found under the name of a member of a kind that may be absent or null.
+#[tactic(auto, using(oci_json_model::proofs::Readers::found_refused, oci_json_model::proofs::Readers::optional_means, oci_json_model::proofs::Readers::optional_null))]
+fn found_as<K: OciKind<T>, T>(
+    alloc: Global,
+    found: Option<&Value>,
+    owner: &'static str,
+    name: &'static str,
+) -> Result<Option<T>>
+    ensures ok { IfOk result (λ x. MeansMember presence.optional (Means K.shape) (option_map (λ v. view v.now) found.entry) (perhaps K.plain x)) }
+    ensures err { IfErr result (λ e. IsSchema e → IsMemberRefused presence.optional K.shape (option_map (λ v. view v.now) found.entry) None) }
+    ensures kind { IfErr result IsMemoryOrSchema }
+{
+    match found {
+        Some(found) => {
+            if found.is_null() {
+                return Ok(None);
+            }
+            match K::read(alloc, found) {
+                Ok(x) => Ok(Some(x)),
+                Err(fault) => Err(placed(fault, owner, name)),
+            }
+        }
+        None => Ok(None),
+    }
+}
+
+/// Reads a member of a kind that may be absent or null. A value that the kind refuses is placed at the owner and the name.
+#[tactic(auto, using(oci_json_model::proofs::Readers::optional_refused))]
+pub fn optional_as<K: OciKind<T>, T>(
+    alloc: Global,
+    value: &Value,
+    owner: &'static str,
+    name: &'static str,
+) -> Result<Option<T>>
+    ensures ok { IfOk result (λ x. MeansMember presence.optional (Means K.shape) (get name.now (view value.now)) (perhaps K.plain x)) }
+    ensures err { IfErr result (λ e. IsSchema e → RefusesRecords name.now (None, presence.optional, K.shape) (view value.now)) }
+    ensures kind { IfErr result IsMemoryOrSchema }
+{
+    match found_as::<K, T>(alloc, value.get(name), owner, name) {
+        Ok(x) => Ok(x),
+        Err(fault) => Err(fault),
+    }
+}
+
+/// Reads what stood under the name of a member of a kind that may be absent or null.
+#[tactic(auto, using(oci_json_model::proofs::Readers::found_refused, oci_json_model::proofs::Readers::optional_means, oci_json_model::proofs::Readers::optional_null))]
+fn found_as_owned<K: OciKind<T>, T>(
+    alloc: Global,
+    found: Option<Value>,
+    owner: &'static str,
+    name: &'static str,
+) -> Result<Option<T>>
+    ensures ok { IfOk result (λ x. MeansMember presence.optional (Means K.shape) (option_map view found) (perhaps K.plain x)) }
+    ensures err { IfErr result (λ e. IsSchema e → IsMemberRefused presence.optional K.shape (option_map view found) None) }
+    ensures kind { IfErr result IsMemoryOrSchema }
+{
+    match found {
+        Some(value) => {
+            if value.is_null() {
+                return Ok(None);
+            }
+            match K::read_owned(alloc, value) {
+                Ok(x) => Ok(Some(x)),
+                Err(fault) => Err(placed(fault, owner, name)),
+            }
+        }
+        None => Ok(None),
+    }
+}
+
+/// Reads a member of a kind that may be absent or null, of what stood under its name.
+#[tactic(auto, using(oci_json_model::proofs::Readers::optional_refused, oci_json_model::proofs::Readers::optional_found_means))]
+pub fn optional_as_owned<K: OciKind<T>, T>(
+    alloc: Global,
+    found: Found,
+    owner: &'static str,
+    name: &'static str,
+) -> Result<Option<T>>
+    ensures ok { IfOk result (λ x. (d : _) → option_map view found.value ≡ get name.now d → MeansMember presence.optional (Means K.shape) (get name.now d) (perhaps K.plain x)) }
+    ensures err { IfErr result (λ e. IsSchema e → (d : _) → option_map view found.value ≡ get name.now d → RefusesRecords name.now (None, presence.optional, K.shape) d) }
+    ensures kind { IfErr result IsMemoryOrSchema }
+{
+    match found_as_owned::<K, T>(alloc, found.into_value(), owner, name) {
+        Ok(x) => Ok(x),
+        Err(fault) => Err(fault),
+    }
+}
+
+/// Writes a member of a kind unless it is none. Content that is not writable is placed at the owner and the name.
+#[tactic(auto, using(oci_json_model::proofs::Writers::inserted))]
+pub fn write_optional_as<K: OciKind<T>, T>(
+    members: &mut Map<String, Value>,
+    alloc: Global,
+    owner: &'static str,
+    name: &'static str,
+    x: &Option<T>,
+) -> Result<()>
+    ensures ok { OnOk result (members_view members.new.entries ≡ with_member name.now (member_value presence.optional (json_of K.shape) (perhaps K.plain x.now)) (members_view members.old.entries)) }
+    ensures fits { OnOk result (FitsMember presence.optional (Fits K.shape) (perhaps K.plain x.now)) }
+    ensures writable { OnOk result (IfFilled (Writable K.shape) (perhaps K.plain x.now)) }
+    ensures err { IfErr result (λ e. IsSchema e → ¬ IfFilled (Writable K.shape) (perhaps K.plain x.now)) }
+    ensures unchanged { OnErr result (IsUnchanged members.old members.new) }
+    ensures kind { IfErr result IsMemoryOrSchema }
+{
+    match x {
+        Some(x) => {
+            let written = match K::write(x, alloc) {
+                Ok(written) => written,
+                Err(fault) => return Err(placed(fault, owner, name)),
+            };
+            let key = String::from_str(alloc, name)?;
+            members.insert(key, written)?;
+            Ok(())
+        }
+        None => Ok(()),
+    }
+}
+
+/// Copies a member of a kind that may be none.
+pub fn copy_optional_as<K: OciKind<T>, T>(x: &Option<T>, alloc: Global) -> Result<Option<T>>
+    ensures ok { IfOk result (λ y. perhaps K.plain y ≡ perhaps K.plain x.now) }
+    ensures err { IfErr result (λ e. e ≡ OciSpecError.Memory) }
+{
+    match x {
+        Some(x) => Ok(Some(K::copy(x, alloc)?)),
+        None => Ok(None),
+    }
+}

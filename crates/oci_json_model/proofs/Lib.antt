@@ -1,0 +1,13 @@
+pub mod AlwaysWritable
+pub mod ClosedMembers
+pub mod FoundAll
+pub mod Lists
+pub mod Maps
+pub mod NoFloat
+pub mod Readers
+pub mod Refusals
+pub mod Removed
+pub mod Smaller
+pub mod Tables
+pub mod Together
+pub mod Writers

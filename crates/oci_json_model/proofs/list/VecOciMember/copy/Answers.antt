@@ -1,0 +1,14 @@
+use Rattle.std.proofs.Common.{◌≡◌, ◌+◌, ◌∷◌, [], ◌++◌, take, refl}
+use Rattle.std.proofs.lemmas.List.{take_more}
+use Rattle.oci_json_model.proofs.Lists.{copies_more}
+use Rattle.oci_json_model.proofs.list.VecOciMember.copy.Goals as goal
+
+pub loop-item-preserved : goal.loop-item-preserved
+loop-item-preserved g c =
+    let xs = c.deref-item-items.result.now in
+    let done = take c.loop-item.item-index xs in
+    let x = c.item-item.result in
+    let y = c.in_ok-copy.field-0 in
+    let more : take (c.loop-item.item-index + 1) xs ≡ done ++ x ∷ [] = rw (take_more xs c.loop-item.item-index x c.loop-item-test.true, ← c.item-item.is) refl in
+    let pushed : c.push.new.self.items ≡ c.loop-item.copies.items ++ y ∷ [] = c.in_ok-push.ensures.items in
+    rw (pushed, more) (copies_more g.T.OciMember.plain done c.loop-item.copies.items x y c.loop-item.invariant c.in_ok-copy.ensures.ok)

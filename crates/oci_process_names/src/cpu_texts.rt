@@ -1,0 +1,46 @@
+//! Lists of processors as members of records.
+use crate::cpu_list::is_cpu_list;
+use oci_json_members::OciKind;
+use oci_json_model::fault::refused;
+use oci_text_base::Result;
+use serde_json::Value;
+use std::alloc::Global;
+
+/// A list of processors as a text. Only lists are read and written; in code any text is kept, and a document with a text
+/// that is no list is not writable.
+pub struct CpuTexts;
+
+impl OciKind<String> for CpuTexts {
+    ghost use Rattle.oci_json_model.specs.Shape.{cpu_text};
+    ghost use Rattle.oci_json_model.specs.Types.{text_plain};
+
+    ghost shape = { cpu_text };
+
+    ghost plain = { text_plain };
+
+    #[tactic(auto, using(crate::proofs::CpuMembers::no_text, crate::proofs::CpuMembers::no_list))]
+    fn read(alloc: Global, value: &Value) -> Result<String> {
+        match value.as_str() {
+            Some(text) => {
+                if is_cpu_list(text) {
+                    Ok(String::from_str(alloc, text)?)
+                } else {
+                    Err(refused("", ""))
+                }
+            }
+            None => Err(refused("", "")),
+        }
+    }
+
+    fn write(x: &String, alloc: Global) -> Result<Value> {
+        if is_cpu_list(x.as_str()) {
+            Ok(Value::String(String::from_str(alloc, x.as_str())?))
+        } else {
+            Err(refused("", ""))
+        }
+    }
+
+    fn copy(x: &String, alloc: Global) -> Result<String> {
+        Ok(String::from_str(alloc, x.as_str())?)
+    }
+}

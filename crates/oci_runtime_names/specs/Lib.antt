@@ -1,0 +1,2 @@
+pub mod ContainerState
+pub mod ZOSNamespaceType

@@ -1,0 +1,8 @@
+//! Closed names of the runtime specification that stand in no other part of it.
+#![tactic(auto)]
+
+pub mod container_state;
+pub mod zos_namespace_type;
+
+pub use container_state::ContainerState;
+pub use zos_namespace_type::ZOSNamespaceType;

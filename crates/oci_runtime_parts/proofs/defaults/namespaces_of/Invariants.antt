@@ -1,8 +1,0 @@
-use Rattle.std.proofs.Common.{◌≡◌, take, map}
-use Rattle.oci_json_schema.specs.Plain.{plains}
-use Rattle.oci_runtime_parts.specs.Defaults.{new_namespace}
-use Rattle.oci_linux_namespaces.specs.LinuxNamespace.{linux_namespace_plain}
-use Rattle.oci_runtime_parts.proofs.defaults.namespaces_of.Given as goal
-
-abbrev pub invariant-loop-typ : goal.invariant-loop-typ
-invariant-loop-typ l = plains (map linux_namespace_plain l.listed.items) ≡ plains (map new_namespace (take l.typ-index l.types))

@@ -1,0 +1,33 @@
+-- That the bytes that a value was read from mean the document which the value means.
+use Rattle.std.proofs.Common.{◌≡◌, ℕ, List, Option, Some, None, Result, Ok, Err, inl, inr, IfSome, IfOk, IfErr}
+use Rattle.serde_json.specs.Data.{Data}
+use Rattle.serde_json.specs.View.{view}
+use Rattle.serde_json.specs.declared.value.Value.{Value}
+use Rattle.oci_json_model.specs.Plain.{Plain}
+use Rattle.oci_json_model.specs.Shape.{Shape}
+use Rattle.oci_json_model.specs.Means.{Means}
+use Rattle.oci_json_model.specs.Value.{value}
+use Rattle.oci_json_model.specs.Writable.{Writable}
+use Rattle.oci_json_io.specs.Engines.{MeansBytes, ReadsAs, IsNotNormalized}
+use Rattle.oci_schema_walks.specs.Conformed.{IsNotConformed}
+
+pub bytes_mean : (s : Shape) (input : Option (List ℕ)) (d : Data) (p : Plain) → IfSome input (λ bytes. ReadsAs bytes d) → Means s d p → IfSome input (λ bytes. MeansBytes s bytes p)
+bytes_mean s None d p read means = read
+bytes_mean s (Some bytes) d p read means = (d, read, means)
+
+-- the value that is written for what the bytes mean
+pub normal_of : {E : Type 0} (s : Shape) (input : Option (List ℕ)) (d : Data) (r : Result Value E) → IfSome input (λ bytes. ReadsAs bytes d)
+    → IfOk r (λ v. (p : Plain) × Means s d p × Writable s p × (view v ≡ value s p)) → IfOk r (λ v. (p : Plain) × IfSome input (λ bytes. MeansBytes s bytes p) × Writable s p × (view v ≡ value s p))
+normal_of s input d (Ok v) read made = (made.0, bytes_mean s input d made.0 read made.1, made.2, made.3)
+normal_of s input d (Err e) read made = made
+
+-- bytes that were read as a value which has no normal form
+pub not_normalized : (s : Shape) (input : Option (List ℕ)) (d : Data) → IfSome input (λ bytes. ReadsAs bytes d) → IsNotConformed s d → IfSome input (IsNotNormalized s)
+not_normalized s None d read told = read
+not_normalized s (Some bytes) d read (inl refused) = inl (d, read, refused)
+not_normalized s (Some bytes) d read (inr means) = inr (means.0, (d, read, means.1), means.2)
+
+-- what holds in any case holds after an error
+pub after_error : {A E P : Type 0} (Q : E → Type 0) (r : Result A E) → P → IfErr r (λ e. Q e → P)
+after_error Q (Ok x) p = tt
+after_error Q (Err e) p = λ q. p

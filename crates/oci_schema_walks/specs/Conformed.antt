@@ -1,0 +1,138 @@
+-- The normal form of a value, as a computation: what is written for the document that the value means.
+use Rattle.std.specs.Prelude.{◌⊎◌, bytes_eq, ℕ, List, Bool, true, false, not, ◌&&◌, ◌||◌, if◌then◌else◌, Option, Some, None, option_map, option_and_then, unwrap_or}
+use Rattle.serde_json.specs.Data.{Data, null, number, array, object, Items, no_items, item, Members, no_members, member}
+use Rattle.serde_json.specs.Find.{as_array, as_object, of_integer, get}
+use Rattle.serde_json.specs.Read.{read}
+use Rattle.serde_json.specs.Written.{has_float, compact_text}
+use Rattle.oci_json_model.specs.Means.{Means, as_whole, is_object, get_second, member_names, unless_null}
+use Rattle.oci_json_model.specs.Plain.{Plain}
+use Rattle.oci_json_model.specs.Refused.{IsRefused}
+use Rattle.oci_json_model.specs.WellFormed.{WellFormed, MemberIsWellFormed}
+use Rattle.oci_json_model.specs.Writable.{Writable}
+use Rattle.oci_json_model.specs.Shape.{Presence, required, defaulted, optional, nullable, unless_empty, Shape, text, truth, whole, named, open_name, digest_text, cpu_text, cap_set, list, key_set, detail, free_map, rows, Rows, no_rows, row}
+use Rattle.oci_json_model.specs.Shape as shape
+use Rattle.oci_json_model.specs.Value.{value, capability_texts, sorted, empty_objects, with_member, is_empty_array}
+use Rattle.oci_schema_walks.specs.Allows.{allows, set_in, items_allowed, members_allowed, either_allowed}
+use Rattle.oci_schema_walks.specs.Tables.{shape_of, presence_of, name_of}
+use Rattle.oci_schema_walks.specs.declared.form.Row.{Row}
+
+-- ---- which values have a normal form
+
+-- what was read, if anything was, has no numbers but 64-bit whole ones
+abbrev pub is_kept : Option Data → Bool
+is_kept None = false
+is_kept (Some d) = not (has_float d)
+
+-- allowed, and what is meant is writable: a detail nests no deeper than its text may
+abbrev mutual
+  pub accepts : Shape → Data → Bool
+  accepts text d = allows text d
+  accepts truth d = allows truth d
+  accepts (whole low high) d = allows (whole low high) d
+  accepts (named table) d = allows (named table) d
+  accepts (open_name table) d = allows (open_name table) d
+  accepts digest_text d = allows digest_text d
+  accepts cpu_text d = allows cpu_text d
+  accepts (cap_set table) d = allows (cap_set table) d
+  accepts (list s) d = items_allowed (accepts s) (as_array d)
+  accepts (shape.map s) d = members_allowed (accepts s) (as_object d)
+  accepts key_set d = allows key_set d
+  accepts detail d = allows detail d && is_kept (read (compact_text d))
+  accepts free_map d = allows free_map d
+  accepts (rows rs) d = is_object d && rows_accept rs d
+
+  pub rows_accept : Rows → Data → Bool
+  rows_accept no_rows d = true
+  rows_accept (row name second presence s rs) d = either_allowed presence (accepts s) (get name d) (get_second second d) && rows_accept rs d
+
+-- a listed member of a table
+abbrev pub row_accepts : Row → Data → Bool
+row_accepts r d = either_allowed (presence_of r.presence) (accepts (shape_of r.form.now)) (get r.name.now d) (get_second (name_of r.second) d)
+
+-- ---- parts; anything where the value is of another kind
+
+abbrev pub items_in : Data → Items
+items_in d = unwrap_or (as_array d) no_items
+
+abbrev pub members_in : Data → Members
+members_in d = unwrap_or (as_object d) no_members
+
+abbrev pub each_conformed : (Data → Data) → Items → Items
+each_conformed f no_items = no_items
+each_conformed f (item d ds) = item (f d) (each_conformed f ds)
+
+abbrev pub each_member_conformed : (Data → Data) → Members → Members
+each_member_conformed f no_members = no_members
+each_member_conformed f (member k d ms) = member k (f d) (each_member_conformed f ms)
+
+-- ---- listed members
+
+-- what stands under the second name, or else under the first
+abbrev pub chosen : Option Data → Option Data → Option Data
+chosen found None = found
+chosen found (Some d) = Some d
+
+-- what may be null, or absent
+abbrev pub unless_absent : (Data → Data) → Option Data → Option Data
+unless_absent f found = option_map f (option_and_then unless_null found)
+
+abbrev pub unless_no_items : Data → Option Data
+unless_no_items d = if is_empty_array d then None else Some d
+
+-- what is written for a member, if it is, by what stands there; `v` writes what is meant by default
+abbrev pub conformed_member : Presence → (Plain → Data) → (Data → Data) → Option Data → Option Data
+conformed_member required v f found = option_map f found
+conformed_member (defaulted p) v f None = Some (v p)
+conformed_member (defaulted p) v f (Some d) = Some (f d)
+conformed_member optional v f found = unless_absent f found
+conformed_member nullable v f found = Some (unwrap_or (unless_absent f found) null)
+conformed_member unless_empty v f found = option_and_then unless_no_items (unless_absent f found)
+
+abbrev mutual
+  pub conformed : Shape → Data → Data
+  conformed text d = d
+  conformed truth d = d
+  conformed (whole low high) d = number (of_integer (unwrap_or (as_whole d) low))
+  conformed (named table) d = d
+  conformed (open_name table) d = d
+  conformed digest_text d = d
+  conformed cpu_text d = d
+  conformed (cap_set table) d = array (capability_texts table (set_in table (items_in d)))
+  conformed (list s) d = array (each_conformed (conformed s) (items_in d))
+  conformed (shape.map s) d = object (each_member_conformed (conformed s) (members_in d))
+  conformed key_set d = object (empty_objects (sorted (member_names (members_in d))))
+  conformed detail d = unwrap_or (read (compact_text d)) null
+  conformed free_map d = d
+  conformed (rows rs) d = object (conformed_rows rs d no_members)
+
+  -- the members, with those that are written for the value's
+  pub conformed_rows : Rows → Data → Members → Members
+  conformed_rows no_rows d ms = ms
+  conformed_rows (row name second presence s rs) d ms =
+      conformed_rows rs d (with_member name (conformed_member presence (value s) (conformed s) (chosen (get name d) (get_second second d))) ms)
+
+-- a listed member of a table
+abbrev pub row_conformed : Row → Data → Option Data
+row_conformed r d =
+    conformed_member (presence_of r.presence) (value (shape_of r.form.now)) (conformed (shape_of r.form.now)) (chosen (get r.name.now d) (get_second (name_of r.second) d))
+
+-- ---- what contracts say
+
+-- it may be the shape of a member: well formed, or a detail
+abbrev pub IsSound : Shape → Type 0
+IsSound s = MemberIsWellFormed optional s (WellFormed s)
+
+-- no document is meant, or one that is not writable
+abbrev pub IsNotConformed : Shape → Data → Type 0
+IsNotConformed s d = IsRefused s d ⊎ ((p : Plain) × Means s d p × ¬ Writable s p)
+
+-- the name is this one, or this second one
+abbrev pub is_one_of : List ℕ → List ℕ → Option (List ℕ) → Bool
+is_one_of q name None = bytes_eq q name
+is_one_of q name (Some second) = bytes_eq q name || bytes_eq q second
+
+-- not under both names
+abbrev pub is_one_there : Option Data → Option Data → Bool
+is_one_there found None = true
+is_one_there None (Some d) = true
+is_one_there (Some c) (Some d) = false

@@ -1,0 +1,126 @@
+//! Whether a value with no listed parts is allowed.
+ghost use Rattle.std.specs.Prelude.{◌≡◌};
+ghost use Rattle.serde_json.specs.View.{view, items_view, members_view};
+ghost use Rattle.oci_text_base.specs.Names.{is_listed};
+ghost use Rattle.oci_process_names.specs.Capability.{capability_table};
+ghost use Rattle.oci_json_model.specs.Means.{as_whole, is_object};
+ghost use Rattle.oci_schema_walks.specs.Allows.{allows, is_capability as is_of_table, is_digest_text, names_capability, each_allowed, each_member_allowed};
+ghost use Rattle.oci_schema_walks.specs.Processors.{is_list_of_processors as is_scanned};
+ghost use Rattle.oci_schema_walks.specs.Tables.{leaf_shape, names_of};
+
+use crate::form::Leaf;
+use oci_json_members::number::{has_other_numbers, members_have_other_numbers};
+use oci_json_model::JsonName;
+use oci_process_names::{Capability, is_cpu_list};
+use oci_text::is_digest;
+use serde_json::{Map, Value};
+
+/// Whether the leaf allows the value.
+pub fn leaf_allows(leaf: &Leaf, value: &Value) -> bool
+    ensures { result ≡ allows (leaf_shape leaf.now) (view value.now) }
+{
+    match leaf {
+        Leaf::Text | Leaf::MediaType | Leaf::Os | Leaf::Arch => value.is_string(),
+        Leaf::Truth => value.is_boolean(),
+        Leaf::Whole(low, high) => match whole(value) {
+            Some(number) => *low <= number && number <= *high,
+            None => false,
+        },
+        Leaf::Named(table) => match value.as_str() {
+            Some(text) => is_among(table, text),
+            None => false,
+        },
+        Leaf::Digest => match value.as_str() {
+            Some(text) => is_digest_value(text),
+            None => false,
+        },
+        Leaf::Processors => match value.as_str() {
+            Some(text) => is_list_of_processors(text),
+            None => false,
+        },
+        Leaf::Capabilities => match value.as_array() {
+            Some(items) => are_capabilities(items),
+            None => false,
+        },
+        Leaf::Keys => match value.as_object() {
+            Some(members) => are_objects(members),
+            None => false,
+        },
+        Leaf::Detail => !value.is_null() && !has_other_numbers(value),
+        Leaf::FreeValues => match value.as_object() {
+            Some(members) => !members_have_other_numbers(members),
+            None => false,
+        },
+    }
+}
+
+fn whole(value: &Value) -> Option<i128>
+    ensures { result ≡ as_whole (view value.now) }
+{
+    match value.as_number() {
+        Some(number) => number.as_i128(),
+        None => None,
+    }
+}
+
+fn is_among(table: &[&'static str], text: &str) -> bool
+    ensures { result ≡ is_listed (names_of table.now) text.now }
+{
+    for name in table {
+        if text == *name {
+            return true;
+        }
+    }
+    false
+}
+
+#[tactic(auto, using(crate::proofs::Texts::digest_told))]
+fn is_digest_value(text: &str) -> bool
+    ensures { result ≡ is_digest_text text.now }
+{
+    is_digest(text)
+}
+
+#[tactic(auto, using(crate::proofs::Texts::processors_told))]
+fn is_list_of_processors(text: &str) -> bool
+    ensures { result ≡ is_scanned text.now }
+{
+    is_cpu_list(text)
+}
+
+fn is_capability_value(value: &Value) -> bool
+    ensures { result ≡ names_capability capability_table (view value.now) }
+{
+    match value.as_str() {
+        Some(text) => is_capability(text),
+        None => false,
+    }
+}
+
+fn is_capability(text: &str) -> bool
+    ensures { result ≡ is_of_table capability_table text.now }
+{
+    Capability::from_json_name(text).is_some()
+}
+
+fn are_capabilities(items: &Vec<Value>) -> bool
+    ensures { result ≡ each_allowed (names_capability capability_table) (items_view items.now.items) }
+{
+    for item in items {
+        if !is_capability_value(item) {
+            return false;
+        }
+    }
+    true
+}
+
+fn are_objects(members: &Map<String, Value>) -> bool
+    ensures { result ≡ each_member_allowed is_object (members_view members.now.entries) }
+{
+    for (_, member) in members.iter() {
+        if !member.is_object() {
+            return false;
+        }
+    }
+    true
+}

@@ -1,0 +1,108 @@
+//! The normal form of a value with no listed parts.
+ghost use Rattle.std.specs.Prelude.{◌≡◌, true, false, IfOk, IfErr, IfSome, option_map};
+ghost use Rattle.serde_json.specs.Data.{number};
+ghost use Rattle.serde_json.specs.Find.{of_integer};
+ghost use Rattle.serde_json.specs.View.{view};
+ghost use Rattle.oci_text_base.specs.Refused.{IsSchema, IsMemoryOrSchema};
+ghost use Rattle.oci_process_names.specs.Capability.{capability_table};
+ghost use Rattle.oci_json_model.specs.Shape.{cap_set, key_set, detail};
+ghost use Rattle.oci_json_model.specs.Means.{as_whole};
+ghost use Rattle.oci_schema_walks.specs.Conformed.{accepts, conformed, unless_no_items as without_empty};
+ghost use Rattle.oci_schema_walks.specs.Tables.{leaf_shape};
+
+use crate::Leaf;
+use crate::kept::has_no_items;
+use crate::leaf::leaf_allows;
+use oci_json_members::{Detail, Keys, OciKind};
+use oci_json_model::fault::refused;
+use oci_process_names::Caps;
+use oci_text_base::Result;
+use serde_json::Value;
+use std::alloc::Global;
+
+/// The normal form of a value with no listed parts; `SerDe(Schema)` where the leaf does not allow the value, and where a
+/// detail nests deeper than a text may.
+pub fn conform_leaf(leaf: &Leaf, value: Value, alloc: Global) -> Result<Value>
+    ensures ok { IfOk result (λ v. (accepts (leaf_shape leaf.now) (view value) ≡ true) × (view v ≡ conformed (leaf_shape leaf.now) (view value))) }
+    ensures err { IfErr result (λ e. IsSchema e → accepts (leaf_shape leaf.now) (view value) ≡ false) }
+    ensures kind { IfErr result IsMemoryOrSchema }
+{
+    match leaf {
+        Leaf::Capabilities => conform_capabilities(&value, alloc),
+        Leaf::Keys => conform_keys(value, alloc),
+        Leaf::Detail => conform_detail(&value, alloc),
+        Leaf::Whole(_, _) => {
+            if leaf_allows(leaf, &value) {
+                Ok(normal_number(value))
+            } else {
+                Err(refused("", ""))
+            }
+        }
+        Leaf::Text
+        | Leaf::Truth
+        | Leaf::Named(_)
+        | Leaf::MediaType
+        | Leaf::Os
+        | Leaf::Arch
+        | Leaf::Digest
+        | Leaf::Processors
+        | Leaf::FreeValues => {
+            if leaf_allows(leaf, &value) {
+                Ok(value)
+            } else {
+                Err(refused("", ""))
+            }
+        }
+    }
+}
+
+/// A whole number as it is written.
+fn normal_number(value: Value) -> Value
+    ensures { IfSome (as_whole (view value)) (λ z. view result ≡ number (of_integer z)) }
+{
+    if value.is_u64() {
+        return value;
+    }
+    match value.as_i64() {
+        Some(whole) => Value::from(whole),
+        None => value,
+    }
+}
+
+fn conform_capabilities(value: &Value, alloc: Global) -> Result<Value>
+    ensures ok { IfOk result (λ v. (accepts (cap_set capability_table) (view value.now) ≡ true) × (view v ≡ conformed (cap_set capability_table) (view value.now))) }
+    ensures err { IfErr result (λ e. IsSchema e → accepts (cap_set capability_table) (view value.now) ≡ false) }
+    ensures kind { IfErr result IsMemoryOrSchema }
+{
+    let set = Caps::read(alloc, value)?;
+    Caps::write(&set, alloc)
+}
+
+fn conform_keys(value: Value, alloc: Global) -> Result<Value>
+    ensures ok { IfOk result (λ v. (accepts key_set (view value) ≡ true) × (view v ≡ conformed key_set (view value))) }
+    ensures err { IfErr result (λ e. IsSchema e → accepts key_set (view value) ≡ false) }
+    ensures kind { IfErr result IsMemoryOrSchema }
+{
+    let names = Keys::read_owned(alloc, value)?;
+    Keys::write(&names, alloc)
+}
+
+fn conform_detail(value: &Value, alloc: Global) -> Result<Value>
+    ensures ok { IfOk result (λ v. (accepts detail (view value.now) ≡ true) × (view v ≡ conformed detail (view value.now))) }
+    ensures err { IfErr result (λ e. IsSchema e → accepts detail (view value.now) ≡ false) }
+    ensures kind { IfErr result IsMemoryOrSchema }
+{
+    let text = Detail::read(alloc, value)?;
+    Detail::write(&text, alloc)
+}
+
+/// The value, unless it is a list with no items.
+pub fn unless_no_items(value: Value) -> Option<Value>
+    ensures { option_map view result ≡ without_empty (view value) }
+{
+    if has_no_items(&value) {
+        None
+    } else {
+        Some(value)
+    }
+}

@@ -1,0 +1,10 @@
+-- The hypervisor of a virtual machine (runtime specification, "Virtual-machine-specific Container Configuration", "Hypervisor Object").
+use Rattle.std.specs.Prelude.{codes}
+use Rattle.oci_json_model.specs.Shape.{Shape, rows, no_rows, listed, required, optional, text, list}
+
+-- the members, in the order in which they are looked at
+abbrev pub vm_hypervisor : Shape
+vm_hypervisor = rows (
+    listed (codes "path") required text (
+    listed (codes "parameters") optional (list text)
+    no_rows))

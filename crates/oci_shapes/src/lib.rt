@@ -1,0 +1,2 @@
+//! The shapes of all records: which JSON each allows.
+#![tactic(auto)]

@@ -1,0 +1,106 @@
+//! What is found of a text, in the form of a row's last line.
+ghost use Rattle.oci_json_model.specs.WellFormed.{WellFormed};
+ghost use Rattle.oci_schema_walks.specs.Tables.{shape_of};
+
+use anyhow::Result;
+use oci_image::OciLayout;
+use oci_json_io::{from_slice, to_string};
+use oci_json_model::OciRecord;
+use oci_schema::{conform, faults};
+use oci_schema_walks::Form;
+use oci_spec::forms::{conform_as, faults_of};
+use oci_text_base::{OciSpecError, SerDeError};
+use serde_json::Value;
+use std::alloc::Global;
+
+/// A way from a text to its document.
+#[derive(Clone, Copy, Debug)]
+pub enum Reading {
+    /// Of a value that is lent.
+    Lent,
+    /// Of a value that is taken apart.
+    Owned,
+    /// Of the bytes.
+    Bytes,
+}
+
+impl Reading {
+    /// All ways.
+    pub const ALL: [Reading; 3] = [Reading::Lent, Reading::Owned, Reading::Bytes];
+
+    fn read<T: OciRecord>(self, alloc: Global, text: &str) -> oci_text_base::Result<T> {
+        match self {
+            Reading::Lent => T::from_value(alloc, &Value::from_str(alloc, text)?),
+            Reading::Owned => T::from_value_owned(alloc, Value::from_str(alloc, text)?),
+            Reading::Bytes => from_slice(alloc, text.as_bytes()),
+        }
+    }
+
+    /// The compact text of the document, or the place that refuses the text.
+    pub fn found<T: OciRecord>(self, alloc: Global, text: &str) -> Result<String> {
+        match self.read::<T>(alloc, text) {
+            Ok(document) => written(alloc, &document, text),
+            Err(fault) => refused(alloc, &fault),
+        }
+    }
+}
+
+/// The place that refuses the text, or what else is told.
+fn refused(alloc: Global, fault: &OciSpecError) -> Result<String> {
+    match fault {
+        OciSpecError::SerDe(SerDeError::Schema(fault)) => {
+            Ok(format!(in alloc; "! {}.{}", fault.owner, fault.member)?)
+        }
+        _ => Ok(format!(in alloc; "{fault}")?),
+    }
+}
+
+/// What is found by a record's form, with no document between: the compact text of the value's normal form, or the place
+/// that refuses the text. Faults are listed exactly where it is refused.
+pub fn by_form(form: &Form<'_>, alloc: Global, text: &str) -> Result<String>
+    requires { WellFormed (shape_of form.now) }
+{
+    let value = match Value::from_str(alloc, text) {
+        Ok(value) => value,
+        Err(fault) => return refused(alloc, &OciSpecError::from(fault)),
+    };
+    let is_faulty = !faults(form, &value, alloc)?.is_empty();
+    let answer = conform(form, value, alloc);
+    if is_faulty != answer.is_err() {
+        return Ok(String::from_str(alloc, "faults are listed, or not")?);
+    }
+    match answer {
+        Ok(normal) => {
+            let compact = normal.to_string(alloc)?;
+            Ok(format!(in alloc; "= {compact}")?)
+        }
+        Err(fault) => refused(alloc, &fault),
+    }
+}
+
+/// What the calls by a record's type find: how many faults of a layout with no members, and the normal form of one with a member
+/// that is not listed.
+pub fn by_type(alloc: Global) -> Result<String> {
+    let empty = Value::from_str(alloc, "{}")?;
+    let count = faults_of::<OciLayout>(alloc, &empty)?.len();
+    let more = Value::from_str(alloc, "{\"more\":1,\"imageLayoutVersion\":\"1.0.0\"}")?;
+    let normal = conform_as::<OciLayout>(more, alloc)?.to_string(alloc)?;
+    Ok(format!(in alloc; "{count} fault, {normal}")?)
+}
+
+/// The compact text of the document of a text.
+fn written<T: OciRecord>(alloc: Global, document: &T, text: &str) -> Result<String> {
+    let compact = to_string(document, alloc)?;
+    let copied = *document == document.duplicate(alloc)?;
+    if copied && is_of(alloc, document, text)? && is_of(alloc, document, compact.as_str())? {
+        Ok(format!(in alloc; "= {compact}")?)
+    } else {
+        Ok(format!(in alloc; "another document is {compact}")?)
+    }
+}
+
+/// Whether the bytes of a text are read as this document.
+fn is_of<T: OciRecord>(alloc: Global, document: &T, text: &str) -> Result<bool> {
+    let read: T = from_slice(alloc, text.as_bytes())?;
+    Ok(*document == read)
+}

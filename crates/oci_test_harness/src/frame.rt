@@ -1,0 +1,84 @@
+//! What a program needs for itself: its inputs, and words to ask with. A call of the library never answers here, so a run that
+//! gives up tells that the program's own part was refused memory or a file, and no more.
+
+use std::alloc::{AllocError, AllocFailed, Global};
+use std::process::ExitCode;
+use std::{env, io};
+
+/// The program's own part was refused. No error of the library is converted into this one.
+#[derive(Debug, Drop)]
+pub struct HarnessOutOfMemory;
+
+impl From<AllocError> for HarnessOutOfMemory {
+    fn from(_refused: AllocError) -> HarnessOutOfMemory {
+        HarnessOutOfMemory
+    }
+}
+
+impl<T: Drop> From<AllocFailed<T>> for HarnessOutOfMemory {
+    fn from(_refused: AllocFailed<T>) -> HarnessOutOfMemory {
+        HarnessOutOfMemory
+    }
+}
+
+impl From<io::Error> for HarnessOutOfMemory {
+    fn from(_fault: io::Error) -> HarnessOutOfMemory {
+        HarnessOutOfMemory
+    }
+}
+
+/// A document of a kind, in three lines of a file of `data/`.
+#[derive(Clone, Copy)]
+pub struct Sample<'a> {
+    /// The word for its kind.
+    pub kind: &'a str,
+    /// The text that is read.
+    pub text: &'a str,
+    /// The compact text of its document.
+    pub compact: &'a str,
+}
+
+impl<'a> Sample<'a> {
+    /// The sample of three lines.
+    pub fn of(row: &'a str) -> Result<Sample<'a>, HarnessOutOfMemory> {
+        let Some((kind, texts)) = row.split_once('\n') else {
+            return Err(HarnessOutOfMemory);
+        };
+        match texts.split_once('\n') {
+            Some((text, compact)) => Ok(Sample {
+                kind,
+                text,
+                compact,
+            }),
+            None => Err(HarnessOutOfMemory),
+        }
+    }
+}
+
+/// Owned words.
+pub fn words(alloc: Global, given: &[&str]) -> Result<Vec<String>, HarnessOutOfMemory> {
+    let mut words = Vec::new(alloc);
+    for word in given {
+        words.push(String::from_str(alloc, word)?)?;
+    }
+    Ok(words)
+}
+
+/// Whether the first word behind the program's own name asks for this half; with no word each is asked for.
+pub fn asks_for(rt: &HostRuntime, half: &str) -> Result<bool, HarnessOutOfMemory> {
+    match env::args(rt)?.nth(1) {
+        Some(word) => Ok(word.as_str() == half),
+        None => Ok(true),
+    }
+}
+
+/// The status of a program that did its work, or gave up and tells so.
+pub fn exit(rt: &HostRuntime, done: Result<(), HarnessOutOfMemory>) -> ExitCode {
+    match done {
+        Ok(()) => ExitCode::SUCCESS,
+        Err(HarnessOutOfMemory) => {
+            let _ = eprintln!(rt; "gave up");
+            ExitCode::from(3)
+        }
+    }
+}

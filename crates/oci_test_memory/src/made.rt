@@ -1,0 +1,306 @@
+//! Records that are made in code: by default, and by their builders.
+
+use oci_spec::Result;
+use oci_spec::distribution::{
+    ErrorCode, ErrorInfo, ErrorInfoBuilder, ErrorResponse, ErrorResponseBuilder, RepositoryList,
+    RepositoryListBuilder, TagList, TagListBuilder,
+};
+use oci_spec::image::{
+    Arch, ArtifactManifest, ArtifactManifestBuilder, Descriptor, DescriptorBuilder, Digest,
+    ImageIndex, ImageIndexBuilder, ImageManifest, ImageManifestBuilder, MediaType, OciLayout,
+    OciLayoutBuilder, Os, Platform, PlatformBuilder,
+};
+use oci_spec::runtime::{
+    ExecCPUAffinityBuilder, LinuxIdMapping, LinuxMemoryPolicy, LinuxMemoryPolicyBuilder,
+    MemoryPolicyModeType, MountBuilder, ZOSNamespaceType,
+};
+use oci_test_harness::Desk;
+use std::alloc::Global;
+
+/// The default of a record, and what its builder makes of no field: one equals the other.
+macro_rules! defaults {
+    ($desk:expr, $module:ident: $($record:ident $builder:ident),* $(,)?) => {{
+        let alloc = $desk.rt.alloc();
+        $($desk.same(
+            stringify!($record),
+            oci_spec::$module::$record::try_default(alloc),
+            oci_spec::$module::$builder::default().build(alloc),
+        );)*
+    }};
+}
+
+fn images(desk: &mut Desk<'_>) {
+    defaults!(
+        desk,
+        image:
+        RootFs RootFsBuilder,
+        Config ConfigBuilder,
+        History HistoryBuilder,
+        ImageConfiguration ImageConfigurationBuilder,
+    );
+}
+
+fn resources(desk: &mut Desk<'_>) {
+    defaults!(
+        desk,
+        runtime:
+        LinuxResources LinuxResourcesBuilder,
+        LinuxMemory LinuxMemoryBuilder,
+        LinuxCpu LinuxCpuBuilder,
+        LinuxPids LinuxPidsBuilder,
+        LinuxHugepageLimit LinuxHugepageLimitBuilder,
+        LinuxBlockIo LinuxBlockIoBuilder,
+        LinuxWeightDevice LinuxWeightDeviceBuilder,
+        LinuxThrottleDevice LinuxThrottleDeviceBuilder,
+        LinuxDeviceCgroup LinuxDeviceCgroupBuilder,
+        LinuxNetwork LinuxNetworkBuilder,
+        LinuxInterfacePriority LinuxInterfacePriorityBuilder,
+        LinuxRdma LinuxRdmaBuilder,
+    );
+}
+
+fn linux(desk: &mut Desk<'_>) {
+    defaults!(
+        desk,
+        runtime:
+        Linux LinuxBuilder,
+        LinuxIdMapping LinuxIdMappingBuilder,
+        LinuxNetDevice LinuxNetDeviceBuilder,
+        LinuxNamespace LinuxNamespaceBuilder,
+        LinuxDevice LinuxDeviceBuilder,
+        LinuxTimeOffset LinuxTimeOffsetBuilder,
+        LinuxSeccomp LinuxSeccompBuilder,
+        LinuxSyscall LinuxSyscallBuilder,
+        LinuxSeccompArg LinuxSeccompArgBuilder,
+        LinuxIntelRdt LinuxIntelRdtBuilder,
+        LinuxPersonality LinuxPersonalityBuilder,
+    );
+}
+
+fn process(desk: &mut Desk<'_>) {
+    defaults!(
+        desk,
+        runtime:
+        Process ProcessBuilder,
+        Box BoxBuilder,
+        PosixRlimit PosixRlimitBuilder,
+        User UserBuilder,
+        LinuxCapabilities LinuxCapabilitiesBuilder,
+        LinuxIOPriority LinuxIOPriorityBuilder,
+        Scheduler SchedulerBuilder,
+        ExecCPUAffinity ExecCPUAffinityBuilder,
+    );
+}
+
+fn platforms(desk: &mut Desk<'_>) {
+    defaults!(
+        desk,
+        runtime:
+        Solaris SolarisBuilder,
+        SolarisAnet SolarisAnetBuilder,
+        SolarisCappedCPU SolarisCappedCPUBuilder,
+        SolarisCappedMemory SolarisCappedMemoryBuilder,
+        VM VMBuilder,
+        VMHypervisor VMHypervisorBuilder,
+        VMKernel VMKernelBuilder,
+        VMImage VMImageBuilder,
+        ZOS ZOSBuilder,
+        ZOSNamespace ZOSNamespaceBuilder,
+    );
+}
+
+fn windows(desk: &mut Desk<'_>) {
+    defaults!(
+        desk,
+        runtime:
+        Windows WindowsBuilder,
+        WindowsDevice WindowsDeviceBuilder,
+        WindowsResources WindowsResourcesBuilder,
+        WindowsMemoryResources WindowsMemoryResourcesBuilder,
+        WindowsCPUResources WindowsCPUResourcesBuilder,
+        WindowsStorageResources WindowsStorageResourcesBuilder,
+        WindowsHyperV WindowsHyperVBuilder,
+        WindowsNetwork WindowsNetworkBuilder,
+    );
+}
+
+fn features(desk: &mut Desk<'_>) {
+    defaults!(
+        desk,
+        runtime:
+        Features FeaturesBuilder,
+        LinuxFeature LinuxFeatureBuilder,
+        Cgroup CgroupBuilder,
+        Seccomp SeccompBuilder,
+        Apparmor ApparmorBuilder,
+        Selinux SelinuxBuilder,
+        IDMap IDMapBuilder,
+        NetDevices NetDevicesBuilder,
+        IntelRdt IntelRdtBuilder,
+        MemoryPolicy MemoryPolicyBuilder,
+        MountExtensions MountExtensionsBuilder,
+    );
+}
+
+fn containers(desk: &mut Desk<'_>) {
+    defaults!(
+        desk,
+        runtime:
+        Spec SpecBuilder,
+        Root RootBuilder,
+        Mount MountBuilder,
+        Hooks HooksBuilder,
+        Hook HookBuilder,
+        State StateBuilder,
+        ContainerProcessState ContainerProcessStateBuilder,
+    );
+}
+
+fn platform(alloc: Global) -> Result<Platform> {
+    PlatformBuilder::default()
+        .architecture(Arch::Amd64)
+        .os(Os::Linux)
+        .build(alloc)
+}
+
+fn index(alloc: Global) -> Result<ImageIndex> {
+    ImageIndexBuilder::default()
+        .schema_version(2)
+        .manifests(Vec::new(alloc))
+        .build(alloc)
+}
+
+fn descriptor(alloc: Global) -> Result<Descriptor> {
+    DescriptorBuilder::default()
+        .media_type(MediaType::EmptyJSON)
+        .digest(Digest::from_str(alloc, "foo:bar")?)
+        .size(2)
+        .build(alloc)
+}
+
+fn manifest(alloc: Global) -> Result<ImageManifest> {
+    ImageManifestBuilder::default()
+        .schema_version(2)
+        .config(descriptor(alloc)?)
+        .layers(Vec::new(alloc))
+        .build(alloc)
+}
+
+fn artifact(alloc: Global) -> Result<ArtifactManifest> {
+    ArtifactManifestBuilder::default()
+        .artifact_type(MediaType::EmptyJSON)
+        .build(alloc)
+}
+
+fn layout(alloc: Global) -> Result<OciLayout> {
+    OciLayoutBuilder::default()
+        .image_layout_version(String::new(alloc))
+        .build(alloc)
+}
+
+fn error(alloc: Global) -> Result<ErrorInfo> {
+    ErrorInfoBuilder::default()
+        .code(ErrorCode::Denied)
+        .build(alloc)
+}
+
+fn reply(alloc: Global) -> Result<ErrorResponse> {
+    ErrorResponseBuilder::default()
+        .errors(Vec::new(alloc))
+        .build(alloc)
+}
+
+fn repositories(alloc: Global) -> Result<RepositoryList> {
+    RepositoryListBuilder::default()
+        .repositories(Vec::new(alloc))
+        .build(alloc)
+}
+
+fn tags(alloc: Global) -> Result<TagList> {
+    TagListBuilder::default()
+        .name(String::new(alloc))
+        .tags(Vec::new(alloc))
+        .build(alloc)
+}
+
+fn policy(alloc: Global) -> Result<LinuxMemoryPolicy> {
+    LinuxMemoryPolicyBuilder::default()
+        .mode(MemoryPolicyModeType::MpolDefault)
+        .nodes(String::new(alloc))
+        .flags(Vec::new(alloc))
+        .build(alloc)
+}
+
+/// The records whose builders have to be given fields; of those with a default that is compared too.
+fn required(desk: &mut Desk<'_>) {
+    let alloc = desk.rt.alloc();
+    desk.same("Platform", Platform::try_default(alloc), platform(alloc));
+    desk.same("ImageIndex", ImageIndex::try_default(alloc), index(alloc));
+    desk.same("Descriptor", descriptor(alloc), descriptor(alloc));
+    desk.same("ImageManifest", manifest(alloc), manifest(alloc));
+    desk.same("ArtifactManifest", artifact(alloc), artifact(alloc));
+    desk.same("OciLayout", layout(alloc), layout(alloc));
+    desk.same("ErrorInfo", error(alloc), error(alloc));
+    desk.same("ErrorResponse", reply(alloc), reply(alloc));
+    desk.same("RepositoryList", repositories(alloc), repositories(alloc));
+    desk.same("TagList", tags(alloc), tags(alloc));
+    desk.same("LinuxMemoryPolicy", policy(alloc), policy(alloc));
+}
+
+/// A text that is no list of processors.
+fn affinity(alloc: Global) -> Result<String> {
+    let text = String::from_str(alloc, "x")?;
+    let _built = ExecCPUAffinityBuilder::default()
+        .initial(text)
+        .build(alloc)?;
+    Ok(String::new(alloc))
+}
+
+/// Mappings on one side alone.
+fn mount(alloc: Global) -> Result<String> {
+    let mut mappings = Vec::new(alloc);
+    mappings.push(LinuxIdMapping::try_default(alloc)?)?;
+    let _built = MountBuilder::default().uid_mappings(mappings).build(alloc)?;
+    Ok(String::new(alloc))
+}
+
+/// A text that is no kind of namespace.
+fn namespace(alloc: Global) -> Result<String> {
+    let _read = ZOSNamespaceType::try_from(alloc, "x")?;
+    Ok(String::new(alloc))
+}
+
+/// Builders that refuse what they are given, and a name that is refused.
+fn refused(desk: &mut Desk<'_>) {
+    let alloc = desk.rt.alloc();
+    desk.answer(
+        "ExecCPUAffinityBuilder",
+        &affinity(alloc),
+        Err("Invalid execCPUAffinity format: x"),
+    );
+    desk.answer(
+        "MountBuilder",
+        &mount(alloc),
+        Err("Mount.uidMappings and Mount.gidMappings must be specified together"),
+    );
+    desk.answer(
+        "ZOSNamespaceType",
+        &namespace(alloc),
+        Err("unknown z/OS namespace x, could not convert"),
+    );
+}
+
+/// All records that are made in code.
+pub fn all(desk: &mut Desk<'_>) {
+    images(desk);
+    resources(desk);
+    linux(desk);
+    process(desk);
+    platforms(desk);
+    windows(desk);
+    features(desk);
+    containers(desk);
+    required(desk);
+    refused(desk);
+    desk.end("records", "made in code");
+}
