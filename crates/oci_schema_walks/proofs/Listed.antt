@@ -6,8 +6,8 @@ use Rattle.oci_json_model.specs.Plain.{Plain}
 use Rattle.oci_json_model.specs.Means.{Means}
 use Rattle.oci_json_model.specs.Shape.{Shape}
 use Rattle.oci_schema_walks.specs.Faults.{Told, told, faults, rows_faults, listed_faults}
-use Rattle.oci_schema_walks.specs.Tables.{rows_of}
-use Rattle.oci_schema_walks.specs.declared.form.Row.{Row}
+use Rattle.oci_schema_types.specs.Shapes.{rows_of}
+use Rattle.oci_schema_types.specs.declared.record.Member.{Row}
 use Rattle.oci_schema_walks.specs.declared.fault.Fault.{Fault}
 use Rattle.oci_schema_walks.proofs.Empty.{none_is_meant}
 

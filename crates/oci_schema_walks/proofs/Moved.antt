@@ -15,9 +15,9 @@ use Rattle.oci_json_model.specs.WellFormed.{WellFormed, AreWellFormed, MemberIsW
 use Rattle.oci_json_model.specs.Writable.{Writable, AreWritable}
 use Rattle.oci_schema_walks.specs.Allows.{either_allowed}
 use Rattle.oci_schema_walks.specs.Conformed.{accepts, rows_accept, row_accepts, chosen, conformed_member, conformed, conformed_rows, row_conformed, is_one_of}
-use Rattle.oci_schema_walks.specs.Tables.{shape_of, presence_of, name_of, rows_of, absent_slot}
-use Rattle.oci_schema_walks.specs.declared.form.Absent.{Absent}
-use Rattle.oci_schema_walks.specs.declared.form.Row.{Row}
+use Rattle.oci_schema_types.specs.Shapes.{shape_of, presence_of, alias_of, rows_of, default_slot}
+use Rattle.oci_schema_types.specs.declared.scalar.DefaultValue.{DefaultValue}
+use Rattle.oci_schema_types.specs.declared.record.Member.{Row}
 use Rattle.oci_schema_walks.proofs.Decides.{first_of, later_of, refuted}
 use Rattle.oci_schema_walks.proofs.Listing.{or_right, listed_first, later_listed, rest_once}
 use Rattle.oci_schema_walks.proofs.Listed.{drop_at}
@@ -102,12 +102,12 @@ module _ (rs : Rows) (d : Data) (all : List Row) (i : ℕ) (x : Row) (now made :
   here = subst (λ z. Moved rs d (rows_of z) now made) cut h
 
   pub moved_more : (later more : Members) → row_accepts x (object now) ≡ true → more ≡ with_member x.name.now (row_conformed x (object now)) made
-      → ((q : List ℕ) → is_one_of q x.name.now (name_of x.second) ≡ false → get_member q later ≡ get_member q now) → Moved rs d (rows_of (drop (i + 1) all)) later more
+      → ((q : List ℕ) → is_one_of q x.name.now (alias_of x.second) ≡ false → get_member q later ≡ get_member q now) → Moved rs d (rows_of (drop (i + 1) all)) later more
   moved_more later more e m rest =
-      row_more rs d x.name.now (name_of x.second) (presence_of x.presence) (shape_of x.form.now) (rows_of (drop (i + 1) all)) now made here later more e m rest
+      row_more rs d x.name.now (alias_of x.second) (presence_of x.presence) (shape_of x.form.now) (rows_of (drop (i + 1) all)) now made here later more e m rest
 
   pub moved_refused : row_accepts x (object now) ≡ false → rows_accept rs d ≡ false
-  moved_refused e = row_refused rs d x.name.now (name_of x.second) (presence_of x.presence) (shape_of x.form.now) (rows_of (drop (i + 1) all)) now made here e
+  moved_refused e = row_refused rs d x.name.now (alias_of x.second) (presence_of x.presence) (shape_of x.form.now) (rows_of (drop (i + 1) all)) now made here e
 
 past : {A : Type 0} (xs : List A) (i : ℕ) → length xs ≤ i → drop i xs ≡ []
 past [] zero l = refl
@@ -124,10 +124,10 @@ moved_all rs d all i now made l h =
 -- ---- records that are meant by default
 
 -- some rows are written, and the others are still to be
-pub record Filled (all : Members) (rows : List Row) (given : List (Option Absent)) (made : Members) : Type 0 where
-  pub moved : all ≡ with_rows (rows_of rows) (slots (map absent_slot given)) made
-  pub fits : FitsRows (rows_of rows) (slots (map absent_slot given))
-  pub writable : AreWritable (rows_of rows) (slots (map absent_slot given))
+pub record Filled (all : Members) (rows : List Row) (given : List (Option DefaultValue)) (made : Members) : Type 0 where
+  pub moved : all ≡ with_rows (rows_of rows) (slots (map default_slot given)) made
+  pub fits : FitsRows (rows_of rows) (slots (map default_slot given))
+  pub writable : AreWritable (rows_of rows) (slots (map default_slot given))
   pub well : AreWellFormed (rows_of rows)
 
 no_more : (rows : List Row) (i : ℕ) → FitsRows (rows_of (drop i rows)) no_slots → i < length rows → ⊥
@@ -135,27 +135,27 @@ no_more [] i h l = omega arith
 no_more (r ∷ rows) zero h l = h
 no_more (r ∷ rows) (suc i) h l = no_more rows i h (omega arith)
 
-as_many : (rows : List Row) (given : List (Option Absent)) (i : ℕ) → FitsRows (rows_of (drop i rows)) (slots (map absent_slot (drop i given))) → i < length rows → i < length given
+as_many : (rows : List Row) (given : List (Option DefaultValue)) (i : ℕ) → FitsRows (rows_of (drop i rows)) (slots (map default_slot (drop i given))) → i < length rows → i < length given
 as_many [] given i h l = absurd (omega arith)
 as_many (r ∷ rows) [] zero h l = absurd h
 as_many (r ∷ rows) [] (suc i) h l = absurd (no_more rows i h (omega arith))
 as_many (r ∷ rows) (g ∷ given) zero h l = omega arith
 as_many (r ∷ rows) (g ∷ given) (suc i) h l = let k = as_many rows given i h (omega arith) in omega arith
 
-pub filled_below : (all : Members) (rows : List Row) (given : List (Option Absent)) (i : ℕ) (made : Members) → Filled all (drop i rows) (drop i given) made → i < length rows → i < length given
+pub filled_below : (all : Members) (rows : List Row) (given : List (Option DefaultValue)) (i : ℕ) (made : Members) → Filled all (drop i rows) (drop i given) made → i < length rows → i < length given
 filled_below all rows given i made h l = as_many rows given i h.fits l
 
-pub filled_none : (rows : List Row) (given : List (Option Absent)) (made : Members) → AreWellFormed (rows_of rows) → FitsRows (rows_of rows) (slots (map absent_slot given))
-    → AreWritable (rows_of rows) (slots (map absent_slot given)) → made ≡ no_members
-    → Filled (with_rows (rows_of rows) (slots (map absent_slot given)) no_members) rows given made
+pub filled_none : (rows : List Row) (given : List (Option DefaultValue)) (made : Members) → AreWellFormed (rows_of rows) → FitsRows (rows_of rows) (slots (map default_slot given))
+    → AreWritable (rows_of rows) (slots (map default_slot given)) → made ≡ no_members
+    → Filled (with_rows (rows_of rows) (slots (map default_slot given)) no_members) rows given made
 filled_none rows given made well fits writable none = record {
-  moved = ap (with_rows (rows_of rows) (slots (map absent_slot given))) (sym none);
+  moved = ap (with_rows (rows_of rows) (slots (map default_slot given))) (sym none);
   fits = fits;
   writable = writable;
   well = well;
 }
 
-module _ (all : Members) (rows : List Row) (given : List (Option Absent)) (i : ℕ) (x : Row) (made : Members)
+module _ (all : Members) (rows : List Row) (given : List (Option DefaultValue)) (i : ℕ) (x : Row) (made : Members)
     (below : i < length rows) (is : x ≡ slice_index_or rows i x) (h : Filled all (drop i rows) (drop i given) made) where
   at_hand : Filled all (x ∷ drop (i + 1) rows) (slice_index_or given i None ∷ drop (i + 1) given) made
   at_hand =
@@ -165,23 +165,23 @@ module _ (all : Members) (rows : List Row) (given : List (Option Absent)) (i : �
   pub filled_well : MemberIsWellFormed (presence_of x.presence) (shape_of x.form.now) (WellFormed (shape_of x.form.now))
   filled_well = at_hand.well.0
 
-  pub filled_fits : FitsMember (presence_of x.presence) (Fits (shape_of x.form.now)) (absent_slot (slice_index_or given i None))
+  pub filled_fits : FitsMember (presence_of x.presence) (Fits (shape_of x.form.now)) (default_slot (slice_index_or given i None))
   filled_fits = at_hand.fits.0
 
-  pub filled_writable : IfFilled (Writable (shape_of x.form.now)) (absent_slot (slice_index_or given i None))
+  pub filled_writable : IfFilled (Writable (shape_of x.form.now)) (default_slot (slice_index_or given i None))
   filled_writable = at_hand.writable.0
 
-  pub filled_more : (more : Members) → more ≡ with_member x.name.now (member_value (presence_of x.presence) (value (shape_of x.form.now)) (absent_slot (slice_index_or given i None))) made
+  pub filled_more : (more : Members) → more ≡ with_member x.name.now (member_value (presence_of x.presence) (value (shape_of x.form.now)) (default_slot (slice_index_or given i None))) made
       → Filled all (drop (i + 1) rows) (drop (i + 1) given) more
   filled_more more e = record {
-    moved = at_hand.moved ∙ ap (with_rows (rows_of (drop (i + 1) rows)) (slots (map absent_slot (drop (i + 1) given)))) (sym e);
+    moved = at_hand.moved ∙ ap (with_rows (rows_of (drop (i + 1) rows)) (slots (map default_slot (drop (i + 1) given)))) (sym e);
     fits = at_hand.fits.1;
     writable = at_hand.writable.1;
     well = at_hand.well.1;
   }
 
-pub filled_all : (all : Members) (rows : List Row) (given : List (Option Absent)) (i : ℕ) (made : Members) → length rows ≤ i → Filled all (drop i rows) (drop i given) made → made ≡ all
-filled_all all rows given i made l h = sym (h.moved ∙ ap (λ z. with_rows (rows_of z) (slots (map absent_slot (drop i given))) made) (past rows i l))
+pub filled_all : (all : Members) (rows : List Row) (given : List (Option DefaultValue)) (i : ℕ) (made : Members) → length rows ≤ i → Filled all (drop i rows) (drop i given) made → made ≡ all
+filled_all all rows given i made l h = sym (h.moved ∙ ap (λ z. with_rows (rows_of z) (slots (map default_slot (drop i given))) made) (past rows i l))
 
 pub fits_rows : (rs : Rows) (xs : Slots) → Fits (shape.rows rs) (document xs) → FitsRows rs xs
 fits_rows rs xs h = let e : xs ≡ h.0 = (let k = h.1 in cc) in subst (FitsRows rs) (sym e) h.2

@@ -26,8 +26,8 @@ use Rattle.oci_json_model.specs.Writable.{Writable}
 use Rattle.oci_json_model.proofs.Writers.{inserted}
 use Rattle.oci_schema_walks.specs.Allows.{allows, each_allowed, items_allowed, members_allowed}
 use Rattle.oci_schema_walks.specs.Conformed.{accepts, rows_accept, conformed, each_conformed, each_member_conformed}
-use Rattle.oci_schema_walks.specs.Tables.{shape_of, leaf_shape}
-use Rattle.oci_schema_walks.specs.declared.form.Leaf.{Leaf}
+use Rattle.oci_schema_types.specs.Shapes.{shape_of, scalar_shape}
+use Rattle.oci_schema_types.specs.declared.scalar.Scalar.{Scalar}
 use Rattle.oci_schema_walks.specs.declared.form.Form.{Form}
 use Rattle.oci_schema_walks.specs.declared.form.Form.TheVariants as form
 use Rattle.oci_schema_walks.proofs.Decides.{meant}
@@ -127,7 +127,7 @@ written_told (Err x) s d p m w e = tt
 
 -- ---- values that are taken apart
 
-pub leaf_is : (f : Form) (l : Leaf) → f ≡ form.Leaf l → shape_of f ≡ leaf_shape l
+pub leaf_is : (f : Form) (l : Scalar) → f ≡ form.Leaf l → shape_of f ≡ scalar_shape l
 leaf_is f l is = ap shape_of is ∙ shape_leaf l
 
 pub list_is : (f : Form) (inner : Bor Form) → f ≡ form.List inner → shape_of f ≡ shape.list (shape_of inner.now)

@@ -2,9 +2,9 @@
 use Rattle.std.proofs.Common.{◌≡◌, refl, ap, ◌∙◌, ℕ, List, [], ◌∷◌, Bor}
 use Rattle.oci_json_model.specs.Shape as shape
 use Rattle.oci_json_model.specs.Shape.{Shape, Rows, no_rows, row}
-use Rattle.oci_schema_walks.specs.Tables.{leaf_shape, shape_of, rows_of, presence_of, name_of}
-use Rattle.oci_schema_walks.specs.declared.form.Leaf.{Leaf}
-use Rattle.oci_schema_walks.specs.declared.form.Row.{Row}
+use Rattle.oci_schema_types.specs.Shapes.{scalar_shape, shape_of, rows_of, presence_of, alias_of}
+use Rattle.oci_schema_types.specs.declared.scalar.Scalar.{Scalar}
+use Rattle.oci_schema_types.specs.declared.record.Member.{Row}
 use Rattle.oci_schema_walks.specs.declared.form.Form.{Form}
 use Rattle.oci_schema_walks.specs.declared.form.Form.TheVariants as form
 use Rattle.oci_schema_walks.proofs.Tables.{shape_leaf, shape_list, shape_map, shape_record}
@@ -15,7 +15,7 @@ pub record StandsFor (f : Form) (s : Shape) : Type 0 where
 pub record StandFor (t : List Row) (rs : Rows) : Type 0 where
   pub same_rows : rows_of t ≡ rs
 
-pub a_leaf : {l : Leaf} → StandsFor (form.Leaf l) (leaf_shape l)
+pub a_leaf : {l : Scalar} → StandsFor (form.Leaf l) (scalar_shape l)
 a_leaf {l} = record { same_shape = shape_leaf l }
 
 pub a_list : {f : Bor Form} {s : Shape} → StandsFor f.now s → StandsFor (form.List f) (shape.list s)
@@ -33,8 +33,8 @@ no_row = record { same_rows = refl }
 -- a row, and those after it
 infixr 5 ◌▸◌
 pub ◌▸◌ : {r : Row} {t : List Row} {s : Shape} {rs : Rows} → StandsFor r.form.now s → StandFor t rs
-    → StandFor (r ∷ t) (row r.name.now (name_of r.second) (presence_of r.presence) s rs)
-◌▸◌ {r} {t} {s} e es = record { same_rows = ap (λ x. row r.name.now (name_of r.second) (presence_of r.presence) x (rows_of t)) e.same_shape ∙ ap (row r.name.now (name_of r.second) (presence_of r.presence) s) es.same_rows }
+    → StandFor (r ∷ t) (row r.name.now (alias_of r.second) (presence_of r.presence) s rs)
+◌▸◌ {r} {t} {s} e es = record { same_rows = ap (λ x. row r.name.now (alias_of r.second) (presence_of r.presence) x (rows_of t)) e.same_shape ∙ ap (row r.name.now (alias_of r.second) (presence_of r.presence) s) es.same_rows }
 
 pub shape_is : {f : Form} {s : Shape} → StandsFor f s → shape_of f ≡ s
 shape_is e = e.same_shape

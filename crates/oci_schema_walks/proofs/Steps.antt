@@ -10,8 +10,8 @@ use Rattle.oci_schema_walks.specs.Faults.{Told, each_faults, each_member_faults}
 use Rattle.oci_schema_walks.specs.Places.{under_name, under_index}
 use Rattle.oci_schema_walks.specs.Conformed.{accepts, conformed, each_conformed, each_member_conformed}
 use Rattle.oci_schema_walks.specs.Normal.{IsNormal, AreNormal, HoldNormal, IsOfRow, AreOfRows}
-use Rattle.oci_schema_walks.specs.Tables.{rows_of}
-use Rattle.oci_schema_walks.specs.declared.form.Row.{Row}
+use Rattle.oci_schema_types.specs.Shapes.{rows_of}
+use Rattle.oci_schema_types.specs.declared.record.Member.{Row}
 use Rattle.oci_schema_walks.proofs.Listed.{cut_at}
 use Rattle.oci_schema_walks.proofs.Decides.{both}
 

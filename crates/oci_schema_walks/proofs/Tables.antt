@@ -6,15 +6,15 @@ use Rattle.oci_schema_walks.specs.Allows.{allows, rows_allow}
 use Rattle.oci_schema_walks.specs.Faults.{faults, rows_faults}
 use Rattle.oci_json_model.specs.Shape as shape
 use Rattle.oci_json_model.specs.Shape.{Shape}
-use Rattle.oci_schema_walks.specs.Tables.{leaf_shape, shape_of, shape_step, row_step, lines, rows_of, Line}
-use Rattle.oci_schema_walks.specs.declared.form.Leaf.{Leaf}
-use Rattle.oci_schema_walks.specs.declared.form.Row.{Row}
+use Rattle.oci_schema_types.specs.Shapes.{scalar_shape, shape_of, shape_step, row_step, lines, rows_of, Line}
+use Rattle.oci_schema_types.specs.declared.scalar.Scalar.{Scalar}
+use Rattle.oci_schema_types.specs.declared.record.Member.{Row}
 use Rattle.oci_schema_walks.specs.declared.form.Form.{Form}
 use Rattle.oci_schema_walks.specs.declared.form.Form.TheVariants as form
 use Rattle.oci_schema_walks.specs.declared.form.Form.TheOpen.{Form-F}
 use Rattle.oci_schema_walks.specs.declared.form.Form.TheFolds.{fold-roll-Form, fold-Row, fold_out-Row}
 
-pub shape_leaf : (l : Leaf) → shape_of (form.Leaf l) ≡ leaf_shape l
+pub shape_leaf : (l : Scalar) → shape_of (form.Leaf l) ≡ scalar_shape l
 shape_leaf l = ap shape_of (sym (form.rolls-Leaf l)) ∙ fold-roll-Form Shape Line shape_step row_step (Form-F.Leaf l)
 
 pub shape_list : (inner : Bor Form) → shape_of (form.List inner) ≡ shape.list (shape_of inner.now)

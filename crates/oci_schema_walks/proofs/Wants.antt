@@ -1,15 +1,15 @@
 -- What a value of a form is wanted to be.
 use Rattle.std.proofs.Common.{◌≡◌, refl, sym, ap, ◌∙◌, ℕ, List, Bor}
 use Rattle.oci_schema_walks.specs.Faults.{leaf, a_list, an_object, kind_of}
-use Rattle.oci_schema_walks.specs.Tables.{leaf_shape, shape_of}
-use Rattle.oci_schema_walks.specs.declared.form.Leaf.{Leaf}
-use Rattle.oci_schema_walks.specs.declared.form.Leaf.TheVariants as form_leaf
-use Rattle.oci_schema_walks.specs.declared.form.Row.{Row}
+use Rattle.oci_schema_types.specs.Shapes.{scalar_shape, shape_of}
+use Rattle.oci_schema_types.specs.declared.scalar.Scalar.{Scalar}
+use Rattle.oci_schema_types.specs.declared.scalar.Scalar.TheVariants as form_leaf
+use Rattle.oci_schema_types.specs.declared.record.Member.{Row}
 use Rattle.oci_schema_walks.specs.declared.form.Form.{Form}
 use Rattle.oci_schema_walks.specs.declared.form.Form.TheVariants as form
 use Rattle.oci_schema_walks.proofs.Tables.{shape_leaf, shape_list, shape_map, shape_record}
 
-kind_leaf : (l : Leaf) → leaf (leaf_shape l) ≡ kind_of (leaf_shape l)
+kind_leaf : (l : Scalar) → leaf (scalar_shape l) ≡ kind_of (scalar_shape l)
 kind_leaf form_leaf.Text = refl
 kind_leaf form_leaf.Truth = refl
 kind_leaf (form_leaf.Whole low high) = refl
@@ -24,7 +24,7 @@ kind_leaf form_leaf.Keys = refl
 kind_leaf form_leaf.Detail = refl
 kind_leaf form_leaf.FreeValues = refl
 
-pub leaf_told : (f : Form) (l : Leaf) → f ≡ form.Leaf l → leaf (leaf_shape l) ≡ kind_of (shape_of f)
+pub leaf_told : (f : Form) (l : Scalar) → f ≡ form.Leaf l → leaf (scalar_shape l) ≡ kind_of (shape_of f)
 leaf_told f l is = kind_leaf l ∙ sym (ap (λ x. kind_of (shape_of x)) is ∙ ap kind_of (shape_leaf l))
 
 pub list_told : (f : Form) (inner : Bor Form) → f ≡ form.List inner → a_list ≡ kind_of (shape_of f)

@@ -12,8 +12,8 @@ use Rattle.oci_json_model.specs.Means.{as_whole, is_object, get_second}
 use Rattle.oci_json_model.specs.Shape.{Presence, required, defaulted, optional, nullable, unless_empty, Shape, text, truth, whole, named, open_name, digest_text, cpu_text, cap_set, list, key_set, detail, free_map, rows, Rows, no_rows, row}
 use Rattle.oci_json_model.specs.Shape as shape
 use Rattle.oci_schema_walks.specs.Processors.{is_list_of_processors}
-use Rattle.oci_schema_walks.specs.Tables.{shape_of, presence_of, name_of}
-use Rattle.oci_schema_walks.specs.declared.form.Row.{Row}
+use Rattle.oci_schema_types.specs.Shapes.{shape_of, presence_of, alias_of}
+use Rattle.oci_schema_types.specs.declared.record.Member.{Row}
 
 -- ---- texts
 
@@ -112,7 +112,7 @@ abbrev mutual
 
 -- a listed member of a table
 abbrev pub row_allows : Row → Data → Bool
-row_allows r d = either_allowed (presence_of r.presence) (allows (shape_of r.form.now)) (get r.name.now d) (get_second (name_of r.second) d)
+row_allows r d = either_allowed (presence_of r.presence) (allows (shape_of r.form.now)) (get r.name.now d) (get_second (alias_of r.second) d)
 
 -- ---- sets of capabilities
 

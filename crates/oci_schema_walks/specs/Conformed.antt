@@ -13,8 +13,8 @@ use Rattle.oci_json_model.specs.Shape.{Presence, required, defaulted, optional, 
 use Rattle.oci_json_model.specs.Shape as shape
 use Rattle.oci_json_model.specs.Value.{value, capability_texts, sorted, empty_objects, with_member, is_empty_array}
 use Rattle.oci_schema_walks.specs.Allows.{allows, set_in, items_allowed, members_allowed, either_allowed}
-use Rattle.oci_schema_walks.specs.Tables.{shape_of, presence_of, name_of}
-use Rattle.oci_schema_walks.specs.declared.form.Row.{Row}
+use Rattle.oci_schema_types.specs.Shapes.{shape_of, presence_of, alias_of}
+use Rattle.oci_schema_types.specs.declared.record.Member.{Row}
 
 -- ---- which values have a normal form
 
@@ -47,7 +47,7 @@ abbrev mutual
 
 -- a listed member of a table
 abbrev pub row_accepts : Row → Data → Bool
-row_accepts r d = either_allowed (presence_of r.presence) (accepts (shape_of r.form.now)) (get r.name.now d) (get_second (name_of r.second) d)
+row_accepts r d = either_allowed (presence_of r.presence) (accepts (shape_of r.form.now)) (get r.name.now d) (get_second (alias_of r.second) d)
 
 -- ---- parts; anything where the value is of another kind
 
@@ -114,7 +114,7 @@ abbrev mutual
 -- a listed member of a table
 abbrev pub row_conformed : Row → Data → Option Data
 row_conformed r d =
-    conformed_member (presence_of r.presence) (value (shape_of r.form.now)) (conformed (shape_of r.form.now)) (chosen (get r.name.now d) (get_second (name_of r.second) d))
+    conformed_member (presence_of r.presence) (value (shape_of r.form.now)) (conformed (shape_of r.form.now)) (chosen (get r.name.now d) (get_second (alias_of r.second) d))
 
 -- ---- what contracts say
 

@@ -7,8 +7,8 @@ use Rattle.oci_json_model.specs.Shape.{Presence, required, defaulted, optional, 
 use Rattle.oci_json_model.specs.Shape as shape
 use Rattle.oci_schema_walks.specs.Allows.{allows}
 use Rattle.oci_schema_walks.specs.Places.{under_name, under_index}
-use Rattle.oci_schema_walks.specs.Tables.{leaf_shape, shape_of, presence_of, name_of}
-use Rattle.oci_schema_walks.specs.declared.form.Row.{Row}
+use Rattle.oci_schema_types.specs.Shapes.{scalar_shape, shape_of, presence_of, alias_of}
+use Rattle.oci_schema_types.specs.declared.record.Member.{Row}
 use Rattle.oci_schema_walks.specs.declared.fault.Expected.{Expected}
 use Rattle.oci_schema_walks.specs.declared.fault.Expected.TheVariants as expected
 use Rattle.oci_schema_walks.specs.declared.fault.Fault.{Fault}
@@ -44,7 +44,7 @@ is_of_kind a_list d = is_some (as_array d)
 is_of_kind an_object d = is_some (as_object d)
 
 abbrev pub kind_told : Expected → Kind
-kind_told (expected.Leaf l) = leaf (leaf_shape l)
+kind_told (expected.Leaf l) = leaf (scalar_shape l)
 kind_told expected.List = a_list
 kind_told expected.Object = an_object
 
@@ -141,4 +141,4 @@ abbrev mutual
 
 -- a listed member of a table
 abbrev pub listed_faults : Row → List ℕ → Data → List Told
-listed_faults r at d = row_faults (presence_of r.presence) (shape_of r.form.now) (faults (shape_of r.form.now)) at r.name.now (name_of r.second) d
+listed_faults r at d = row_faults (presence_of r.presence) (shape_of r.form.now) (faults (shape_of r.form.now)) at r.name.now (alias_of r.second) d

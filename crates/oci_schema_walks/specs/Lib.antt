@@ -7,4 +7,3 @@ pub mod Normal
 pub mod Places
 pub mod Plain
 pub mod Processors
-pub mod Tables

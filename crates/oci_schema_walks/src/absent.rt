@@ -10,10 +10,10 @@ ghost use Rattle.oci_json_model.specs.WellFormed.{WellFormed, AreWellFormed, Mem
 ghost use Rattle.oci_json_model.specs.Writable.{Writable, AreWritable};
 ghost use Rattle.oci_schema_walks.specs.Allows.{member_allowed};
 ghost use Rattle.oci_schema_walks.specs.Conformed.{IsSound, accepts, conformed, conformed_member};
-ghost use Rattle.oci_schema_walks.specs.Tables.{shape_of, presence_of, rows_of, absent_plain, absent_slot};
+ghost use Rattle.oci_schema_types.specs.Shapes.{shape_of, presence_of, rows_of, default_plain, default_slot};
 
 use crate::member::{put_member, written, written_for_none};
-use crate::{Absent, Form, Leaf, Presence, Row};
+use crate::{DefaultValue, Form, Scalar, Presence, Row};
 use oci_json_members::{Detail, OciKind};
 use oci_json_model::fault::refused;
 use oci_text_base::Result;
@@ -44,20 +44,20 @@ pub fn conform_absent(form: &Form<'_>, presence: &Presence, alloc: Global) -> Re
 }
 
 /// The value of what is meant where a member is absent.
-fn absent_value(form: &Form<'_>, absent: &Absent, alloc: Global) -> Result<Value>
+fn absent_value(form: &Form<'_>, absent: &DefaultValue, alloc: Global) -> Result<Value>
     requires sound { IsSound (shape_of form.now) }
-    requires fits { Fits (shape_of form.now) (absent_plain absent.now) }
-    requires writable { Writable (shape_of form.now) (absent_plain absent.now) }
-    ensures ok { IfOk result (λ v. view v ≡ json_of (shape_of form.now) (absent_plain absent.now)) }
+    requires fits { Fits (shape_of form.now) (default_plain absent.now) }
+    requires writable { Writable (shape_of form.now) (default_plain absent.now) }
+    ensures ok { IfOk result (λ v. view v ≡ json_of (shape_of form.now) (default_plain absent.now)) }
     ensures err { IfErr result (λ e. ¬ IsSchema e) }
     ensures kind { IfErr result IsMemoryOrSchema }
 {
     match absent {
-        Absent::Text(text) => absent_text(form, text, alloc),
-        Absent::Variant(text) => text_value(text, alloc),
-        Absent::Truth(truth) => Ok(Value::Bool(*truth)),
-        Absent::Whole(whole) => Ok(absent_whole(form, *whole)),
-        Absent::NoItems => Ok(Value::Array(Vec::new(alloc))),
+        DefaultValue::String(text) => absent_text(form, text, alloc),
+        DefaultValue::Variant(text) => text_value(text, alloc),
+        DefaultValue::Boolean(truth) => Ok(Value::Bool(*truth)),
+        DefaultValue::Integer(whole) => Ok(absent_whole(form, *whole)),
+        DefaultValue::EmptyArray => Ok(Value::Array(Vec::new(alloc))),
     }
 }
 
@@ -70,7 +70,7 @@ fn absent_text(form: &Form<'_>, text: &str, alloc: Global) -> Result<Value>
     ensures kind { IfErr result IsMemoryOrSchema }
 {
     match form {
-        Form::Leaf(Leaf::Detail) => {
+        Form::Scalar(Scalar::Detail) => {
             let text = String::from_str(alloc, text)?;
             Detail::write(&text, alloc)
         }
@@ -101,11 +101,11 @@ fn absent_whole(form: &Form<'_>, whole: i128) -> Value
 }
 
 /// The value of the record that is meant where a member is absent.
-fn absent_record(form: &Form<'_>, given: &[Option<Absent>], alloc: Global) -> Result<Value>
+fn absent_record(form: &Form<'_>, given: &[Option<DefaultValue>], alloc: Global) -> Result<Value>
     requires well { WellFormed (shape_of form.now) }
-    requires fits { Fits (shape_of form.now) (document (slots (map absent_slot given.now))) }
-    requires writable { Writable (shape_of form.now) (document (slots (map absent_slot given.now))) }
-    ensures ok { IfOk result (λ v. view v ≡ json_of (shape_of form.now) (document (slots (map absent_slot given.now)))) }
+    requires fits { Fits (shape_of form.now) (document (slots (map default_slot given.now))) }
+    requires writable { Writable (shape_of form.now) (document (slots (map default_slot given.now))) }
+    ensures ok { IfOk result (λ v. view v ≡ json_of (shape_of form.now) (document (slots (map default_slot given.now)))) }
     ensures err { IfErr result (λ e. ¬ IsSchema e) }
     ensures kind { IfErr result IsMemoryOrSchema }
 {
@@ -116,11 +116,11 @@ fn absent_record(form: &Form<'_>, given: &[Option<Absent>], alloc: Global) -> Re
 }
 
 /// The same, row by row.
-fn absent_rows(rows: &[Row<'_>], given: &[Option<Absent>], alloc: Global) -> Result<Value>
+fn absent_rows(rows: &[Row<'_>], given: &[Option<DefaultValue>], alloc: Global) -> Result<Value>
     requires well { AreWellFormed (rows_of rows.now) }
-    requires fits { FitsRows (rows_of rows.now) (slots (map absent_slot given.now)) }
-    requires writable { AreWritable (rows_of rows.now) (slots (map absent_slot given.now)) }
-    ensures ok { IfOk result (λ v. view v ≡ object (with_rows (rows_of rows.now) (slots (map absent_slot given.now)) no_members)) }
+    requires fits { FitsRows (rows_of rows.now) (slots (map default_slot given.now)) }
+    requires writable { AreWritable (rows_of rows.now) (slots (map default_slot given.now)) }
+    ensures ok { IfOk result (λ v. view v ≡ object (with_rows (rows_of rows.now) (slots (map default_slot given.now)) no_members)) }
     ensures err { IfErr result (λ e. ¬ IsSchema e) }
     ensures kind { IfErr result IsMemoryOrSchema }
 {
@@ -134,15 +134,15 @@ fn absent_rows(rows: &[Row<'_>], given: &[Option<Absent>], alloc: Global) -> Res
 /// Puts what a row's member means where the record is absent.
 fn absent_row(
     row: &Row<'_>,
-    given: &Option<Absent>,
+    given: &Option<DefaultValue>,
     made: &mut Map<String, Value>,
     alloc: Global,
 ) -> Result<()>
     requires well { MemberIsWellFormed (presence_of row.now.presence) (shape_of row.now.form.now) (WellFormed (shape_of row.now.form.now)) }
-    requires fits { FitsMember (presence_of row.now.presence) (Fits (shape_of row.now.form.now)) (absent_slot given.now) }
-    requires writable { IfFilled (Writable (shape_of row.now.form.now)) (absent_slot given.now) }
+    requires fits { FitsMember (presence_of row.now.presence) (Fits (shape_of row.now.form.now)) (default_slot given.now) }
+    requires writable { IfFilled (Writable (shape_of row.now.form.now)) (default_slot given.now) }
     ensures ok { OnOk result (members_view made.new.entries
-        ≡ with_member row.now.name.now (member_value (presence_of row.now.presence) (json_of (shape_of row.now.form.now)) (absent_slot given.now)) (members_view made.old.entries)) }
+        ≡ with_member row.now.name.now (member_value (presence_of row.now.presence) (json_of (shape_of row.now.form.now)) (default_slot given.now)) (members_view made.old.entries)) }
     ensures err { IfErr result (λ e. ¬ IsSchema e) }
     ensures kind { IfErr result IsMemoryOrSchema }
 {
@@ -154,13 +154,13 @@ fn absent_row(
 fn absent_member(
     form: &Form<'_>,
     presence: &Presence,
-    given: &Option<Absent>,
+    given: &Option<DefaultValue>,
     alloc: Global,
 ) -> Result<Option<Value>>
     requires well { MemberIsWellFormed (presence_of presence.now) (shape_of form.now) (WellFormed (shape_of form.now)) }
-    requires fits { FitsMember (presence_of presence.now) (Fits (shape_of form.now)) (absent_slot given.now) }
-    requires writable { IfFilled (Writable (shape_of form.now)) (absent_slot given.now) }
-    ensures ok { IfOk result (λ o. option_map view o ≡ member_value (presence_of presence.now) (json_of (shape_of form.now)) (absent_slot given.now)) }
+    requires fits { FitsMember (presence_of presence.now) (Fits (shape_of form.now)) (default_slot given.now) }
+    requires writable { IfFilled (Writable (shape_of form.now)) (default_slot given.now) }
+    ensures ok { IfOk result (λ o. option_map view o ≡ member_value (presence_of presence.now) (json_of (shape_of form.now)) (default_slot given.now)) }
     ensures err { IfErr result (λ e. ¬ IsSchema e) }
     ensures kind { IfErr result IsMemoryOrSchema }
 {

@@ -4,10 +4,10 @@ ghost use Rattle.serde_json.specs.View.{view, items_view, members_view};
 ghost use Rattle.oci_json_model.specs.Plain.{Plain};
 ghost use Rattle.oci_json_model.specs.Means.{Means};
 ghost use Rattle.oci_schema_walks.specs.Allows.{allows, rows_allow, row_allows, member_allowed, each_allowed, each_member_allowed};
-ghost use Rattle.oci_schema_walks.specs.Tables.{shape_of, presence_of, rows_of};
+ghost use Rattle.oci_schema_types.specs.Shapes.{shape_of, presence_of, rows_of};
 
 use crate::form::{Form, Presence, Row};
-use crate::leaf::leaf_allows;
+use crate::leaf::scalar_allows;
 use serde_json::{Map, Value};
 
 /// Whether the form allows the value: whether something is meant.
@@ -24,7 +24,7 @@ pub fn check(form: &Form<'_>, value: &Value) -> bool
     ensures { result ≡ allows (shape_of form.now) (view value.now) }
 {
     match form {
-        Form::Leaf(leaf) => leaf_allows(leaf, value),
+        Form::Scalar(leaf) => scalar_allows(leaf, value),
         Form::List(inner) => match value.as_array() {
             Some(items) => check_items(inner, items),
             None => false,

@@ -11,7 +11,7 @@ ghost use Rattle.oci_json_model.specs.Value.{value as json_of, with_member};
 ghost use Rattle.oci_json_model.specs.WellFormed.{WellFormed, AreWellFormed, MemberIsWellFormed};
 ghost use Rattle.oci_schema_walks.specs.Allows.{member_allowed};
 ghost use Rattle.oci_schema_walks.specs.Conformed.{IsSound, accepts, row_accepts, conformed, conformed_member, row_conformed, chosen, is_one_of, is_one_there};
-ghost use Rattle.oci_schema_walks.specs.Tables.{shape_of, presence_of, name_of, rows_of};
+ghost use Rattle.oci_schema_types.specs.Shapes.{shape_of, presence_of, alias_of, rows_of};
 
 use crate::absent::conform_absent;
 use crate::kept::{has_member, is_normal};
@@ -38,7 +38,7 @@ pub fn conform_value(form: &Form<'_>, value: Value, alloc: Global) -> Result<Val
         return Ok(value);
     }
     match form {
-        Form::Leaf(leaf) => conform_leaf(leaf, value, alloc),
+        Form::Scalar(leaf) => conform_leaf(leaf, value, alloc),
         Form::List(inner) => match into_items(value) {
             Some(items) => conform_items(inner, items, alloc),
             None => Err(refused("", "")),
@@ -118,7 +118,7 @@ fn conform_row(
     requires { MemberIsWellFormed (presence_of row.now.presence) (shape_of row.now.form.now) (WellFormed (shape_of row.now.form.now)) }
     ensures ok { OnOk result (members_view made.new.entries ≡ with_member row.now.name.now (row_conformed row.now (object (members_view members.old.entries))) (members_view made.old.entries)) }
     ensures accepts { OnOk result (row_accepts row.now (object (members_view members.old.entries)) ≡ true) }
-    ensures others { (q : _) → is_one_of q row.now.name.now (name_of row.now.second) ≡ false → get_member q (members_view members.new.entries) ≡ get_member q (members_view members.old.entries) }
+    ensures others { (q : _) → is_one_of q row.now.name.now (alias_of row.now.second) ≡ false → get_member q (members_view members.new.entries) ≡ get_member q (members_view members.old.entries) }
     ensures err { IfErr result (λ e. IsSchema e → row_accepts row.now (object (members_view members.old.entries)) ≡ false) }
     ensures kind { IfErr result IsMemoryOrSchema }
 {
@@ -135,10 +135,10 @@ fn take_row(
     owner: &'static str,
     members: &mut Map<String, Value>,
 ) -> Result<Option<Value>>
-    ensures ok { IfOk result (λ o. option_map view o ≡ chosen (get_member row.now.name.now (members_view members.old.entries)) (get_second (name_of row.now.second) (object (members_view members.old.entries)))) }
-    ensures one { OnOk result (is_one_there (get_member row.now.name.now (members_view members.old.entries)) (get_second (name_of row.now.second) (object (members_view members.old.entries))) ≡ true) }
-    ensures err { IfErr result (λ e. is_one_there (get_member row.now.name.now (members_view members.old.entries)) (get_second (name_of row.now.second) (object (members_view members.old.entries))) ≡ false) }
-    ensures others { (q : _) → is_one_of q row.now.name.now (name_of row.now.second) ≡ false → get_member q (members_view members.new.entries) ≡ get_member q (members_view members.old.entries) }
+    ensures ok { IfOk result (λ o. option_map view o ≡ chosen (get_member row.now.name.now (members_view members.old.entries)) (get_second (alias_of row.now.second) (object (members_view members.old.entries)))) }
+    ensures one { OnOk result (is_one_there (get_member row.now.name.now (members_view members.old.entries)) (get_second (alias_of row.now.second) (object (members_view members.old.entries))) ≡ true) }
+    ensures err { IfErr result (λ e. is_one_there (get_member row.now.name.now (members_view members.old.entries)) (get_second (alias_of row.now.second) (object (members_view members.old.entries))) ≡ false) }
+    ensures others { (q : _) → is_one_of q row.now.name.now (alias_of row.now.second) ≡ false → get_member q (members_view members.new.entries) ≡ get_member q (members_view members.old.entries) }
     ensures kind { IfErr result IsMemoryOrSchema }
 {
     match row.second {

@@ -1,16 +1,16 @@
 //! What a form refuses in a value.
 ghost use Rattle.std.specs.Prelude.{◌≡◌};
 ghost use Rattle.oci_schema_walks.specs.Faults.{kind_of, kind_told};
-ghost use Rattle.oci_schema_walks.specs.Tables.{shape_of};
+ghost use Rattle.oci_schema_types.specs.Shapes.{shape_of};
 
-use crate::form::{Form, Leaf};
+use crate::form::{Form, Scalar};
 use std::fmt;
 
 /// What a value is wanted to be; its parts, where it has some, have faults of their own.
 #[derive(Clone, Copy)]
 pub enum Expected {
     /// A value with no listed parts.
-    Leaf(Leaf),
+    Scalar(Leaf),
     /// A list.
     List,
     /// An object.
@@ -44,20 +44,20 @@ impl Form<'_> {
         ensures { kind_told result ≡ kind_of (shape_of self.now) }
     {
         match self {
-            Form::Leaf(leaf) => Expected::Leaf(*leaf),
+            Form::Scalar(leaf) => Expected::Scalar(*leaf),
             Form::List(_) => Expected::List,
             Form::Map(_) | Form::Record(_, _) => Expected::Object,
         }
     }
 }
 
-impl fmt::Display for Leaf {
+impl fmt::Display for Scalar {
     fn fmt<W: fmt::Write>(&self, f: &mut fmt::Formatter<W>) -> fmt::Result {
         match self {
-            Leaf::Text | Leaf::MediaType | Leaf::Os | Leaf::Arch => f.write_str("a text"),
-            Leaf::Truth => f.write_str("true or false"),
-            Leaf::Whole(low, high) => write!(f, "a whole number from {low} to {high}"),
-            Leaf::Named(table) => {
+            Scalar::String | Scalar::MediaType | Scalar::Os | Scalar::Arch => f.write_str("a text"),
+            Scalar::Boolean => f.write_str("true or false"),
+            Scalar::Integer(low, high) => write!(f, "a whole number from {low} to {high}"),
+            Scalar::Enum(table) => {
                 f.write_str("one of the texts")?;
                 let mut mark = " ";
                 for name in table.iter() {
@@ -67,14 +67,14 @@ impl fmt::Display for Leaf {
                 }
                 Ok(())
             }
-            Leaf::Digest => f.write_str("a digest"),
-            Leaf::Processors => f.write_str("a list of processors, as a text"),
-            Leaf::Capabilities => f.write_str("a list of names of capabilities"),
-            Leaf::Keys => f.write_str("an object of objects"),
-            Leaf::Detail => {
+            Scalar::Digest => f.write_str("a digest"),
+            Scalar::CpuList => f.write_str("a list of processors, as a text"),
+            Scalar::Capabilities => f.write_str("a list of names of capabilities"),
+            Scalar::Keys => f.write_str("an object of objects"),
+            Scalar::Detail => {
                 f.write_str("a value that is not null and has no numbers but whole ones of 64 bits")
             }
-            Leaf::FreeValues => {
+            Scalar::FreeValues => {
                 f.write_str("an object that has no numbers but whole ones of 64 bits")
             }
         }
@@ -84,7 +84,7 @@ impl fmt::Display for Leaf {
 impl fmt::Display for Expected {
     fn fmt<W: fmt::Write>(&self, f: &mut fmt::Formatter<W>) -> fmt::Result {
         match self {
-            Expected::Leaf(leaf) => write!(f, "{leaf}"),
+            Expected::Scalar(leaf) => write!(f, "{leaf}"),
             Expected::List => f.write_str("a list"),
             Expected::Object => f.write_str("an object"),
         }

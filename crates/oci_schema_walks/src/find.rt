@@ -3,12 +3,12 @@ ghost use Rattle.std.specs.Prelude.{◌≡◌, ◌∷◌, ◌++◌, [], None, ma
 ghost use Rattle.serde_json.specs.View.{view, items_view, members_view};
 ghost use Rattle.oci_schema_walks.specs.Faults.{told, faults as all_faults, each_faults, each_member_faults, rows_faults, listed_faults, member_faults, want_of, kind_of, other_value, no_second};
 ghost use Rattle.oci_schema_walks.specs.Places.{under_name as under};
-ghost use Rattle.oci_schema_walks.specs.Tables.{shape_of, leaf_shape, presence_of, rows_of};
+ghost use Rattle.oci_schema_types.specs.Shapes.{shape_of, scalar_shape, presence_of, rows_of};
 
-use crate::leaf::leaf_allows;
+use crate::leaf::scalar_allows;
 use crate::member::lets_null;
 use crate::place::{under_index, under_name};
-use crate::{Expected, Fault, Form, Leaf, Presence, Row, Wanted};
+use crate::{Expected, Fault, Form, Scalar, Presence, Row, Wanted};
 use serde_json::{Map, Value};
 use std::alloc::{AllocError, Global};
 
@@ -33,18 +33,18 @@ fn refuse(
 }
 
 fn add_leaf(
-    leaf: &Leaf,
+    leaf: &Scalar,
     value: &Value,
     at: &str,
     found: &mut Vec<Fault>,
     alloc: Global,
 ) -> Result<(), AllocError>
-    ensures { OnOk result (map told found.new.items ≡ map told found.old.items ++ all_faults (leaf_shape leaf.now) at.now (view value.now)) }
+    ensures { OnOk result (map told found.new.items ≡ map told found.old.items ++ all_faults (scalar_shape leaf.now) at.now (view value.now)) }
 {
-    if leaf_allows(leaf, value) {
+    if scalar_allows(leaf, value) {
         return Ok(());
     }
-    push(at, Wanted::Value(Expected::Leaf(*leaf)), found, alloc)
+    push(at, Wanted::Value(Expected::Scalar(*leaf)), found, alloc)
 }
 
 /// Adds all that the form refuses in the value which stands at this place, in the order of the table.
@@ -59,7 +59,7 @@ pub fn add_faults(
     ensures { OnOk result (map told found.new.items ≡ map told found.old.items ++ all_faults (shape_of form.now) at.now (view value.now)) }
 {
     match form {
-        Form::Leaf(leaf) => add_leaf(leaf, value, at, found, alloc),
+        Form::Scalar(leaf) => add_leaf(leaf, value, at, found, alloc),
         Form::List(inner) => match value.as_array() {
             Some(items) => add_items(inner, items, at, found, alloc),
             None => refuse(form, at, found, alloc),

@@ -11,11 +11,11 @@ ghost use Rattle.oci_json_model.specs.WellFormed.{WellFormed, AreWellFormed, Mem
 ghost use Rattle.oci_json.specs.Readable.{IsInOrder};
 ghost use Rattle.oci_schema_walks.specs.Conformed.{IsSound};
 ghost use Rattle.oci_schema_walks.specs.Normal.{IsNormal, AreNormal, HoldNormal, AreNormalMembers, is_always_written as is_written, IsNormalMember, IsOfRow, AreOfRows, HasAll, AreEmptyObjects};
-ghost use Rattle.oci_schema_walks.specs.Tables.{shape_of, leaf_shape, presence_of, rows_of};
+ghost use Rattle.oci_schema_types.specs.Shapes.{shape_of, scalar_shape, presence_of, rows_of};
 
-use crate::leaf::leaf_allows;
+use crate::leaf::scalar_allows;
 use crate::plain::is_plain;
-use crate::{Form, Leaf, Presence, Row};
+use crate::{Form, Scalar, Presence, Row};
 use serde_json::{Map, Value};
 
 /// How deep a text nests at most.
@@ -67,7 +67,7 @@ fn stands_as_written(form: &Form<'_>, value: &Value) -> bool
     ensures { IsTrue result → IsNormal (shape_of form.now) (view value.now) }
 {
     match form {
-        Form::Leaf(leaf) => is_normal_leaf(leaf, value),
+        Form::Scalar(leaf) => is_normal_leaf(leaf, value),
         Form::List(inner) => match value.as_array() {
             Some(items) => are_normal(inner, items),
             None => false,
@@ -187,26 +187,26 @@ fn is_normal_member(form: &Form<'_>, presence: &Presence, value: &Value) -> bool
     }
 }
 
-fn is_normal_leaf(leaf: &Leaf, value: &Value) -> bool
-    ensures { IsTrue result → IsNormal (leaf_shape leaf.now) (view value.now) }
+fn is_normal_leaf(leaf: &Scalar, value: &Value) -> bool
+    ensures { IsTrue result → IsNormal (scalar_shape leaf.now) (view value.now) }
 {
     match leaf {
-        Leaf::Capabilities => false,
-        Leaf::Detail => !value.is_null() && is_plain(value, NESTING),
-        Leaf::Keys => match value.as_object() {
+        Scalar::Capabilities => false,
+        Scalar::Detail => !value.is_null() && is_plain(value, NESTING),
+        Scalar::Keys => match value.as_object() {
             Some(members) => are_empty_objects(members),
             None => false,
         },
-        Leaf::Whole(_, _) => is_normal_number(value) && leaf_allows(leaf, value),
-        Leaf::Text
-        | Leaf::Truth
-        | Leaf::Named(_)
-        | Leaf::MediaType
-        | Leaf::Os
-        | Leaf::Arch
-        | Leaf::Digest
-        | Leaf::Processors
-        | Leaf::FreeValues => leaf_allows(leaf, value),
+        Scalar::Integer(_, _) => is_normal_number(value) && scalar_allows(leaf, value),
+        Scalar::String
+        | Scalar::Boolean
+        | Scalar::Enum(_)
+        | Scalar::MediaType
+        | Scalar::Os
+        | Scalar::Arch
+        | Scalar::Digest
+        | Scalar::CpuList
+        | Scalar::FreeValues => scalar_allows(leaf, value),
     }
 }
 

@@ -6,9 +6,9 @@ ghost use Rattle.oci_process_names.specs.Capability.{capability_table};
 ghost use Rattle.oci_json_model.specs.Means.{as_whole, is_object};
 ghost use Rattle.oci_schema_walks.specs.Allows.{allows, is_capability as is_of_table, is_digest_text, names_capability, each_allowed, each_member_allowed};
 ghost use Rattle.oci_schema_walks.specs.Processors.{is_list_of_processors as is_scanned};
-ghost use Rattle.oci_schema_walks.specs.Tables.{leaf_shape, names_of};
+ghost use Rattle.oci_schema_types.specs.Shapes.{scalar_shape, names_of};
 
-use crate::form::Leaf;
+use crate::form::Scalar;
 use oci_json_members::number::{has_other_numbers, members_have_other_numbers};
 use oci_json_model::JsonName;
 use oci_process_names::{Capability, is_cpu_list};
@@ -16,38 +16,38 @@ use oci_text::is_digest;
 use serde_json::{Map, Value};
 
 /// Whether the leaf allows the value.
-pub fn leaf_allows(leaf: &Leaf, value: &Value) -> bool
-    ensures { result ≡ allows (leaf_shape leaf.now) (view value.now) }
+pub fn scalar_allows(leaf: &Scalar, value: &Value) -> bool
+    ensures { result ≡ allows (scalar_shape leaf.now) (view value.now) }
 {
     match leaf {
-        Leaf::Text | Leaf::MediaType | Leaf::Os | Leaf::Arch => value.is_string(),
-        Leaf::Truth => value.is_boolean(),
-        Leaf::Whole(low, high) => match whole(value) {
+        Scalar::String | Scalar::MediaType | Scalar::Os | Scalar::Arch => value.is_string(),
+        Scalar::Boolean => value.is_boolean(),
+        Scalar::Integer(low, high) => match whole(value) {
             Some(number) => *low <= number && number <= *high,
             None => false,
         },
-        Leaf::Named(table) => match value.as_str() {
+        Scalar::Enum(table) => match value.as_str() {
             Some(text) => is_among(table, text),
             None => false,
         },
-        Leaf::Digest => match value.as_str() {
+        Scalar::Digest => match value.as_str() {
             Some(text) => is_digest_value(text),
             None => false,
         },
-        Leaf::Processors => match value.as_str() {
+        Scalar::CpuList => match value.as_str() {
             Some(text) => is_list_of_processors(text),
             None => false,
         },
-        Leaf::Capabilities => match value.as_array() {
+        Scalar::Capabilities => match value.as_array() {
             Some(items) => are_capabilities(items),
             None => false,
         },
-        Leaf::Keys => match value.as_object() {
+        Scalar::Keys => match value.as_object() {
             Some(members) => are_objects(members),
             None => false,
         },
-        Leaf::Detail => !value.is_null() && !has_other_numbers(value),
-        Leaf::FreeValues => match value.as_object() {
+        Scalar::Detail => !value.is_null() && !has_other_numbers(value),
+        Scalar::FreeValues => match value.as_object() {
             Some(members) => !members_have_other_numbers(members),
             None => false,
         },

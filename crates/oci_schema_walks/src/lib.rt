@@ -7,8 +7,6 @@ pub mod check;
 pub mod conform;
 pub mod fault;
 pub mod find;
-pub mod form;
-pub mod forms;
 pub mod kept;
 pub mod laws;
 pub mod leaf;
@@ -18,4 +16,3 @@ pub mod place;
 pub mod plain;
 
 pub use fault::{Expected, Fault, Wanted};
-pub use form::{Absent, Form, Leaf, Presence, Row};

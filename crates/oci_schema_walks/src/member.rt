@@ -5,7 +5,7 @@ ghost use Rattle.oci_text_base.specs.Refused.{IsSchema, IsMemoryOrSchema};
 ghost use Rattle.oci_json_model.specs.Means.{unless_null as without_null};
 ghost use Rattle.oci_json_model.specs.Plain.{empty};
 ghost use Rattle.oci_json_model.specs.Value.{with_member, member_value};
-ghost use Rattle.oci_schema_walks.specs.Tables.{presence_of};
+ghost use Rattle.oci_schema_types.specs.Shapes.{presence_of};
 ghost use Rattle.oci_schema_walks.specs.Given.{may_be_null, given as what_is_given, written as what_is_written};
 
 use crate::Presence;

@@ -8,11 +8,11 @@ ghost use Rattle.oci_process_names.specs.Capability.{capability_table};
 ghost use Rattle.oci_json_model.specs.Shape.{cap_set, key_set, detail};
 ghost use Rattle.oci_json_model.specs.Means.{as_whole};
 ghost use Rattle.oci_schema_walks.specs.Conformed.{accepts, conformed, unless_no_items as without_empty};
-ghost use Rattle.oci_schema_walks.specs.Tables.{leaf_shape};
+ghost use Rattle.oci_schema_types.specs.Shapes.{scalar_shape};
 
-use crate::Leaf;
+use crate::Scalar;
 use crate::kept::has_no_items;
-use crate::leaf::leaf_allows;
+use crate::leaf::scalar_allows;
 use oci_json_members::{Detail, Keys, OciKind};
 use oci_json_model::fault::refused;
 use oci_process_names::Caps;
@@ -22,32 +22,32 @@ use std::alloc::Global;
 
 /// The normal form of a value with no listed parts; `SerDe(Schema)` where the leaf does not allow the value, and where a
 /// detail nests deeper than a text may.
-pub fn conform_leaf(leaf: &Leaf, value: Value, alloc: Global) -> Result<Value>
-    ensures ok { IfOk result (λ v. (accepts (leaf_shape leaf.now) (view value) ≡ true) × (view v ≡ conformed (leaf_shape leaf.now) (view value))) }
-    ensures err { IfErr result (λ e. IsSchema e → accepts (leaf_shape leaf.now) (view value) ≡ false) }
+pub fn conform_leaf(leaf: &Scalar, value: Value, alloc: Global) -> Result<Value>
+    ensures ok { IfOk result (λ v. (accepts (scalar_shape leaf.now) (view value) ≡ true) × (view v ≡ conformed (scalar_shape leaf.now) (view value))) }
+    ensures err { IfErr result (λ e. IsSchema e → accepts (scalar_shape leaf.now) (view value) ≡ false) }
     ensures kind { IfErr result IsMemoryOrSchema }
 {
     match leaf {
-        Leaf::Capabilities => conform_capabilities(&value, alloc),
-        Leaf::Keys => conform_keys(value, alloc),
-        Leaf::Detail => conform_detail(&value, alloc),
-        Leaf::Whole(_, _) => {
-            if leaf_allows(leaf, &value) {
+        Scalar::Capabilities => conform_capabilities(&value, alloc),
+        Scalar::Keys => conform_keys(value, alloc),
+        Scalar::Detail => conform_detail(&value, alloc),
+        Scalar::Integer(_, _) => {
+            if scalar_allows(leaf, &value) {
                 Ok(normal_number(value))
             } else {
                 Err(refused("", ""))
             }
         }
-        Leaf::Text
-        | Leaf::Truth
-        | Leaf::Named(_)
-        | Leaf::MediaType
-        | Leaf::Os
-        | Leaf::Arch
-        | Leaf::Digest
-        | Leaf::Processors
-        | Leaf::FreeValues => {
-            if leaf_allows(leaf, &value) {
+        Scalar::String
+        | Scalar::Boolean
+        | Scalar::Enum(_)
+        | Scalar::MediaType
+        | Scalar::Os
+        | Scalar::Arch
+        | Scalar::Digest
+        | Scalar::CpuList
+        | Scalar::FreeValues => {
+            if scalar_allows(leaf, &value) {
                 Ok(value)
             } else {
                 Err(refused("", ""))

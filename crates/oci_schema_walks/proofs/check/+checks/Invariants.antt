@@ -1,7 +1,7 @@
 use Rattle.std.proofs.Common.{◌≡◌, drop}
 use Rattle.serde_json.specs.View.{view, items_view, members_view}
 use Rattle.oci_schema_walks.specs.Allows.{allows, rows_allow, each_allowed, each_member_allowed}
-use Rattle.oci_schema_walks.specs.Tables.{shape_of, rows_of}
+use Rattle.oci_schema_types.specs.Shapes.{shape_of, rows_of}
 use Rattle.oci_schema_walks.proofs.check.+checks.Given as goal
 
 abbrev pub invariant-check_items-loop-item : goal.invariant-check_items-loop-item

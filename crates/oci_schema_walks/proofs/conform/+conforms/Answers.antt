@@ -9,7 +9,7 @@ use Rattle.oci_json_model.specs.Value.{value}
 use Rattle.oci_json_model.proofs.Lists.{exits}
 use Rattle.oci_schema_walks.specs.Allows.{each_allowed, each_member_allowed}
 use Rattle.oci_schema_walks.specs.Conformed.{accepts, conformed, each_conformed, conformed_member, IsSound}
-use Rattle.oci_schema_walks.specs.Tables.{shape_of, rows_of, presence_of}
+use Rattle.oci_schema_types.specs.Shapes.{shape_of, rows_of, presence_of}
 use Rattle.oci_schema_walks.specs.declared.form.Form.{the_lemmas}
 use Rattle.oci_schema_walks.proofs.NormalParts.{object_kept}
 use Rattle.oci_schema_walks.proofs.Tables.{record_is}

@@ -5,7 +5,7 @@ use Rattle.serde_json.specs.View.{items_view, members_view}
 use Rattle.serde_json.proofs.Views.{Entry}
 use Rattle.oci_schema_walks.specs.Allows.{each_allowed, each_member_allowed}
 use Rattle.oci_schema_walks.specs.Conformed.{accepts, conformed, each_conformed, each_member_conformed}
-use Rattle.oci_schema_walks.specs.Tables.{shape_of, rows_of}
+use Rattle.oci_schema_types.specs.Shapes.{shape_of, rows_of}
 use Rattle.oci_schema_walks.proofs.Moved.{Moved}
 use Rattle.oci_schema_walks.proofs.Parts.{joined}
 use Rattle.oci_schema_walks.proofs.conform.+conforms.Given as goal

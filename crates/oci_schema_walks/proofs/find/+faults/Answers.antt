@@ -2,7 +2,7 @@ use Rattle.std.proofs.Common.{◌≡◌, ◌++◌, map, sym, ◌∙◌, subst, a
 use Rattle.serde_json.specs.View.{view}
 use Rattle.oci_schema_walks.specs.Faults.{told, faults}
 use Rattle.oci_schema_walks.specs.Places.{under_name}
-use Rattle.oci_schema_walks.specs.Tables.{shape_of}
+use Rattle.oci_schema_types.specs.Shapes.{shape_of}
 use Rattle.oci_schema_walks.proofs.Tables.{record_lists}
 use Rattle.oci_schema_walks.proofs.Listed.{rows_step}
 use Rattle.oci_schema_walks.proofs.Steps.{item_more, member_more}

@@ -1,7 +1,7 @@
 use Rattle.std.proofs.Common.{◌≡◌, ◌++◌, drop, map}
 use Rattle.serde_json.specs.View.{view, items_view, members_view}
 use Rattle.oci_schema_walks.specs.Faults.{told, faults, each_faults, each_member_faults, rows_faults}
-use Rattle.oci_schema_walks.specs.Tables.{shape_of, rows_of}
+use Rattle.oci_schema_types.specs.Shapes.{shape_of, rows_of}
 use Rattle.oci_schema_walks.proofs.find.+faults.Given as goal
 
 -- what was found, and what is still to be found, is all

@@ -1,7 +1,7 @@
 use Rattle.std.proofs.Common.{rules, subst}
 use Rattle.serde_json.specs.View.{view}
 use Rattle.oci_schema_walks.specs.Conformed.{IsSound}
-use Rattle.oci_schema_walks.specs.Tables.{shape_of, rows_of}
+use Rattle.oci_schema_types.specs.Shapes.{shape_of, rows_of}
 use Rattle.oci_schema_walks.specs.declared.form.Form.{the_lemmas}
 use Rattle.oci_schema_walks.proofs.NormalMembers.{members_normal}
 use Rattle.oci_schema_walks.proofs.NormalParts.{in_order, record_normal}

@@ -2,7 +2,7 @@ use Rattle.std.proofs.Common.{drop}
 use Rattle.serde_json.specs.View.{view, items_view, members_view}
 use Rattle.oci_json_model.specs.WellFormed.{AreWellFormed}
 use Rattle.oci_schema_walks.specs.Normal.{AreNormal, HoldNormal, IsOfRow, AreOfRows}
-use Rattle.oci_schema_walks.specs.Tables.{shape_of, rows_of}
+use Rattle.oci_schema_types.specs.Shapes.{shape_of, rows_of}
 use Rattle.oci_schema_walks.proofs.kept.+keeps.Given as goal
 
 abbrev pub invariant-are_normal-loop-item : goal.invariant-are_normal-loop-item

@@ -1,7 +1,7 @@
 use Rattle.std.proofs.Common.{drop}
 use Rattle.serde_json.specs.View.{members_view}
 use Rattle.oci_schema_walks.specs.Normal.{HasAll}
-use Rattle.oci_schema_walks.specs.Tables.{rows_of}
+use Rattle.oci_schema_types.specs.Shapes.{rows_of}
 use Rattle.oci_schema_walks.proofs.kept.has_all.Given as goal
 
 abbrev pub invariant-loop-row : goal.invariant-loop-row
