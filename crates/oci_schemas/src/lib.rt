@@ -33,4 +33,4 @@ pub mod runtime_records;
 pub mod runtime_spec;
 pub mod table;
 
-pub use table::{OciRecords, record_at};
+pub use table::{OciRecords, oci_records, record_at};

@@ -11,12 +11,7 @@ ghost use Rattle.oci_shapes.specs.LinuxSeccomp.{linux_seccomp};
 ghost use Rattle.oci_shapes.specs.LinuxSeccompArg.{linux_seccomp_arg};
 ghost use Rattle.oci_shapes.specs.LinuxSyscall.{linux_syscall};
 
-use crate::parts::{
-    BOOLEAN, LINUX_INTEL_RDT, LINUX_MEMORY_POLICY, LINUX_PERSONALITY, LINUX_PERSONALITY_DOMAIN,
-    LINUX_SECCOMP, LINUX_SECCOMP_ACTION, LINUX_SECCOMP_ARG, LINUX_SECCOMP_FILTER_FLAG,
-    LINUX_SECCOMP_OPERATOR, LINUX_SYSCALL, MEMORY_POLICY_FLAG_TYPE, MEMORY_POLICY_MODE_TYPE,
-    S_ARCH, STRING, U32, U64, USIZE,
-};
+use crate::parts::{BOOLEAN, LINUX_INTEL_RDT, LINUX_MEMORY_POLICY, LINUX_PERSONALITY, LINUX_PERSONALITY_DOMAIN, LINUX_SECCOMP, LINUX_SECCOMP_ACTION, LINUX_SECCOMP_ARG, LINUX_SECCOMP_FILTER_FLAG, LINUX_SECCOMP_OPERATOR, LINUX_SYSCALL, MEMORY_POLICY_FLAG_TYPE, MEMORY_POLICY_MODE_TYPE, STRING, S_ARCH, U32, U64, USIZE};
 use oci_schema_types::{Member, Presence, Record, Schema};
 
 static LINUX_INTEL_RDT_RECORD: Record = Record {
@@ -51,17 +46,9 @@ pub fn linux_intel_rdt() -> &'static Schema
 static LINUX_MEMORY_POLICY_RECORD: Record = Record {
     name: "LinuxMemoryPolicy",
     members: &[
-        member!(
-            "mode",
-            Presence::Required,
-            Schema::One(MEMORY_POLICY_MODE_TYPE)
-        ),
+        member!("mode", Presence::Required, Schema::One(MEMORY_POLICY_MODE_TYPE)),
         member!("nodes", Presence::Optional, Schema::One(STRING)),
-        member!(
-            "flags",
-            Presence::Optional,
-            Schema::List(MEMORY_POLICY_FLAG_TYPE)
-        ),
+        member!("flags", Presence::Optional, Schema::List(MEMORY_POLICY_FLAG_TYPE)),
     ],
 };
 
@@ -84,11 +71,7 @@ pub fn linux_memory_policy() -> &'static Schema
 static LINUX_PERSONALITY_RECORD: Record = Record {
     name: "LinuxPersonality",
     members: &[
-        member!(
-            "domain",
-            Presence::Required,
-            Schema::One(LINUX_PERSONALITY_DOMAIN)
-        ),
+        member!("domain", Presence::Required, Schema::One(LINUX_PERSONALITY_DOMAIN)),
         member!("flags", Presence::Optional, Schema::List(STRING)),
     ],
 };
@@ -112,18 +95,10 @@ pub fn linux_personality() -> &'static Schema
 static LINUX_SECCOMP_RECORD: Record = Record {
     name: "LinuxSeccomp",
     members: &[
-        member!(
-            "defaultAction",
-            Presence::Required,
-            Schema::One(LINUX_SECCOMP_ACTION)
-        ),
+        member!("defaultAction", Presence::Required, Schema::One(LINUX_SECCOMP_ACTION)),
         member!("defaultErrnoRet", Presence::Optional, Schema::One(U32)),
         member!("architectures", Presence::Optional, Schema::List(S_ARCH)),
-        member!(
-            "flags",
-            Presence::Optional,
-            Schema::List(LINUX_SECCOMP_FILTER_FLAG)
-        ),
+        member!("flags", Presence::Optional, Schema::List(LINUX_SECCOMP_FILTER_FLAG)),
         member!("listenerPath", Presence::Optional, Schema::One(STRING)),
         member!("listenerMetadata", Presence::Optional, Schema::One(STRING)),
         member!("syscalls", Presence::Optional, Schema::List(LINUX_SYSCALL)),
@@ -152,11 +127,7 @@ static LINUX_SECCOMP_ARG_RECORD: Record = Record {
         member!("index", Presence::Required, Schema::One(USIZE)),
         member!("value", Presence::Required, Schema::One(U64)),
         member!("valueTwo", Presence::Optional, Schema::One(U64)),
-        member!(
-            "op",
-            Presence::Required,
-            Schema::One(LINUX_SECCOMP_OPERATOR)
-        ),
+        member!("op", Presence::Required, Schema::One(LINUX_SECCOMP_OPERATOR)),
     ],
 };
 
@@ -180,11 +151,7 @@ static LINUX_SYSCALL_RECORD: Record = Record {
     name: "LinuxSyscall",
     members: &[
         member!("names", Presence::Required, Schema::List(STRING)),
-        member!(
-            "action",
-            Presence::Required,
-            Schema::One(LINUX_SECCOMP_ACTION)
-        ),
+        member!("action", Presence::Required, Schema::One(LINUX_SECCOMP_ACTION)),
         member!("errnoRet", Presence::Optional, Schema::One(U32)),
         member!("args", Presence::Optional, Schema::List(LINUX_SECCOMP_ARG)),
     ],
