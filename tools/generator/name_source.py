@@ -6,7 +6,7 @@ def prelude(n):
     parsed = "from_str" in n.marks or "from_shown" in n.marks
     errors = ["IfOk", "IfErr"] if n.refusal or parsed else []
     two = bool(n.refusal and n.shows())
-    return ["◌≡◌"] + ["◌⊎◌"] * two + errors + ["IfSome", "IfNone"] * two + ["string_bytes"] * bool(n.refusal)
+    return ["◌≡◌"] * bool(calls(n)) + ["◌⊎◌"] * two + errors + ["IfSome", "IfNone"] * two + ["string_bytes"] * bool(n.refusal)
 
 
 def head(n):
@@ -15,7 +15,7 @@ def head(n):
     parsed = "from_str" in marks or "from_shown" in marks
     two = bool(n.refusal and n.shows())
     words = [f"{w}_name"] + [f"{w}_shown"] * (two or "from_shown" in marks) + [f"{w}_unknown"] * bool(n.refusal) + [f"{w}_number"] * bool(n.number)
-    out = f"//! {n.title}\nghost use Rattle.std.specs.Prelude.{{{', '.join(prelude(n))}}};\n"
+    out = f"//! {n.title}\n" + imported("std.specs.Prelude", prelude(n), True).strip(" ")
     if n.refusal or parsed:
         out += f"ghost use Rattle.{n.crate}.specs.declared.{w}.{name}.{{{name}}};\n"
     out += f"ghost use Rattle.{n.crate}.specs.{name}.{{{', '.join(words)}}};\n\n"

@@ -1,7 +1,7 @@
 """The proof answers of long records, which the search does not find."""
 from generator.calls import SHAPES
 from generator.records import READ, WRITE
-from generator.text import called, groups, used
+from generator.text import called, groups, imported, used
 
 ORDINALS = ("first", "second", "third", "fourth", "fifth")
 
@@ -30,8 +30,7 @@ def read_answers(r):
         terms = [f"let told = {it} in search rules" if m.type.text in ("i32", "i64") else it for m, it in zip(r.members, told_of)]
     lines = "".join(f"    ({it},\n" for it in terms)
     return f"""-- What each member decodes to.
-use Rattle.std.proofs.Common.{{refl, rules}}
-{imports}use Rattle.{r.book.crate}.proofs.{r.word}.{r.name}OciRecord.from_value.Goals as goal
+{imported("std.proofs.Common", ["refl"] + used(["rules"], lines))}{imports}use Rattle.{r.book.crate}.proofs.{r.word}.{r.name}OciRecord.from_value.Goals as goal
 
 pub returns-clause-ok : goal.returns-clause-ok
 returns-clause-ok c =
