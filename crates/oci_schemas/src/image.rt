@@ -9,7 +9,9 @@ ghost use Rattle.oci_shapes.specs.History.{history};
 ghost use Rattle.oci_shapes.specs.ImageConfiguration.{image_configuration};
 ghost use Rattle.oci_shapes.specs.RootFs.{root_fs};
 
-use crate::parts::{ARCH, BOOLEAN, CONFIG, HISTORY, IMAGE_CONFIGURATION, KEYS, OS, ROOT_FS, STRING};
+use crate::parts::{
+    ARCH, BOOLEAN, CONFIG, HISTORY, IMAGE_CONFIGURATION, KEYS, OS, ROOT_FS, STRING,
+};
 use oci_schema_types::{Member, Presence, Record, Schema};
 
 static CONFIG_RECORD: Record = Record {

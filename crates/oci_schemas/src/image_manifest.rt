@@ -9,7 +9,9 @@ ghost use Rattle.oci_shapes.specs.ImageIndex.{image_index};
 ghost use Rattle.oci_shapes.specs.ImageManifest.{image_manifest};
 ghost use Rattle.oci_shapes.specs.OciLayout.{oci_layout};
 
-use crate::parts::{ARTIFACT_MANIFEST, DESCRIPTOR, IMAGE_INDEX, IMAGE_MANIFEST, MEDIA_TYPE, OCI_LAYOUT, STRING, U32};
+use crate::parts::{
+    ARTIFACT_MANIFEST, DESCRIPTOR, IMAGE_INDEX, IMAGE_MANIFEST, MEDIA_TYPE, OCI_LAYOUT, STRING, U32,
+};
 use oci_schema_types::{Member, Presence, Record, Schema};
 
 static ARTIFACT_MANIFEST_RECORD: Record = Record {
@@ -98,9 +100,11 @@ pub fn image_manifest() -> &'static Schema
 
 static OCI_LAYOUT_RECORD: Record = Record {
     name: "OciLayout",
-    members: &[
-        member!("imageLayoutVersion", Presence::Required, Schema::One(STRING)),
-    ],
+    members: &[member!(
+        "imageLayoutVersion",
+        Presence::Required,
+        Schema::One(STRING)
+    )],
 };
 
 static OCI_LAYOUT_SCHEMA: Schema = Schema::One(OCI_LAYOUT);

@@ -14,8 +14,16 @@ static PLATFORM_RECORD: Record = Record {
     members: &[
         member!("architecture", Presence::Required, Schema::One(ARCH)),
         member!("os", Presence::Required, Schema::One(OS)),
-        member!("os.version" | "os_version", Presence::Optional, Schema::One(STRING)),
-        member!("os.features" | "os_features", Presence::Optional, Schema::List(STRING)),
+        member!(
+            "os.version" | "os_version",
+            Presence::Optional,
+            Schema::One(STRING)
+        ),
+        member!(
+            "os.features" | "os_features",
+            Presence::Optional,
+            Schema::List(STRING)
+        ),
         member!("variant", Presence::Optional, Schema::One(STRING)),
         member!("features", Presence::Optional, Schema::List(STRING)),
     ],
