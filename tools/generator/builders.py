@@ -112,7 +112,7 @@ def made_fields(r, of_self):
 
 
 def takings(r, members):
-    """The beginning of `build`, and what stands before a field that it did not take apart."""
+    """The beginning of `build`, and the prefix of fields if it did not destructure the builder."""
     takes = f"        let {r.name}Builder {{ {', '.join(m.field for m in members)} }} = self;\n" if r.required or any(defaulted(r, m) for m in members) else ""
     of_self = "" if takes else "self."
     for f in r.required:

@@ -67,18 +67,17 @@ def stale(root, tool, files):
 
 
 def attributes(root, gone, files):
-    """The text of `.gitattributes`, by which reviews fold generated files: all of a folder's at once where nothing there is by hand."""
+    """The text of `.gitattributes`, by which reviews fold generated files: those of a folder, but for what is written there by hand."""
     folders = {}
     for path in sorted({*sources(root), *files} - set(gone)):
         ours = path in files or bool(generated_by(os.path.join(root, path)))
-        folder, ending = os.path.dirname(path), os.path.splitext(path)[1]
-        folders.setdefault((folder, ending), []).append((path, ours))
+        folders.setdefault((os.path.dirname(path), os.path.splitext(path)[1]), ([], []))[ours].append(path)
     out = "# Written by tools/gen_records and tools/gen_names: the files that they generate.\n"
-    for (folder, ending), paths in sorted(folders.items()):
-        listed = [path for path, ours in paths if ours]
-        if len(listed) > 1 and len(listed) == len(paths):
-            listed = [f"{folder}/*{ending}"]
-        out += "".join(f"{path} linguist-generated\n" for path in listed)
+    for (folder, ending), (by_hand, generated) in sorted(folders.items()):
+        if len(generated) > len(by_hand) + 1:
+            out += f"{folder}/*{ending} linguist-generated\n" + "".join(f"{path} -linguist-generated\n" for path in by_hand)
+        else:
+            out += "".join(f"{path} linguist-generated\n" for path in generated)
     return out
 
 

@@ -99,7 +99,7 @@ impl LinuxBlockIo {
         self
     }
 
-    /// The weights on single devices, which stand in for the general ones.
+    /// The weights on single devices, which replace the general ones.
     pub fn weight_device(&self) -> &Option<Vec<LinuxWeightDevice>>
         ensures { result.now ≡ self.now.weight_device }
     {
@@ -346,7 +346,7 @@ impl LinuxBlockIoBuilder {
         }
     }
 
-    /// Sets `weight_device`: the weights on single devices, which stand in for the general ones.
+    /// Sets `weight_device`: the weights on single devices, which replace the general ones.
     pub fn weight_device(self, weight_device: Vec<LinuxWeightDevice>) -> Self
         ensures { result ≡ record self { weight_device = Some weight_device } }
     {

@@ -55,7 +55,7 @@ impl LinuxThrottleDevice {
         self.minor
     }
 
-    /// The limit in a second: bytes or operations, as the list says in which it stands.
+    /// The limit in a second: bytes or operations, depending on the list that it is in.
     pub fn rate(&self) -> u64
         ensures { result ≡ self.now.rate }
     {
@@ -141,7 +141,7 @@ impl LinuxThrottleDeviceBuilder {
         }
     }
 
-    /// Sets `rate`: the limit in a second: bytes or operations, as the list says in which it stands.
+    /// Sets `rate`: the limit in a second: bytes or operations, depending on the list that it is in.
     pub fn rate(self, rate: u64) -> Self
         ensures { result ≡ record self { rate = Some rate } }
     {

@@ -138,7 +138,7 @@ impl Descriptor {
         self
     }
 
-    /// The machine that the content is for.
+    /// The platform that the content is for.
     pub fn platform(&self) -> &Option<Platform>
         ensures { result.now ≡ self.now.platform }
     {

@@ -11,7 +11,7 @@ use std::alloc::Global;
 use std::fmt;
 
 /// What is done about a system call (runtime specification, "Linux Container Configuration", "Seccomp", `action`). The
-/// default is `ScmpActAllow`. `as_u32` has the number that a filter answers with.
+/// default is `ScmpActAllow`. `as_u32` is the number that a filter returns.
 #[derive(Clone, Copy, Debug, Default, PartialEq, Eq)]
 pub enum LinuxSeccompAction {
     /// The thread that made the call is ended, as by `ScmpActKillThread`.

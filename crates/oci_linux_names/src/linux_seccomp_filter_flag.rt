@@ -13,7 +13,7 @@ use std::fmt;
 /// A flag with which a seccomp filter is set (runtime specification, "Linux Container Configuration", "Seccomp", `flags`).
 #[derive(Clone, Copy, Debug, PartialEq, Eq)]
 pub enum LinuxSeccompFilterFlag {
-    /// What the filter answers is logged, unless it allows the call.
+    /// The filter's actions are logged, unless it allows the call.
     SeccompFilterFlagLog,
     /// The filter is set for all threads of the process.
     SeccompFilterFlagTsync,

@@ -163,7 +163,7 @@ impl Mount {
         self
     }
 
-    /// Which user IDs of the mounted file system those of the mount stand for.
+    /// The mappings of the mounted file system's user IDs to those of the mount.
     pub fn uid_mappings(&self) -> &Option<Vec<LinuxIdMapping>>
         ensures { result.now ≡ self.now.uid_mappings }
     {
@@ -187,7 +187,7 @@ impl Mount {
         self
     }
 
-    /// Which group IDs of the mounted file system those of the mount stand for.
+    /// The mappings of the mounted file system's group IDs to those of the mount.
     pub fn gid_mappings(&self) -> &Option<Vec<LinuxIdMapping>>
         ensures { result.now ≡ self.now.gid_mappings }
     {
@@ -355,7 +355,7 @@ impl MountBuilder {
         }
     }
 
-    /// Sets `uid_mappings`: which user IDs of the mounted file system those of the mount stand for.
+    /// Sets `uid_mappings`: the mappings of the mounted file system's user IDs to those of the mount.
     pub fn uid_mappings(self, uid_mappings: Vec<LinuxIdMapping>) -> Self
         ensures { result ≡ record self { uid_mappings = Some uid_mappings } }
     {
@@ -365,7 +365,7 @@ impl MountBuilder {
         }
     }
 
-    /// Sets `gid_mappings`: which group IDs of the mounted file system those of the mount stand for.
+    /// Sets `gid_mappings`: the mappings of the mounted file system's group IDs to those of the mount.
     pub fn gid_mappings(self, gid_mappings: Vec<LinuxIdMapping>) -> Self
         ensures { result ≡ record self { gid_mappings = Some gid_mappings } }
     {

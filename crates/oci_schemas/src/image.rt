@@ -90,7 +90,7 @@ static IMAGE_CONFIGURATION_RECORD: Record = Record {
 
 static IMAGE_CONFIGURATION_SCHEMA: Schema = Schema::One(IMAGE_CONFIGURATION);
 
-/// The members of `ImageConfiguration`: an image's configuration: its machine, its layers and what a container runs with (image specification, "Image Configuration").
+/// The members of `ImageConfiguration`: an image's configuration: its platform, its layers and what a container runs with (image specification, "Image Configuration").
 pub fn image_configuration_record() -> &'static Record
     ensures { rows (members_in (shape_at shapes) result.now.members.now) ≡ image_configuration }
 {

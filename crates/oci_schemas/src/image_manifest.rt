@@ -55,7 +55,7 @@ static IMAGE_INDEX_RECORD: Record = Record {
 
 static IMAGE_INDEX_SCHEMA: Schema = Schema::One(IMAGE_INDEX);
 
-/// The members of `ImageIndex`: manifests of one image for several machines (image specification, "Image Index").
+/// The members of `ImageIndex`: manifests of one image for several platforms (image specification, "Image Index").
 pub fn image_index_record() -> &'static Record
     ensures { rows (members_in (shape_at shapes) result.now.members.now) ≡ image_index }
 {
@@ -84,7 +84,7 @@ static IMAGE_MANIFEST_RECORD: Record = Record {
 
 static IMAGE_MANIFEST_SCHEMA: Schema = Schema::One(IMAGE_MANIFEST);
 
-/// The members of `ImageManifest`: a configuration and layers for one image on one machine (image specification, "Image Manifest").
+/// The members of `ImageManifest`: a configuration and layers for one image on one platform (image specification, "Image Manifest").
 pub fn image_manifest_record() -> &'static Record
     ensures { rows (members_in (shape_at shapes) result.now.members.now) ≡ image_manifest }
 {

@@ -31,7 +31,7 @@ static PLATFORM_RECORD: Record = Record {
 
 static PLATFORM_SCHEMA: Schema = Schema::One(PLATFORM);
 
-/// The members of `Platform`: the machine that an image is for (image specification, "Image Index", `platform`).
+/// The members of `Platform`: the platform that an image is for (image specification, "Image Index", `platform`).
 pub fn platform_record() -> &'static Record
     ensures { rows (members_in (shape_at shapes) result.now.members.now) ≡ platform }
 {

@@ -80,7 +80,7 @@ static LINUX_ID_MAPPING_RECORD: Record = Record {
 
 static LINUX_ID_MAPPING_SCHEMA: Schema = Schema::One(LINUX_ID_MAPPING);
 
-/// The members of `LinuxIdMapping`: a run of user or group IDs of a container, and the IDs of the host that they stand for (runtime specification, "Linux Container Configuration", "User namespace mappings").
+/// The members of `LinuxIdMapping`: a range of user or group IDs of a container, and the host's IDs that it is mapped to (runtime specification, "Linux Container Configuration", "User namespace mappings").
 pub fn linux_id_mapping_record() -> &'static Record
     ensures { rows (members_in (shape_at shapes) result.now.members.now) ≡ linux_id_mapping }
 {

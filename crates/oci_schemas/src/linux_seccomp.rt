@@ -132,7 +132,7 @@ static LINUX_SECCOMP_RECORD: Record = Record {
 
 static LINUX_SECCOMP_SCHEMA: Schema = Schema::One(LINUX_SECCOMP);
 
-/// The members of `LinuxSeccomp`: what a container's system calls are answered with (runtime specification, "Linux Container Configuration", "Seccomp").
+/// The members of `LinuxSeccomp`: the seccomp filter of a container's system calls (runtime specification, "Linux Container Configuration", "Seccomp").
 pub fn linux_seccomp_record() -> &'static Record
     ensures { rows (members_in (shape_at shapes) result.now.members.now) ≡ linux_seccomp }
 {

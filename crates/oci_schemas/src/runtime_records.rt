@@ -53,7 +53,7 @@ static CONTAINER_PROCESS_STATE_RECORD: Record = Record {
 
 static CONTAINER_PROCESS_STATE_SCHEMA: Schema = Schema::One(CONTAINER_PROCESS_STATE);
 
-/// The members of `ContainerProcessState`: what a program that listens to a container's system calls is told (runtime specification, "Linux Container Configuration", "The Container Process State").
+/// The members of `ContainerProcessState`: the state that is sent to the program that listens to a container's system calls (runtime specification, "Linux Container Configuration", "The Container Process State").
 pub fn container_process_state_record() -> &'static Record
     ensures { rows (members_in (shape_at shapes) result.now.members.now) ≡ container_process_state }
 {

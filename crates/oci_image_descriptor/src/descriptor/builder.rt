@@ -77,7 +77,7 @@ impl DescriptorBuilder {
         }
     }
 
-    /// Sets `platform`: the machine that the content is for.
+    /// Sets `platform`: the platform that the content is for.
     pub fn platform(self, platform: Platform) -> Self
         ensures { result ≡ record self { platform = Some platform } }
     {

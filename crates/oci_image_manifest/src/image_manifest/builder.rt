@@ -26,7 +26,7 @@ impl ImageManifestBuilder {
     ghost use Rattle.oci_json_model.specs.Built.{IsUnset};
     ghost use Rattle.oci_image_manifest.specs.ImageManifestBuilder.{image_manifest_unset};
 
-    /// Sets `schema_version`: the version of the manifest's schema, which is 2.
+    /// Sets `schema_version`: the version of the manifest's schema. The specification requires 2; this library does not check it.
     pub fn schema_version(self, schema_version: u32) -> Self
         ensures { result ≡ record self { schema_version = Some schema_version } }
     {

@@ -58,7 +58,7 @@ impl LinuxBuilder {
         }
     }
 
-    /// Sets `uid_mappings`: which user IDs of the host those of the container stand for.
+    /// Sets `uid_mappings`: the mappings of the container's user IDs to those of the host.
     pub fn uid_mappings(self, uid_mappings: Vec<LinuxIdMapping>) -> Self
         ensures { result ≡ record self { uid_mappings = Some uid_mappings } }
     {
@@ -68,7 +68,7 @@ impl LinuxBuilder {
         }
     }
 
-    /// Sets `gid_mappings`: which group IDs of the host those of the container stand for.
+    /// Sets `gid_mappings`: the mappings of the container's group IDs to those of the host.
     pub fn gid_mappings(self, gid_mappings: Vec<LinuxIdMapping>) -> Self
         ensures { result ≡ record self { gid_mappings = Some gid_mappings } }
     {
@@ -128,7 +128,7 @@ impl LinuxBuilder {
         }
     }
 
-    /// Sets `seccomp`: what the container's system calls are answered with.
+    /// Sets `seccomp`: the seccomp filter of the container's system calls.
     pub fn seccomp(self, seccomp: LinuxSeccomp) -> Self
         ensures { result ≡ record self { seccomp = Some seccomp } }
     {

@@ -41,7 +41,7 @@ impl Linux {
         self
     }
 
-    /// Which user IDs of the host those of the container stand for.
+    /// The mappings of the container's user IDs to those of the host.
     pub fn uid_mappings(&self) -> &Option<Vec<LinuxIdMapping>>
         ensures { result.now ≡ self.now.uid_mappings }
     {
@@ -65,7 +65,7 @@ impl Linux {
         self
     }
 
-    /// Which group IDs of the host those of the container stand for.
+    /// The mappings of the container's group IDs to those of the host.
     pub fn gid_mappings(&self) -> &Option<Vec<LinuxIdMapping>>
         ensures { result.now ≡ self.now.gid_mappings }
     {
@@ -209,7 +209,7 @@ impl Linux {
         self
     }
 
-    /// What the container's system calls are answered with.
+    /// The seccomp filter of the container's system calls.
     pub fn seccomp(&self) -> &Option<LinuxSeccomp>
         ensures { result.now ≡ self.now.seccomp }
     {

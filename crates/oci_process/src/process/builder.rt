@@ -86,7 +86,7 @@ impl ProcessBuilder {
         }
     }
 
-    /// Sets `command_line`: the whole command line, for Windows; `args` stand in where none is given.
+    /// Sets `command_line`: the whole command line, for Windows; `args` are used where none is given.
     pub fn command_line(self, command_line: String) -> Self
         ensures { result ≡ record self { command_line = Some command_line } }
     {

@@ -87,7 +87,7 @@ impl Process {
         self
     }
 
-    /// The whole command line, for Windows; `args` stand in where none is given.
+    /// The whole command line, for Windows; `args` are used where none is given.
     pub fn command_line(&self) -> &Option<String>
         ensures { result.now ≡ self.now.command_line }
     {
