@@ -6,6 +6,7 @@ pub mod ImageConfigurationOwn
 pub mod RootFs
 pub use Rattle.oci_image_descriptor.specs.Descriptor
 pub use Rattle.oci_image_descriptor.specs.DescriptorBuilder
+pub use Rattle.oci_image_descriptor.specs.DescriptorOwn
 pub use Rattle.oci_image_manifest.specs.ArtifactManifest
 pub use Rattle.oci_image_manifest.specs.ArtifactManifestBuilder
 pub use Rattle.oci_image_manifest.specs.ImageIndex
