@@ -32,9 +32,11 @@ pub use Rattle.oci_features.specs.Selinux
 pub use Rattle.oci_image.specs.Config
 pub use Rattle.oci_image.specs.History
 pub use Rattle.oci_image.specs.ImageConfiguration
+pub use Rattle.oci_image.specs.ImageConfigurationOwn
 pub use Rattle.oci_image.specs.RootFs
 pub use Rattle.oci_image_descriptor.specs.Descriptor
 pub use Rattle.oci_image_descriptor.specs.DescriptorBuilder
+pub use Rattle.oci_image_descriptor.specs.DescriptorOwn
 pub use Rattle.oci_image_manifest.specs.ArtifactManifest
 pub use Rattle.oci_image_manifest.specs.ArtifactManifestBuilder
 pub use Rattle.oci_image_manifest.specs.ImageIndex
