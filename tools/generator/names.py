@@ -20,10 +20,10 @@ def files(n):
 
 def crate_files(path, root):
     """The files of all names of a description, and the lists of the crate's specifications and proofs."""
-    crate, reexports, names = read(path)
+    crate, names = read(path)
     out = {f"crates/{crate}/{at}": text for n in names for at, text in files(n).items()}
     for folder in ("specs", "proofs"):
         at = f"crates/{crate}/{folder}"
         if folder == "specs" or any(os.path.dirname(it) == at for it in out):
-            out[f"{at}/Lib.antt"] = module_list(root, at, out, reexports if folder == "specs" else {})
+            out[f"{at}/Lib.antt"] = module_list(root, at, out)
     return marked(out, "gen_names", "tools/names/" + os.path.basename(path))

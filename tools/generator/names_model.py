@@ -48,19 +48,16 @@ class Name:
 
 
 def read(path):
-    """The crate that a file describes, what its specifications re-export, and its closed names."""
-    crate, reexports, names = "", {}, []
+    """The crate that a file describes, and its closed names."""
+    crate, names = "", []
     for line in open(path, encoding="utf-8"):
         word, _, rest = line.strip().partition(" ")
         if not word or word.startswith("#"):
             continue
         if word == "crate":
             crate = rest
-        elif word == "reexports":
-            below, *modules = rest.split()
-            reexports[below] = modules
         elif word == "name":
             names.append(Name(rest, crate))
         else:
             names[-1].described(word, rest)
-    return crate, reexports, names
+    return crate, names

@@ -27,15 +27,14 @@ def sources(root):
                 yield os.path.relpath(os.path.join(folder, name), root)
 
 
-def module_list(root, folder, generated, reexports):
-    """The text of `Lib.antt`: what is generated into the folder, what is written there by hand, and what is re-exported."""
+def module_list(root, folder, generated):
+    """The text of `Lib.antt`: what is generated into the folder, what is written there by hand, and what `tools/facades` re-exports."""
     names = {os.path.basename(path) for path in generated if os.path.dirname(path) == folder}
     here = os.path.join(root, folder)
     names |= {name for name in os.listdir(here) if name.endswith(".antt") and not generated_by(os.path.join(here, name))}
     out = "".join(f"pub mod {name[:-5]}\n" for name in sorted(names - {"Lib.antt"}))
-    for crate, modules in sorted(reexports.items()):
-        out += "".join(f"pub use Rattle.{crate}.specs.{it.replace(':', ' as ')}\n" for it in modules)
-    return out
+    with open(os.path.join(here, "Lib.antt"), encoding="utf-8") as file:
+        return out + "".join(line for line in file if line.startswith("pub use "))
 
 
 def formatted(root, files):
@@ -70,7 +69,7 @@ def attributes(root, gone, files):
     """The text of `.gitattributes`, by which reviews fold generated files: those of a folder, but for what is written there by hand."""
     folders = {}
     for path in sorted({*sources(root), *files} - set(gone)):
-        ours = path in files or bool(generated_by(os.path.join(root, path)))
+        ours = MARK in files[path].partition("\n")[0] if path in files else bool(generated_by(os.path.join(root, path)))
         folders.setdefault((os.path.dirname(path), os.path.splitext(path)[1]), ([], []))[ours].append(path)
     out = "# Written by tools/gen_records and tools/gen_names: the files that they generate.\n"
     for (folder, ending), (by_hand, generated) in sorted(folders.items()):

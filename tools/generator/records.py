@@ -244,7 +244,7 @@ class Book:
 
     def __init__(self, path):
         self.path = path
-        self.crate, self.records, self.below, self.names, self.takes, self.words, self.reexports = "", [], {}, {}, {}, {}, {}
+        self.crate, self.records, self.below, self.names, self.takes, self.words = "", [], {}, {}, {}, {}
         texts = [open(it).read() for it in self.paths()]
         self.copies = set(re.findall(r"(?m)^record (\w+)\n(?:(?!record ).*\n)*?copy$", "\n".join(texts)))
         for line in open(path):
@@ -261,7 +261,7 @@ class Book:
         elif word in ("from", "names"):
             crate, *names = rest.split()
             (self.below if word == "from" else self.names).update({n: crate for n in names})
-        elif word in ("takes", "words", "reexports"):
+        elif word in ("takes", "words"):
             path, *items = rest.split()
             getattr(self, word).setdefault(path, []).extend(items)
         elif word == "record":

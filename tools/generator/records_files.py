@@ -39,7 +39,7 @@ def crate_files(book, root):
     """The files of all records of a book, and the list of its crate's specifications."""
     out = {path: text for r in book.records for path, text in files(r).items()}
     specs = f"crates/{book.crate}/specs"
-    out[f"{specs}/Lib.antt"] = module_list(root, specs, out, book.reexports)
+    out[f"{specs}/Lib.antt"] = module_list(root, specs, out)
     return marked(out, TOOL, book.source())
 
 
@@ -49,7 +49,7 @@ def shape_files(books, root):
     out = {}
     for book in books:
         out.update(marked({f"{specs}/{r.name}.antt": shape_spec(r) for r in book.records}, TOOL, book.source()))
-    all_of_them = {f"{specs}/Lib.antt": module_list(root, specs, out, {}),
+    all_of_them = {f"{specs}/Lib.antt": module_list(root, specs, out),
                    f"crates/{SHAPES}/proofs/Well.antt": well(books, os.path.join(root, specs))}
     return out | marked(all_of_them, TOOL, "tools/records")
 

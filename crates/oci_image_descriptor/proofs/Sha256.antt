@@ -1,4 +1,4 @@
--- SHA-256 digests, told by the name of their algorithm.
+-- SHA-256 digests, recognized by the name of their algorithm.
 use Rattle.std.proofs.Common.{◌≡◌, ℕ, List, Bool, true, false, cond, bytes_eq, codes, Some, None, refl, sym, subst, ap, ◌∙◌}
 use Rattle.std.proofs.lemmas.Slice.Eq.{bytes_eq-Decides}
 use Rattle.oci_text_base.specs.Digest.{IsDigest, IsDigestText}
