@@ -21,9 +21,9 @@ use Rattle.oci_json_model.specs.Value.{value, free_members}
 use Rattle.oci_json_model.specs.WellFormed.{WellFormed, AreWellFormed, MemberIsWellFormed}
 use Rattle.oci_json_model.specs.Writable.{Writable, AreWritable}
 use Rattle.oci_schema_walks.specs.Allows.{allows, each_allowed, each_member_allowed, items_allowed, members_allowed, member_allowed, either_allowed}
-use Rattle.oci_schema_walks.specs.Conformed.{IsSound, IsNotConformed, is_kept, accepts, rows_accept, conformed}
+use Rattle.oci_schema_walks.specs.Normalized.{IsSound, HasNoNormalForm, is_kept, accepts, rows_accept, normalized}
 use Rattle.oci_schema_walks.proofs.Decides.{first_of, later_of, meant, allowed}
-use Rattle.oci_schema_walks.proofs.Conforms.{told, members_kept}
+use Rattle.oci_schema_walks.proofs.NormalForms.{told, members_kept}
 
 -- ---- which shapes members have
 
@@ -179,7 +179,7 @@ mutual
 -- ---- what the public call says
 
 -- of a normal form
-answers : (s : Shape) (d c : Data) → WellFormed s → (accepts s d ≡ true) × (c ≡ conformed s d) → (p : Plain) × Means s d p × Writable s p × (c ≡ value s p)
+answers : (s : Shape) (d c : Data) → WellFormed s → (accepts s d ≡ true) × (c ≡ normalized s d) → (p : Plain) × Means s d p × Writable s p × (c ≡ value s p)
 answers s d c w h =
     let m = accepted s (sound s w) d h.0 in
     (m.0, m.1, m.2, h.1 ∙ (told s d m.0 m.1 m.2).1)
@@ -188,19 +188,19 @@ nothing_meant : (s : Shape) (d : Data) → allows s d ≡ false → IsRefused s 
 unfolding IsRefused
 nothing_meant s d e p m = absurd (true≢false (sym (allowed s d p m) ∙ e))
 
-pub answers_all : {E : Type 0} (r : Result Value E) (s : Shape) (d : Data) → WellFormed s → IfOk r (λ v. (accepts s d ≡ true) × (view v ≡ conformed s d))
+pub answers_all : {E : Type 0} (r : Result Value E) (s : Shape) (d : Data) → WellFormed s → IfOk r (λ v. (accepts s d ≡ true) × (view v ≡ normalized s d))
     → IfOk r (λ v. (p : Plain) × Means s d p × Writable s p × (view v ≡ value s p))
 answers_all (Ok v) s d w h = answers s d (view v) w h
 answers_all (Err e) s d w h = tt
 
 -- and where there is none
-refuses : (s : Shape) (d : Data) → accepts s d ≡ false → IsNotConformed s d
+refuses : (s : Shape) (d : Data) → accepts s d ≡ false → HasNoNormalForm s d
 refuses s d e = here (allows s d) refl
   where
-    here : (b : Bool) → allows s d ≡ b → IsNotConformed s d
+    here : (b : Bool) → allows s d ≡ b → HasNoNormalForm s d
     here true is = let m = meant s d is in inr (m.0, m.1, λ w. true≢false (sym (told s d m.0 m.1 w).0 ∙ e))
     here false is = inl (nothing_meant s d is)
 
-pub refuses_all : {T : Type 0} (r : Result T OciSpecError) (s : Shape) (d : Data) → IfErr r (λ e. IsSchema e → accepts s d ≡ false) → IfErr r (λ e. IsSchema e → IsNotConformed s d)
+pub refuses_all : {T : Type 0} (r : Result T OciSpecError) (s : Shape) (d : Data) → IfErr r (λ e. IsSchema e → accepts s d ≡ false) → IfErr r (λ e. IsSchema e → HasNoNormalForm s d)
 refuses_all (Ok v) s d h = tt
 refuses_all (Err e) s d h = λ is. refuses s d (h is)

@@ -12,7 +12,7 @@ use Rattle.oci_json_model.specs.Plain.{Plain}
 use Rattle.oci_json_model.specs.Shape.{Presence, required, defaulted, optional, nullable, unless_empty}
 use Rattle.oci_json_model.specs.Value.{with_member}
 use Rattle.oci_schema_walks.specs.Allows.{member_allowed, either_allowed}
-use Rattle.oci_schema_walks.specs.Conformed.{unless_no_items, conformed_member, chosen, is_one_there}
+use Rattle.oci_schema_walks.specs.Normalized.{unless_no_items, normalized_member, chosen, is_one_there}
 use Rattle.oci_schema_walks.specs.Given.{given, written}
 
 -- what is left of a value unless it is null
@@ -39,24 +39,24 @@ module _ (f : Data → Bool) (v : Plain → Data) (g : Data → Data) where
   or_null (Some (object b)) e = cc
 
   is_given : (presence : Presence) (found : Option Data) (d : Data) → given presence found ≡ Some d
-      → (member_allowed presence f found ≡ f d) × (conformed_member presence v g found ≡ written presence (g d))
+      → (member_allowed presence f found ≡ f d) × (normalized_member presence v g found ≡ written presence (g d))
   is_given required found d e = (ap (member_allowed required f) e, ap (option_map g) e)
-  is_given (defaulted p) found d e = (ap (member_allowed (defaulted p) f) e, ap (conformed_member (defaulted p) v g) e)
+  is_given (defaulted p) found d e = (ap (member_allowed (defaulted p) f) e, ap (normalized_member (defaulted p) v g) e)
   is_given optional found d e = (not_null found d e, ap (option_map g) e)
   is_given nullable found d e = (not_null found d e, ap (λ o. Some (unwrap_or (option_map g o) null)) e)
   is_given unless_empty found d e = (not_null found d e, ap (λ o. option_and_then unless_no_items (option_map g o)) e)
 
   is_absent : (presence : Presence) (found : Option Data) → given presence found ≡ None
-      → (member_allowed presence f found ≡ member_allowed presence f None) × (conformed_member presence v g found ≡ conformed_member presence v g None)
+      → (member_allowed presence f found ≡ member_allowed presence f None) × (normalized_member presence v g found ≡ normalized_member presence v g None)
   is_absent required found e = (ap (member_allowed required f) e, ap (option_map g) e)
-  is_absent (defaulted p) found e = (ap (member_allowed (defaulted p) f) e, ap (conformed_member (defaulted p) v g) e)
+  is_absent (defaulted p) found e = (ap (member_allowed (defaulted p) f) e, ap (normalized_member (defaulted p) v g) e)
   is_absent optional found e = (or_null found e, ap (option_map g) e)
   is_absent nullable found e = (or_null found e, ap (λ o. Some (unwrap_or (option_map g o) null)) e)
   is_absent unless_empty found e = (or_null found e, ap (λ o. option_and_then unless_no_items (option_map g o)) e)
 
   -- of a member that is given
   pub given_told : (presence : Presence) (found o : Option Data) (d c : Data) → given presence found ≡ Some d → (f d ≡ true) × (c ≡ g d) → o ≡ written presence c
-      → (member_allowed presence f found ≡ true) × (o ≡ conformed_member presence v g found)
+      → (member_allowed presence f found ≡ true) × (o ≡ normalized_member presence v g found)
   given_told presence found o d c e h is = let k = is_given presence found d e in (k.0 ∙ h.0, is ∙ ap (written presence) h.1 ∙ sym k.1)
 
   pub given_refused : (presence : Presence) (found : Option Data) (d : Data) → given presence found ≡ Some d → f d ≡ false → member_allowed presence f found ≡ false
@@ -64,8 +64,8 @@ module _ (f : Data → Bool) (v : Plain → Data) (g : Data → Data) where
 
   -- of one that is not
   pub absent_told : {E : Type 0} (r : Result (Option Value) E) (presence : Presence) (found : Option Data) → given presence found ≡ None
-      → IfOk r (λ o. (member_allowed presence f None ≡ true) × (option_map view o ≡ conformed_member presence v g None))
-      → IfOk r (λ o. (member_allowed presence f found ≡ true) × (option_map view o ≡ conformed_member presence v g found))
+      → IfOk r (λ o. (member_allowed presence f None ≡ true) × (option_map view o ≡ normalized_member presence v g None))
+      → IfOk r (λ o. (member_allowed presence f found ≡ true) × (option_map view o ≡ normalized_member presence v g found))
   absent_told (Ok o) presence found e h = let k = is_absent presence found e in (k.0 ∙ h.0, h.1 ∙ sym k.1)
   absent_told (Err x) presence found e h = tt
 

@@ -3,7 +3,7 @@ use Rattle.std.specs.Prelude.{Bool, true, false, Option, Some, option_and_then}
 use Rattle.serde_json.specs.Data.{Data}
 use Rattle.oci_json_model.specs.Means.{unless_null}
 use Rattle.oci_json_model.specs.Shape.{Presence, required, defaulted, optional, nullable, unless_empty}
-use Rattle.oci_schema_walks.specs.Conformed.{unless_no_items}
+use Rattle.oci_schema_walks.specs.Normalized.{unless_no_items}
 
 -- whether null counts as nothing
 abbrev pub may_be_null : Presence → Bool

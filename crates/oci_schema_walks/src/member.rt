@@ -8,7 +8,7 @@ ghost use Rattle.oci_json_model.specs.Value.{with_member, member_value};
 ghost use Rattle.oci_schema_types.specs.Shapes.{presence_of};
 ghost use Rattle.oci_schema_walks.specs.Given.{may_be_null, given as what_is_given, written as what_is_written};
 
-use crate::Presence;
+use oci_schema_types::Presence;
 use crate::normal::unless_no_items;
 use oci_text_base::Result;
 use serde_json::{Map, Value};

@@ -7,10 +7,10 @@ ghost use Rattle.oci_text_base.specs.Refused.{IsSchema, IsMemoryOrSchema};
 ghost use Rattle.oci_process_names.specs.Capability.{capability_table};
 ghost use Rattle.oci_json_model.specs.Shape.{cap_set, key_set, detail};
 ghost use Rattle.oci_json_model.specs.Means.{as_whole};
-ghost use Rattle.oci_schema_walks.specs.Conformed.{accepts, conformed, unless_no_items as without_empty};
+ghost use Rattle.oci_schema_walks.specs.Normalized.{accepts, normalized, unless_no_items as without_empty};
 ghost use Rattle.oci_schema_types.specs.Shapes.{scalar_shape};
 
-use crate::Scalar;
+use oci_schema_types::Scalar;
 use crate::kept::has_no_items;
 use crate::leaf::scalar_allows;
 use oci_json_members::{Detail, Keys, OciKind};
@@ -22,17 +22,17 @@ use std::alloc::Global;
 
 /// The normal form of a value with no listed parts; `SerDe(Schema)` where the leaf does not allow the value, and where a
 /// detail nests deeper than a text may.
-pub fn conform_leaf(leaf: &Scalar, value: Value, alloc: Global) -> Result<Value>
-    ensures ok { IfOk result (λ v. (accepts (scalar_shape leaf.now) (view value) ≡ true) × (view v ≡ conformed (scalar_shape leaf.now) (view value))) }
-    ensures err { IfErr result (λ e. IsSchema e → accepts (scalar_shape leaf.now) (view value) ≡ false) }
+pub fn normal_scalar(scalar: &Scalar, value: Value, alloc: Global) -> Result<Value>
+    ensures ok { IfOk result (λ v. (accepts (scalar_shape scalar.now) (view value) ≡ true) × (view v ≡ normalized (scalar_shape scalar.now) (view value))) }
+    ensures err { IfErr result (λ e. IsSchema e → accepts (scalar_shape scalar.now) (view value) ≡ false) }
     ensures kind { IfErr result IsMemoryOrSchema }
 {
-    match leaf {
-        Scalar::Capabilities => conform_capabilities(&value, alloc),
-        Scalar::Keys => conform_keys(value, alloc),
-        Scalar::Detail => conform_detail(&value, alloc),
+    match scalar {
+        Scalar::Capabilities => normal_capabilities(&value, alloc),
+        Scalar::Keys => normal_keys(value, alloc),
+        Scalar::Detail => normal_detail(&value, alloc),
         Scalar::Integer(_, _) => {
-            if scalar_allows(leaf, &value) {
+            if scalar_allows(scalar, &value) {
                 Ok(normal_number(value))
             } else {
                 Err(refused("", ""))
@@ -47,7 +47,7 @@ pub fn conform_leaf(leaf: &Scalar, value: Value, alloc: Global) -> Result<Value>
         | Scalar::Digest
         | Scalar::CpuList
         | Scalar::FreeValues => {
-            if scalar_allows(leaf, &value) {
+            if scalar_allows(scalar, &value) {
                 Ok(value)
             } else {
                 Err(refused("", ""))
@@ -69,8 +69,8 @@ fn normal_number(value: Value) -> Value
     }
 }
 
-fn conform_capabilities(value: &Value, alloc: Global) -> Result<Value>
-    ensures ok { IfOk result (λ v. (accepts (cap_set capability_table) (view value.now) ≡ true) × (view v ≡ conformed (cap_set capability_table) (view value.now))) }
+fn normal_capabilities(value: &Value, alloc: Global) -> Result<Value>
+    ensures ok { IfOk result (λ v. (accepts (cap_set capability_table) (view value.now) ≡ true) × (view v ≡ normalized (cap_set capability_table) (view value.now))) }
     ensures err { IfErr result (λ e. IsSchema e → accepts (cap_set capability_table) (view value.now) ≡ false) }
     ensures kind { IfErr result IsMemoryOrSchema }
 {
@@ -78,8 +78,8 @@ fn conform_capabilities(value: &Value, alloc: Global) -> Result<Value>
     Caps::write(&set, alloc)
 }
 
-fn conform_keys(value: Value, alloc: Global) -> Result<Value>
-    ensures ok { IfOk result (λ v. (accepts key_set (view value) ≡ true) × (view v ≡ conformed key_set (view value))) }
+fn normal_keys(value: Value, alloc: Global) -> Result<Value>
+    ensures ok { IfOk result (λ v. (accepts key_set (view value) ≡ true) × (view v ≡ normalized key_set (view value))) }
     ensures err { IfErr result (λ e. IsSchema e → accepts key_set (view value) ≡ false) }
     ensures kind { IfErr result IsMemoryOrSchema }
 {
@@ -87,8 +87,8 @@ fn conform_keys(value: Value, alloc: Global) -> Result<Value>
     Keys::write(&names, alloc)
 }
 
-fn conform_detail(value: &Value, alloc: Global) -> Result<Value>
-    ensures ok { IfOk result (λ v. (accepts detail (view value.now) ≡ true) × (view v ≡ conformed detail (view value.now))) }
+fn normal_detail(value: &Value, alloc: Global) -> Result<Value>
+    ensures ok { IfOk result (λ v. (accepts detail (view value.now) ≡ true) × (view v ≡ normalized detail (view value.now))) }
     ensures err { IfErr result (λ e. IsSchema e → accepts detail (view value.now) ≡ false) }
     ensures kind { IfErr result IsMemoryOrSchema }
 {

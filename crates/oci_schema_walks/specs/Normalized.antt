@@ -13,8 +13,8 @@ use Rattle.oci_json_model.specs.Shape.{Presence, required, defaulted, optional, 
 use Rattle.oci_json_model.specs.Shape as shape
 use Rattle.oci_json_model.specs.Value.{value, capability_texts, sorted, empty_objects, with_member, is_empty_array}
 use Rattle.oci_schema_walks.specs.Allows.{allows, set_in, items_allowed, members_allowed, either_allowed}
-use Rattle.oci_schema_types.specs.Shapes.{shape_of, presence_of, alias_of}
-use Rattle.oci_schema_types.specs.declared.record.Member.{Row}
+use Rattle.oci_schema_types.specs.Shapes.{presence_of, alias_of, schema_shape}
+use Rattle.oci_schema_types.specs.declared.record.Member.{Member}
 
 -- ---- which values have a normal form
 
@@ -45,9 +45,9 @@ abbrev mutual
   rows_accept no_rows d = true
   rows_accept (row name second presence s rs) d = either_allowed presence (accepts s) (get name d) (get_second second d) && rows_accept rs d
 
--- a listed member of a table
-abbrev pub row_accepts : Row → Data → Bool
-row_accepts r d = either_allowed (presence_of r.presence) (accepts (shape_of r.form.now)) (get r.name.now d) (get_second (alias_of r.second) d)
+-- a member of a record, over a table that has at each place a record of the shape `f place`
+abbrev pub member_accepts : (ℕ → Shape) → Member → Data → Bool
+member_accepts f m d = either_allowed (presence_of m.presence) (accepts (schema_shape f m.schema)) (get m.name.now d) (get_second (alias_of m.alias) d)
 
 -- ---- parts; anything where the value is of another kind
 
@@ -57,13 +57,13 @@ items_in d = unwrap_or (as_array d) no_items
 abbrev pub members_in : Data → Members
 members_in d = unwrap_or (as_object d) no_members
 
-abbrev pub each_conformed : (Data → Data) → Items → Items
-each_conformed f no_items = no_items
-each_conformed f (item d ds) = item (f d) (each_conformed f ds)
+abbrev pub each_normalized : (Data → Data) → Items → Items
+each_normalized f no_items = no_items
+each_normalized f (item d ds) = item (f d) (each_normalized f ds)
 
-abbrev pub each_member_conformed : (Data → Data) → Members → Members
-each_member_conformed f no_members = no_members
-each_member_conformed f (member k d ms) = member k (f d) (each_member_conformed f ms)
+abbrev pub each_member_normalized : (Data → Data) → Members → Members
+each_member_normalized f no_members = no_members
+each_member_normalized f (member k d ms) = member k (f d) (each_member_normalized f ms)
 
 -- ---- listed members
 
@@ -80,41 +80,41 @@ abbrev pub unless_no_items : Data → Option Data
 unless_no_items d = if is_empty_array d then None else Some d
 
 -- what is written for a member, if it is, by what stands there; `v` writes what is meant by default
-abbrev pub conformed_member : Presence → (Plain → Data) → (Data → Data) → Option Data → Option Data
-conformed_member required v f found = option_map f found
-conformed_member (defaulted p) v f None = Some (v p)
-conformed_member (defaulted p) v f (Some d) = Some (f d)
-conformed_member optional v f found = unless_absent f found
-conformed_member nullable v f found = Some (unwrap_or (unless_absent f found) null)
-conformed_member unless_empty v f found = option_and_then unless_no_items (unless_absent f found)
+abbrev pub normalized_member : Presence → (Plain → Data) → (Data → Data) → Option Data → Option Data
+normalized_member required v f found = option_map f found
+normalized_member (defaulted p) v f None = Some (v p)
+normalized_member (defaulted p) v f (Some d) = Some (f d)
+normalized_member optional v f found = unless_absent f found
+normalized_member nullable v f found = Some (unwrap_or (unless_absent f found) null)
+normalized_member unless_empty v f found = option_and_then unless_no_items (unless_absent f found)
 
 abbrev mutual
-  pub conformed : Shape → Data → Data
-  conformed text d = d
-  conformed truth d = d
-  conformed (whole low high) d = number (of_integer (unwrap_or (as_whole d) low))
-  conformed (named table) d = d
-  conformed (open_name table) d = d
-  conformed digest_text d = d
-  conformed cpu_text d = d
-  conformed (cap_set table) d = array (capability_texts table (set_in table (items_in d)))
-  conformed (list s) d = array (each_conformed (conformed s) (items_in d))
-  conformed (shape.map s) d = object (each_member_conformed (conformed s) (members_in d))
-  conformed key_set d = object (empty_objects (sorted (member_names (members_in d))))
-  conformed detail d = unwrap_or (read (compact_text d)) null
-  conformed free_map d = d
-  conformed (rows rs) d = object (conformed_rows rs d no_members)
+  pub normalized : Shape → Data → Data
+  normalized text d = d
+  normalized truth d = d
+  normalized (whole low high) d = number (of_integer (unwrap_or (as_whole d) low))
+  normalized (named table) d = d
+  normalized (open_name table) d = d
+  normalized digest_text d = d
+  normalized cpu_text d = d
+  normalized (cap_set table) d = array (capability_texts table (set_in table (items_in d)))
+  normalized (list s) d = array (each_normalized (normalized s) (items_in d))
+  normalized (shape.map s) d = object (each_member_normalized (normalized s) (members_in d))
+  normalized key_set d = object (empty_objects (sorted (member_names (members_in d))))
+  normalized detail d = unwrap_or (read (compact_text d)) null
+  normalized free_map d = d
+  normalized (rows rs) d = object (normalized_rows rs d no_members)
 
   -- the members, with those that are written for the value's
-  pub conformed_rows : Rows → Data → Members → Members
-  conformed_rows no_rows d ms = ms
-  conformed_rows (row name second presence s rs) d ms =
-      conformed_rows rs d (with_member name (conformed_member presence (value s) (conformed s) (chosen (get name d) (get_second second d))) ms)
+  pub normalized_rows : Rows → Data → Members → Members
+  normalized_rows no_rows d ms = ms
+  normalized_rows (row name second presence s rs) d ms =
+      normalized_rows rs d (with_member name (normalized_member presence (value s) (normalized s) (chosen (get name d) (get_second second d))) ms)
 
--- a listed member of a table
-abbrev pub row_conformed : Row → Data → Option Data
-row_conformed r d =
-    conformed_member (presence_of r.presence) (value (shape_of r.form.now)) (conformed (shape_of r.form.now)) (chosen (get r.name.now d) (get_second (alias_of r.second) d))
+-- a member of a record
+abbrev pub member_normalized : (ℕ → Shape) → Member → Data → Option Data
+member_normalized f m d =
+    normalized_member (presence_of m.presence) (value (schema_shape f m.schema)) (normalized (schema_shape f m.schema)) (chosen (get m.name.now d) (get_second (alias_of m.alias) d))
 
 -- ---- what contracts say
 
@@ -123,8 +123,8 @@ abbrev pub IsSound : Shape → Type 0
 IsSound s = MemberIsWellFormed optional s (WellFormed s)
 
 -- no document is meant, or one that is not writable
-abbrev pub IsNotConformed : Shape → Data → Type 0
-IsNotConformed s d = IsRefused s d ⊎ ((p : Plain) × Means s d p × ¬ Writable s p)
+abbrev pub HasNoNormalForm : Shape → Data → Type 0
+HasNoNormalForm s d = IsRefused s d ⊎ ((p : Plain) × Means s d p × ¬ Writable s p)
 
 -- the name is this one, or this second one
 abbrev pub is_one_of : List ℕ → List ℕ → Option (List ℕ) → Bool
