@@ -1,4 +1,4 @@
--- What is accepted means something writable.
+-- What is accepted decodes to something serializable.
 use Rattle.std.proofs.Common.{◌≡◌, refl, sym, ap, ◌∙◌, subst, Bool, true, false, not, ◌||◌, Option, Some, None, is_some, true≢false, inl, inr, Result, Ok, Err}
 use Rattle.std.specs.Prelude.{⊤, IfOk, IfErr}
 use Rattle.serde_json.specs.Data.{Data, null, boolean, number, string, array, object, Items, no_items, item, Members, no_members, member}
@@ -49,11 +49,11 @@ of_member unless_empty s w = sound s (only_list s (WellFormed s) w)
 
 -- ---- parts
 
--- where it is accepted, something is meant and writable
+-- what is accepted decodes to something serializable
 abbrev Yes : (Data → Bool) → (Data → Plain → Type 0) → (Plain → Type 0) → Type 0
 Yes f M W = (d : Data) → f d ≡ true → (p : Plain) × M d p × W p
 
--- a default is writable
+-- a default value is serializable
 abbrev pub IfDefault : (Plain → Type 0) → Presence → Type 0
 IfDefault W (defaulted p) = W p
 IfDefault W _ = ⊤
@@ -115,7 +115,7 @@ module _ (f : Data → Bool) (M : Data → Plain → Type 0) (W : Plain → Type
 abbrev Written : Shape → Data → Type 0
 Written s d = (p : Plain) × Means s d p × Writable s p
 
--- of a shape that all plain trees are writable of
+-- of a shape that any plain tree is serializable by
 simple : (s : Shape) (d : Data) → ((p : Plain) → Writable s p) → allows s d ≡ true → Written s d
 simple s d always e = let m = meant s d e in (m.0, m.1, always m.0)
 
@@ -176,7 +176,7 @@ mutual
       let xs = accepted_rows rs w.1 d (later_of (either_allowed presence (accepts s) (get name d) (get_second second d)) _ e) in
       (slot x.0 xs.0, (x.1, xs.1), (x.2, xs.2))
 
--- ---- what the public call says
+-- ---- what the public function's contract says
 
 -- of a normal form
 answers : (s : Shape) (d c : Data) → WellFormed s → (accepts s d ≡ true) × (c ≡ normalized s d) → (p : Plain) × Means s d p × Writable s p × (c ≡ value s p)

@@ -1,16 +1,15 @@
 pub mod Accepted
 pub mod Decides
+pub mod DefaultValues
 pub mod Filled
 pub mod Given
 pub mod GivenSmaller
 pub mod Listed
 pub mod Listing
-pub mod Meant
 pub mod Moved
 pub mod NormalForms
 pub mod NormalMembers
 pub mod NormalParts
-pub mod NormalSteps
 pub mod Parts
 pub mod Processors
 pub mod Sizes

@@ -23,7 +23,7 @@ or_none : (a b : Bool) → a ≡ false → b ≡ false → (a || b) ≡ false
 or_none false b e h = h
 or_none true b e h = cc
 
--- a name that stands among others is none that does not
+-- a name that is among others is none that is not
 apart : (q name : List ℕ) (ts : List (List ℕ)) → is_listed ts name ≡ false → is_listed ts q ≡ true → bytes_eq q name ≡ false
 apart q name ts other is = here (bytes_eq q name) refl
   where
@@ -40,9 +40,9 @@ one_apart q name (Some t) ts once is =
     (apart q name (t ∷ ts) (refuted (is_listed (t ∷ ts) name) a) (or_right (bytes_eq q t) (is_listed ts q) is))
     (apart q t ts (refuted (is_listed ts t) (first_of (not (is_listed ts t)) (no_text_twice ts) b)) is)
 
--- ---- rows that are done, and rows that are left
+-- ---- members that are moved, and members that are left
 
--- of a value's members, some are moved; the others stand as they did
+-- of a value's members, some are moved; the others are as they were
 pub record Moved (rs : Rows) (d : Data) (left : Rows) (now made : Members) : Type 0 where
   pub accepted : rows_accept rs d ≡ rows_accept left d
   pub moved : normalized_rows rs d no_members ≡ normalized_rows left d made
@@ -84,9 +84,6 @@ module _ (rs : Rows) (d : Data) (name : List ℕ) (second : Option (List ℕ)) (
     distinct = rest_once name second (names left) h.distinct;
     well = h.well.1;
   }
-
-  row_refused : either_allowed presence (accepts s) (get_member name now) (get_second second (object now)) ≡ false → rows_accept rs d ≡ false
-  row_refused e = h.accepted ∙ ap (λ b. b && rows_accept left d) (either_same false e)
 
 module _ (f : ℕ → Shape) (rs : Rows) (d : Data) (all : List Member) (i : ℕ) (w : Member) (now made : Members) (below : i < length all)
     (h : Moved rs d (members_in f (drop i all)) now made) where

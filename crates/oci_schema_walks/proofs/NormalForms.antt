@@ -1,4 +1,4 @@
--- The normal form of a value is what is written for the document that it means.
+-- The normal form of a value is the JSON of what the value decodes to.
 use Rattle.std.proofs.Common.{◌≡◌, refl, sym, ap, ◌∙◌, subst, Bool, true, false, not, ◌||◌, List, [], ◌∷◌, Option, Some, None, is_some, ℕ}
 use Rattle.std.specs.Prelude.{option_map, option_and_then, unwrap_or, if◌then◌else◌}
 use Rattle.serde_json.specs.Data.{Data, null, boolean, number, string, array, object, Items, no_items, item, Members, no_members, member}
@@ -15,7 +15,7 @@ use Rattle.oci_json_model.specs.Means.{Means, MeansRows, MeansEither, MeansMembe
 use Rattle.oci_json_model.specs.Value.{value, capability_texts, each_value, each_entry_value, free_members, member_value, with_member, with_rows}
 use Rattle.oci_json_model.specs.Writable.{Writable, AreWritable}
 use Rattle.oci_schema_walks.specs.Allows.{each_allowed, each_member_allowed, items_allowed, members_allowed, member_allowed, either_allowed, set_in, some_is}
-use Rattle.oci_schema_walks.specs.Normalized.{is_kept, accepts, rows_accept, items_in, each_normalized, each_member_normalized, chosen, unless_absent, unless_no_items, normalized_member, normalized, normalized_rows}
+use Rattle.oci_schema_walks.specs.Normalized.{is_kept, accepts, rows_accept, array_items, each_normalized, each_member_normalized, chosen, unless_absent, unless_no_items, normalized_member, normalized, normalized_rows}
 use Rattle.oci_schema_walks.proofs.Decides.{both, allowed, some_tells}
 use Rattle.oci_schema_walks.proofs.Texts.{same_told}
 use Rattle.oci_schema_walks.proofs.NormalParts.{object_kept}
@@ -71,7 +71,7 @@ set_told (name ∷ table) ds (b ∷ bs) h =
 
 -- ---- parts
 
--- of what is meant and writable: it is accepted, and its normal form is written
+-- of what decodes to something serializable: it is accepted, and its normal form is that thing's JSON
 abbrev Told : (Data → Plain → Type 0) → (Plain → Type 0) → (Data → Bool) → (Data → Data) → (Plain → Data) → Type 0
 Told M W f g v = (d : Data) (p : Plain) → M d p → W p → (f d ≡ true) × (g d ≡ v p)
 
@@ -160,7 +160,7 @@ module _ (M : Data → Plain → Type 0) (W : Plain → Type 0) (f : Data → Bo
 
 -- ---- shape by shape
 
--- what is meant and writable is accepted, and its normal form is written
+-- what decodes to something serializable is accepted, and its normal form is that thing's JSON
 mutual
   pub told : (s : Shape) (d : Data) (p : Plain) → Means s d p → Writable s p → (accepts s d ≡ true) × (normalized s d ≡ value s p)
   told text d p m w = (allowed text d p m, text_kept d m.0 p m.1 (ap text_of m.2))
@@ -171,7 +171,7 @@ mutual
   told digest_text d p m w = (allowed digest_text d p m, text_kept d m.0 p m.1 (ap text_of m.2))
   told cpu_text d p m w = (allowed cpu_text d p m, text_kept d m.0 p m.1 (ap text_of m.2))
   told (cap_set table) d p m w =
-      let same : set_in table (items_in d) ≡ set_of p = ap (λ o. set_in table (unwrap_or o no_items)) m.2 ∙ set_told table m.0 m.1 m.5 ∙ sym (ap set_of m.3) in
+      let same : set_in table (array_items d) ≡ set_of p = ap (λ o. set_in table (unwrap_or o no_items)) m.2 ∙ set_told table m.0 m.1 m.5 ∙ sym (ap set_of m.3) in
       (allowed (cap_set table) d p m, ap (λ bs. array (capability_texts table bs)) same)
   told (list s) d p m w =
       let each = each_told (Means s) (Writable s) (accepts s) (normalized s) (value s) (λ x q. told s x q) m.0 m.1 m.4 (subst (λ q. Each (Writable s) (list_of q)) m.3 w) in

@@ -1,4 +1,5 @@
--- An object whose members are each listed and written as they stand, and which has all that is always written, is its own normal form.
+-- An object is its own normal form if each of its entries is a member of the record with a value that is its own normal form, and each member
+-- that is always written is there.
 use Rattle.std.proofs.Common.{◌≡◌, refl, sym, ap, ◌∙◌, subst, ℕ, List, ◌∷◌, Bool, true, false, true≢false, Option, Some, None, is_some, bytes_eq, Ordering, Less, Equal, Greater, nat_cmp, is_eq, inl, inr}
 use Rattle.std.specs.Prelude.{◌⊎◌, not, unwrap_or}
 use Rattle.std.specs.Cmp.Lexicographic.{slice_cmp}
@@ -21,7 +22,7 @@ use Rattle.oci_schema_walks.specs.Normal.{AreNormalMembers, is_always_written, I
 use Rattle.oci_schema_walks.proofs.Decides.{both, first_of, later_of, refuted}
 use Rattle.oci_schema_walks.proofs.Listing.{or_right, listed_first, later_listed, rest_once}
 
--- ---- members in order are told by what stands under each name
+-- ---- objects with their names in order are equal where they are equal at each name
 
 same_name : (q k : List ℕ) → slice_cmp nat_cmp q k ≡ Equal → q ≡ k
 same_name q k is = (bytes_eq-Decides q k).0 (sym (is_eq-slice_cmp q k) ∙ ap is_eq is)
@@ -63,14 +64,14 @@ same_members (member k d ms) (member l e ns) a b h = here (slice_cmp nat_cmp k l
         let one : d ≡ e = ap (λ o. unwrap_or o d) held in
         cc
 
--- ---- members that are picked row by row
+-- ---- members that are picked in the order of the schema
 
 module _ (ms : Members) where
   abbrev picked : Rows → Members → Members
   picked no_rows made = made
   picked (row name second presence s rs) made = picked rs (with_member name (get_member name ms) made)
 
-  -- what is made has a name as the members do
+  -- the built object has a name as the members do
   abbrev Agrees : Members → List ℕ → Type 0
   Agrees made q = get_member q made ≡ get_member q ms
 
@@ -122,9 +123,9 @@ module _ (ms : Members) where
   picked_in_order no_rows made h = h
   picked_in_order (row name second presence s rs) made h = picked_in_order rs _ (one_in_order name (get_member name ms) made h)
 
-  -- ---- rows by which nothing changes
+  -- ---- members by which nothing changes
 
-  -- what stands under a row's name is one of its values
+  -- what is found under a member's name is one of its values
   abbrev AreTold : Rows → Type 0
   AreTold rs = (q : List ℕ) (d : Data) → is_listed (names rs) q ≡ true → get_member q ms ≡ Some d → IsNormalEntry rs q d
 
@@ -194,7 +195,7 @@ module _ (ms : Members) where
       let more = rows_told rs (rest_once name second (names rs) once) (later_told name second presence s rs once told) all.1 in
       (both _ _ one.0 more.0, λ made. ap (λ o. normalized_rows rs (object ms) (with_member name o made)) one.1 ∙ more.1 (with_member name (get_member name ms) made))
 
--- what stands under a name is one of its row's values
+-- what is found under a name is a value of its member
 found_of_row : (rs : Rows) (ms : Members) (q : List ℕ) (d : Data) → AreNormalEntries rs ms → get_member q ms ≡ Some d → IsNormalEntry rs q d
 found_of_row rs no_members q d h found = cc
 found_of_row rs (member k e ms) q d h found = here (slice_cmp nat_cmp q k) refl found (found_of_row rs ms q d h.1)

@@ -16,14 +16,14 @@ use Rattle.serde_json.specs.declared.value.Value.{Value}
 use Rattle.serde_json.proofs.Views.{Entry, view-lookup}
 use Rattle.oci_json_model.specs.Means.{is_object, member_names}
 use Rattle.oci_json_model.specs.Shape as shape
-use Rattle.oci_json_model.specs.Shape.{Shape, Rows, key_set, detail}
+use Rattle.oci_json_model.specs.Shape.{Shape, key_set, detail}
 use Rattle.oci_json_model.specs.Value.{with_text, sorted, empty_objects, is_empty_array}
 use Rattle.oci_json.specs.Readable.{IsBefore, IsInOrder}
 use Rattle.oci_json.proofs.ReadAgain.{compact_read}
 use Rattle.oci_schema_walks.specs.Allows.{allows, each_member_allowed}
 use Rattle.oci_schema_walks.proofs.Decides.{both}
 use Rattle.oci_schema_walks.specs.Normalized.{is_kept}
-use Rattle.oci_schema_walks.specs.Normal.{IsNormal, AreNormal, HoldNormal, AreNormalMembers, AreEmptyObjects}
+use Rattle.oci_schema_walks.specs.Normal.{IsNormal, AreNormal, HoldNormal, AreEmptyObjects}
 use Rattle.oci_schema_walks.specs.Plain.{IsPlain, ArePlain, HoldPlain}
 
 pub object_kept : (d : Data) (ms : Members) → as_object d ≡ Some ms → d ≡ object ms
@@ -122,12 +122,7 @@ list_normal s t d ds is there h = let seen : d ≡ array ds = array_kept d ds th
 pub map_normal : (s t : Shape) (d : Data) (ms : Members) → s ≡ shape.map t → Some ms ≡ as_object d → HoldNormal t ms → IsNormal s d
 map_normal s t d ms is there h = let seen : d ≡ object ms = object_kept d ms (sym there) in rw (is, seen) (h.0, ap object h.1)
 
--- ---- records
-
-pub record_normal : (s : Shape) (rs : Rows) (d : Data) (ms : Members) → s ≡ shape.rows rs → Some ms ≡ as_object d → AreNormalMembers rs ms → IsNormal s d
-record_normal s rs d ms is there h = let seen : d ≡ object ms = object_kept d ms (sym there) in rw (is, seen) (h.0, ap object h.1)
-
--- ---- values that are read again from their text
+-- ---- values that are parsed again from their text
 
 pub item_plain : (n : ℕ) (d : Data) (ds : Items) → IsPlain n d → ArePlain n ds → ArePlain n (item d ds)
 item_plain n d ds h t = search (rules, h, t)

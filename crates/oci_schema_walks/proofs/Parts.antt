@@ -1,4 +1,4 @@
--- Parts of values, and of records that are taken apart.
+-- Values whose parts are normalized one by one.
 use Rattle.std.proofs.Common.{◌≡◌, refl, sym, ap, ◌∙◌, Bool, true, false, ◌&&◌, List, [], ◌∷◌, ◌++◌, length, Some, None, is_some, nat_cmp, string_bytes, string_cmp, arith, Result, Ok, Err, Greater, Less}
 use Rattle.std.specs.Prelude.{IfOk, IfErr, not}
 use Rattle.std.specs.Cmp.Lexicographic.{slice_cmp}
@@ -31,7 +31,7 @@ use Rattle.oci_schema_walks.proofs.NormalForms.{told}
 
 -- ---- lists and maps, part by part
 
--- the one list before the other
+-- the items of the one before those of the other
 abbrev pub joined : Items → Items → Items
 joined no_items es = es
 joined (item d ds) es = item d (joined ds es)
@@ -55,10 +55,6 @@ module _ (f : Data → Bool) (g : Data → Data) where
         ∙ ap (λ d. joined (items_view made) (item d (each_normalized g (items_view left)))) (sym h.1) ∙ sym (joined_more made w (each_normalized g (items_view left)))
         ∙ ap (λ vs. joined (items_view vs) (each_normalized g (items_view left))) (sym add),
   )
-
-  -- a refused item
-  pub item_refused : (all : Items) (before left : List Value) (v : Value) → before ≡ v ∷ left → f (view v) ≡ false → each_allowed f all ≡ each_allowed f (items_view before) → each_allowed f all ≡ false
-  item_refused all before left v cut e a = a ∙ ap (λ vs. each_allowed f (items_view vs)) cut ∙ ap (λ b. b && each_allowed f (items_view left)) e
 
   -- no item more
   pub items_all : (all : Items) (before made : List Value) → before ≡ [] → each_allowed f all ≡ each_allowed f (items_view before)

@@ -18,13 +18,13 @@ AreNormal s ds = (each_allowed (accepts s) ds ≡ true) × (each_normalized (nor
 abbrev pub HoldNormal : Shape → Members → Type 0
 HoldNormal s ms = (each_member_allowed (accepts s) ms ≡ true) × (each_member_normalized (normalized s) ms ≡ ms)
 
--- ---- objects with listed members
+-- ---- objects of records
 
--- the members are those that are written
+-- the members are those of the normal form
 abbrev pub AreNormalMembers : Rows → Members → Type 0
 AreNormalMembers rs ms = (rows_accept rs (object ms) ≡ true) × (normalized_rows rs (object ms) no_members ≡ ms)
 
--- a member that is written whatever is meant
+-- a member that is always written
 abbrev pub is_always_written : Presence → Bool
 is_always_written required = true
 is_always_written (defaulted p) = true
@@ -32,24 +32,24 @@ is_always_written optional = false
 is_always_written nullable = true
 is_always_written unless_empty = false
 
--- a value that is written as it stands where a member is asked for so
+-- a member's value that is its own normal form
 abbrev pub IsNormalMember : Presence → Shape → Data → Type 0
 IsNormalMember presence s d = (member_allowed presence (accepts s) (Some d) ≡ true) × (normalized_member presence (value s) (normalized s) (Some d) ≡ Some d)
 
--- there is a member of this name that is listed, and the value is written for it as it stands
+-- the schema has a member of this name, and the value is its own normal form there
 abbrev pub IsNormalEntry : Rows → List ℕ → Data → Type 0
 IsNormalEntry no_rows q d = ⊥
-IsNormalEntry (row name second presence s rs) q d = ((q ≡ name) × IsNormalMember presence s d) ⊎ IsNormalEntry rs q d
+IsNormalEntry (row name alias presence s rs) q d = ((q ≡ name) × IsNormalMember presence s d) ⊎ IsNormalEntry rs q d
 
--- each member is so listed
+-- so is each entry of the object
 abbrev pub AreNormalEntries : Rows → Members → Type 0
 AreNormalEntries rs no_members = ⊤
 AreNormalEntries rs (member k d ms) = IsNormalEntry rs k d × AreNormalEntries rs ms
 
--- what is always written stands there
+-- each member that is always written is there
 abbrev pub HasAll : Rows → Members → Type 0
 HasAll no_rows ms = ⊤
-HasAll (row name second presence s rs) ms = (is_always_written presence ≡ true → is_some (get_member name ms) ≡ true) × HasAll rs ms
+HasAll (row name alias presence s rs) ms = (is_always_written presence ≡ true → is_some (get_member name ms) ≡ true) × HasAll rs ms
 
 -- each value is an object with no members
 abbrev pub AreEmptyObjects : Members → Type 0

@@ -1,4 +1,4 @@
--- The normal form of a value, as a computation: what is written for the document that the value means.
+-- The normal form of a value, as a computation: the JSON of what the value decodes to.
 use Rattle.std.specs.Prelude.{◌⊎◌, bytes_eq, ℕ, List, Bool, true, false, not, ◌&&◌, ◌||◌, if◌then◌else◌, Option, Some, None, option_map, option_and_then, unwrap_or}
 use Rattle.serde_json.specs.Data.{Data, null, number, array, object, Items, no_items, item, Members, no_members, member}
 use Rattle.serde_json.specs.Find.{as_array, as_object, of_integer, get}
@@ -18,12 +18,12 @@ use Rattle.oci_schema_types.specs.declared.record.Member.{Member}
 
 -- ---- which values have a normal form
 
--- what was read, if anything was, has no numbers but 64-bit whole ones
+-- what was parsed, if anything was, has no numbers but 64-bit integers
 abbrev pub is_kept : Option Data → Bool
 is_kept None = false
 is_kept (Some d) = not (has_float d)
 
--- allowed, and what is meant is writable: a detail nests no deeper than its text may
+-- valid, and what it decodes to is serializable: a detail nests no deeper than a JSON text may
 abbrev mutual
   pub accepts : Shape → Data → Bool
   accepts text d = allows text d
@@ -43,19 +43,19 @@ abbrev mutual
 
   pub rows_accept : Rows → Data → Bool
   rows_accept no_rows d = true
-  rows_accept (row name second presence s rs) d = either_allowed presence (accepts s) (get name d) (get_second second d) && rows_accept rs d
+  rows_accept (row name alias presence s rs) d = either_allowed presence (accepts s) (get name d) (get_second alias d) && rows_accept rs d
 
 -- a member of a record, over a table that has at each place a record of the shape `f place`
 abbrev pub member_accepts : (ℕ → Shape) → Member → Data → Bool
 member_accepts f m d = either_allowed (presence_of m.presence) (accepts (schema_shape f m.schema)) (get m.name.now d) (get_second (alias_of m.alias) d)
 
--- ---- parts; anything where the value is of another kind
+-- ---- parts; no particular value where the kind is another
 
-abbrev pub items_in : Data → Items
-items_in d = unwrap_or (as_array d) no_items
+abbrev pub array_items : Data → Items
+array_items d = unwrap_or (as_array d) no_items
 
-abbrev pub members_in : Data → Members
-members_in d = unwrap_or (as_object d) no_members
+abbrev pub object_members : Data → Members
+object_members d = unwrap_or (as_object d) no_members
 
 abbrev pub each_normalized : (Data → Data) → Items → Items
 each_normalized f no_items = no_items
@@ -65,21 +65,21 @@ abbrev pub each_member_normalized : (Data → Data) → Members → Members
 each_member_normalized f no_members = no_members
 each_member_normalized f (member k d ms) = member k (f d) (each_member_normalized f ms)
 
--- ---- listed members
+-- ---- members of records
 
--- what stands under the second name, or else under the first
+-- the value of the alias, or else of the name
 abbrev pub chosen : Option Data → Option Data → Option Data
 chosen found None = found
 chosen found (Some d) = Some d
 
--- what may be null, or absent
+-- the value of a member that may be null or absent
 abbrev pub unless_absent : (Data → Data) → Option Data → Option Data
 unless_absent f found = option_map f (option_and_then unless_null found)
 
 abbrev pub unless_no_items : Data → Option Data
 unless_no_items d = if is_empty_array d then None else Some d
 
--- what is written for a member, if it is, by what stands there; `v` writes what is meant by default
+-- what is written for a member, if it is, by its found value; `v` is the JSON of a default value
 abbrev pub normalized_member : Presence → (Plain → Data) → (Data → Data) → Option Data → Option Data
 normalized_member required v f found = option_map f found
 normalized_member (defaulted p) v f None = Some (v p)
@@ -97,10 +97,10 @@ abbrev mutual
   normalized (open_name table) d = d
   normalized digest_text d = d
   normalized cpu_text d = d
-  normalized (cap_set table) d = array (capability_texts table (set_in table (items_in d)))
-  normalized (list s) d = array (each_normalized (normalized s) (items_in d))
-  normalized (shape.map s) d = object (each_member_normalized (normalized s) (members_in d))
-  normalized key_set d = object (empty_objects (sorted (member_names (members_in d))))
+  normalized (cap_set table) d = array (capability_texts table (set_in table (array_items d)))
+  normalized (list s) d = array (each_normalized (normalized s) (array_items d))
+  normalized (shape.map s) d = object (each_member_normalized (normalized s) (object_members d))
+  normalized key_set d = object (empty_objects (sorted (member_names (object_members d))))
   normalized detail d = unwrap_or (read (compact_text d)) null
   normalized free_map d = d
   normalized (rows rs) d = object (normalized_rows rs d no_members)
@@ -108,8 +108,8 @@ abbrev mutual
   -- the members, with those that are written for the value's
   pub normalized_rows : Rows → Data → Members → Members
   normalized_rows no_rows d ms = ms
-  normalized_rows (row name second presence s rs) d ms =
-      normalized_rows rs d (with_member name (normalized_member presence (value s) (normalized s) (chosen (get name d) (get_second second d))) ms)
+  normalized_rows (row name alias presence s rs) d ms =
+      normalized_rows rs d (with_member name (normalized_member presence (value s) (normalized s) (chosen (get name d) (get_second alias d))) ms)
 
 -- a member of a record
 abbrev pub member_normalized : (ℕ → Shape) → Member → Data → Option Data
@@ -122,16 +122,16 @@ member_normalized f m d =
 abbrev pub IsSound : Shape → Type 0
 IsSound s = MemberIsWellFormed optional s (WellFormed s)
 
--- no document is meant, or one that is not writable
+-- it decodes to nothing, or to what is not serializable
 abbrev pub HasNoNormalForm : Shape → Data → Type 0
 HasNoNormalForm s d = IsRefused s d ⊎ ((p : Plain) × Means s d p × ¬ Writable s p)
 
--- the name is this one, or this second one
+-- it is this name, or this alias
 abbrev pub is_one_of : List ℕ → List ℕ → Option (List ℕ) → Bool
 is_one_of q name None = bytes_eq q name
-is_one_of q name (Some second) = bytes_eq q name || bytes_eq q second
+is_one_of q name (Some alias) = bytes_eq q name || bytes_eq q alias
 
--- not under both names
+-- the name and the alias are not both there
 abbrev pub is_one_there : Option Data → Option Data → Bool
 is_one_there found None = true
 is_one_there None (Some d) = true

@@ -41,7 +41,9 @@ pub fn normal_absent<T: Records>(
             Ok(value) => Ok(Some(value)),
             Err(fault) => Err(fault),
         },
-        Presence::DefaultedRecord(defaults) => match default_record(records, schema, defaults, alloc) {
+        Presence::DefaultedRecord(defaults) => match default_record(
+            records, schema, defaults, alloc,
+        ) {
             Ok(value) => Ok(Some(value)),
             Err(fault) => Err(fault),
         },
@@ -72,7 +74,12 @@ fn default_value<T: Records>(
 }
 
 /// The JSON of a default string.
-fn default_string<T: Records>(records: &T, schema: &Schema, text: &str, alloc: Global) -> Result<Value>
+fn default_string<T: Records>(
+    records: &T,
+    schema: &Schema,
+    text: &str,
+    alloc: Global,
+) -> Result<Value>
     requires fits { Fits (schema_shape (T.shape_at records.now) schema.now) (plain_text text.now) }
     requires writable { Writable (schema_shape (T.shape_at records.now) schema.now) (plain_text text.now) }
     ensures ok { IfOk result (λ v. view v ≡ json_of (schema_shape (T.shape_at records.now) schema.now) (plain_text text.now)) }

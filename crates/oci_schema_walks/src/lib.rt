@@ -2,9 +2,9 @@
 #![tactic(auto)]
 
 mod absent;
-pub mod kept;
+mod kept;
 pub mod leaf;
 mod member;
 mod normal;
 pub mod normal_value;
-pub mod plain;
+mod plain;

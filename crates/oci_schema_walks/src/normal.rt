@@ -1,4 +1,4 @@
-//! The normal form of a value with no listed parts.
+//! The normal form of a scalar.
 ghost use Rattle.std.specs.Prelude.{◌≡◌, true, false, IfOk, IfErr, IfSome, option_map};
 ghost use Rattle.serde_json.specs.Data.{number};
 ghost use Rattle.serde_json.specs.Find.{of_integer};
@@ -10,18 +10,17 @@ ghost use Rattle.oci_json_model.specs.Means.{as_whole};
 ghost use Rattle.oci_schema_walks.specs.Normalized.{accepts, normalized, unless_no_items as without_empty};
 ghost use Rattle.oci_schema_types.specs.Shapes.{scalar_shape};
 
-use oci_schema_types::Scalar;
 use crate::kept::has_no_items;
 use crate::leaf::scalar_allows;
 use oci_json_members::{Detail, Keys, OciKind};
 use oci_json_model::fault::refused;
 use oci_process_names::Caps;
+use oci_schema_types::Scalar;
 use oci_text_base::Result;
 use serde_json::Value;
 use std::alloc::Global;
 
-/// The normal form of a value with no listed parts; `SerDe(Schema)` where the leaf does not allow the value, and where a
-/// detail nests deeper than a text may.
+/// The normal form of a scalar; `SerDe(Schema)` if the schema rejects the value, or if a detail nests deeper than a JSON text may.
 pub fn normal_scalar(scalar: &Scalar, value: Value, alloc: Global) -> Result<Value>
     ensures ok { IfOk result (λ v. (accepts (scalar_shape scalar.now) (view value) ≡ true) × (view v ≡ normalized (scalar_shape scalar.now) (view value))) }
     ensures err { IfErr result (λ e. IsSchema e → accepts (scalar_shape scalar.now) (view value) ≡ false) }
@@ -56,7 +55,7 @@ pub fn normal_scalar(scalar: &Scalar, value: Value, alloc: Global) -> Result<Val
     }
 }
 
-/// A whole number as it is written.
+/// An integer as it is written.
 fn normal_number(value: Value) -> Value
     ensures { IfSome (as_whole (view value)) (λ z. view result ≡ number (of_integer z)) }
 {
@@ -96,7 +95,7 @@ fn normal_detail(value: &Value, alloc: Global) -> Result<Value>
     Detail::write(&text, alloc)
 }
 
-/// The value, unless it is a list with no items.
+/// The value, unless it is an array with no items.
 pub fn unless_no_items(value: Value) -> Option<Value>
     ensures { option_map view result ≡ without_empty (view value) }
 {

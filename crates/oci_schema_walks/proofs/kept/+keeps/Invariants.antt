@@ -1,9 +1,9 @@
 use Rattle.std.proofs.Common.{◌+◌, ◌*◌, ◌≤◌, drop}
 use Rattle.serde_json.specs.View.{view, items_view, members_view}
 use Rattle.oci_json_model.specs.Sizes.{size, items_size, members_size}
+use Rattle.oci_json_model.specs.WellFormed.{AreWellFormed}
 use Rattle.oci_schema_types.specs.Shapes.{part_shape, members_in}
 use Rattle.oci_schema_walks.specs.Normal.{AreNormal, HoldNormal, IsNormalEntry, AreNormalEntries}
-use Rattle.oci_schema_walks.proofs.NormalSteps.{MembersLeft}
 use Rattle.oci_schema_walks.proofs.kept.+keeps.Given as goal
 
 abbrev pub decreases-is_normal_value : goal.decreases-is_normal_value
@@ -60,4 +60,7 @@ invariant-are_normal_entries-loop-name g l =
 abbrev pub invariant-is_normal_entry-loop-member : goal.invariant-is_normal_entry-loop-member
 invariant-is_normal_entry-loop-member g l =
     let f = g.T.Records.shape_at l.records in
-    MembersLeft f (IsNormalEntry (members_in f l.members) l.name (view l.value)) (drop l.member-index l.members) l.name (view l.value)
+    record {
+      normal : IsNormalEntry (members_in f (drop l.member-index l.members)) l.name (view l.value) → IsNormalEntry (members_in f l.members) l.name (view l.value);
+      well : AreWellFormed (members_in f (drop l.member-index l.members));
+    }
