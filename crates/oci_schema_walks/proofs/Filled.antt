@@ -7,11 +7,10 @@ use Rattle.oci_json_model.specs.Shape.{Shape}
 use Rattle.oci_json_model.specs.Value.{value, with_member, member_value, with_rows}
 use Rattle.oci_json_model.specs.WellFormed.{WellFormed, AreWellFormed, MemberIsWellFormed}
 use Rattle.oci_json_model.specs.Writable.{Writable, AreWritable}
-use Rattle.oci_schema_types.specs.Shapes.{presence_of, default_slot}
+use Rattle.oci_schema_types.specs.Shapes.{presence_of, default_slot, members_in, schema_shape}
 use Rattle.oci_schema_types.specs.declared.scalar.DefaultValue.{DefaultValue}
 use Rattle.oci_schema_walks.proofs.Listed.{drop_at}
 use Rattle.oci_schema_walks.proofs.Moved.{past}
-use Rattle.oci_schema_types.specs.Shapes.{members_in, schema_shape}
 use Rattle.oci_schema_types.specs.declared.record.Member.{Member}
 
 module _ (f : ℕ → Shape) where

@@ -10,7 +10,7 @@ use Rattle.oci_json_model.specs.Shape.{Presence, Shape, Rows, row, names, with_s
 use Rattle.oci_json_model.specs.Value.{value, with_member}
 use Rattle.oci_json_model.specs.WellFormed.{AreWellFormed}
 use Rattle.oci_schema_walks.specs.Allows.{either_allowed}
-use Rattle.oci_schema_walks.specs.Normalized.{accepts, rows_accept, member_accepts, chosen, normalized_member, normalized, normalized_rows, member_normalized, is_one_of}
+use Rattle.oci_schema_walks.specs.Normalized.{accepts, rows_accept, known_accepted, chosen, normalized_member, normalized, normalized_rows, known_normalized, is_one_of}
 use Rattle.oci_schema_types.specs.Shapes.{presence_of, alias_of, schema_shape, members_in}
 use Rattle.oci_schema_types.specs.declared.record.Member.{Member}
 use Rattle.oci_schema_walks.proofs.Decides.{first_of, later_of, refuted}
@@ -93,8 +93,8 @@ module _ (f : ℕ → Shape) (rs : Rows) (d : Data) (all : List Member) (i : ℕ
   here : Moved rs d (members_in f (x ∷ drop (i + 1) all)) now made
   here = subst (λ z. Moved rs d (members_in f z) now made) (drop_at all i w below) h
 
-  pub moved_more : (later more : Members) → member_accepts f (slice_index_or all i w) (object now) ≡ true
-      → more ≡ with_member (slice_index_or all i w).name.now (member_normalized f (slice_index_or all i w) (object now)) made
+  pub moved_more : (later more : Members) → known_accepted f (slice_index_or all i w) (object now) ≡ true
+      → more ≡ with_member (slice_index_or all i w).name.now (known_normalized f (slice_index_or all i w) (object now)) made
       → ((q : List ℕ) → is_one_of q (slice_index_or all i w).name.now (alias_of (slice_index_or all i w).alias) ≡ false → get_member q later ≡ get_member q now)
       → Moved rs d (members_in f (drop (i + 1) all)) later more
   moved_more later more e m rest =

@@ -1,31 +1,26 @@
 -- Values whose parts are normalized one by one.
-use Rattle.std.proofs.Common.{◌≡◌, refl, sym, ap, ◌∙◌, Bool, true, false, ◌&&◌, List, [], ◌∷◌, ◌++◌, length, Some, None, is_some, nat_cmp, string_bytes, string_cmp, arith, Result, Ok, Err, Greater, Less}
-use Rattle.std.specs.Prelude.{IfOk, IfErr, not}
+use Rattle.std.proofs.Common.{◌≡◌, refl, sym, ap, ◌∙◌, Bool, true, false, ◌&&◌, List, [], ◌∷◌, ◌++◌, length, nat_cmp, string_bytes, string_cmp, arith, Result, Ok, Err, Greater, Less}
+use Rattle.std.specs.Prelude.{IfOk}
 use Rattle.std.specs.Cmp.Lexicographic.{slice_cmp}
-use Rattle.std.specs.Borrow.{Bor}
 use Rattle.std.specs.List.{AllByRecursion}
 use Rattle.std.specs.List.Sorted.{IsStrictlySortedBy}
 use Rattle.std.specs.Map.{keys_of}
 use Rattle.std.specs.BTreeMap.{insert_entry}
 use Rattle.std.specs.Ordering.{ordering_reverse}
 use Rattle.std.proofs.lemmas.Cmp.{nat_list_cmp_total}
-use Rattle.serde_json.specs.Data.{Data, null, boolean, number, string, array, object, Items, no_items, item, member, put}
-use Rattle.serde_json.specs.Find.{as_array, as_object}
+use Rattle.serde_json.specs.Data.{Data, Items, no_items, item, member, put}
 use Rattle.serde_json.specs.View.{view, items_view, members_view}
 use Rattle.serde_json.specs.declared.value.Value.{Value}
 use Rattle.serde_json.proofs.Views.{Entry}
 use Rattle.oci_json_model.specs.Means.{Means}
 use Rattle.oci_json_model.specs.Plain.{Plain}
 use Rattle.oci_json_model.specs.Refused.{IsRefused}
-use Rattle.oci_text_base.specs.Refused.{IsSchema}
-use Rattle.oci_text_base.specs.declared.error.OciSpecError.{OciSpecError}
-use Rattle.oci_json_model.specs.Shape as shape
-use Rattle.oci_json_model.specs.Shape.{Shape, Rows, detail}
+use Rattle.oci_json_model.specs.Shape.{Shape, detail}
 use Rattle.oci_json_model.specs.Value.{value}
 use Rattle.oci_json_model.specs.Writable.{Writable}
 use Rattle.oci_json_model.proofs.Writers.{inserted}
-use Rattle.oci_schema_walks.specs.Allows.{allows, each_allowed, items_allowed, members_allowed}
-use Rattle.oci_schema_walks.specs.Normalized.{accepts, rows_accept, normalized, each_normalized, each_member_normalized}
+use Rattle.oci_schema_walks.specs.Allows.{allows, each_allowed}
+use Rattle.oci_schema_walks.specs.Normalized.{accepts, normalized, each_normalized, each_member_normalized}
 use Rattle.oci_schema_walks.proofs.Decides.{meant}
 use Rattle.oci_schema_walks.proofs.NormalForms.{told}
 

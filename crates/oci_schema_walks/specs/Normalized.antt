@@ -46,8 +46,8 @@ abbrev mutual
   rows_accept (row name alias presence s rs) d = either_allowed presence (accepts s) (get name d) (get_second alias d) && rows_accept rs d
 
 -- a member of a record, over a table that has at each place a record of the shape `f place`
-abbrev pub member_accepts : (ℕ → Shape) → Member → Data → Bool
-member_accepts f m d = either_allowed (presence_of m.presence) (accepts (schema_shape f m.schema)) (get m.name.now d) (get_second (alias_of m.alias) d)
+abbrev pub known_accepted : (ℕ → Shape) → Member → Data → Bool
+known_accepted f m d = either_allowed (presence_of m.presence) (accepts (schema_shape f m.schema)) (get m.name.now d) (get_second (alias_of m.alias) d)
 
 -- ---- parts; no particular value where the kind is another
 
@@ -112,8 +112,8 @@ abbrev mutual
       normalized_rows rs d (with_member name (normalized_member presence (value s) (normalized s) (chosen (get name d) (get_second alias d))) ms)
 
 -- a member of a record
-abbrev pub member_normalized : (ℕ → Shape) → Member → Data → Option Data
-member_normalized f m d =
+abbrev pub known_normalized : (ℕ → Shape) → Member → Data → Option Data
+known_normalized f m d =
     normalized_member (presence_of m.presence) (value (schema_shape f m.schema)) (normalized (schema_shape f m.schema)) (chosen (get m.name.now d) (get_second (alias_of m.alias) d))
 
 -- ---- what contracts say

@@ -12,7 +12,7 @@ ghost use Rattle.oci_json_model.specs.Value.{value as json_of, with_member};
 ghost use Rattle.oci_json_model.specs.WellFormed.{WellFormed, AreWellFormed, MemberIsWellFormed};
 ghost use Rattle.oci_schema_types.specs.Shapes.{presence_of, alias_of, part_shape, schema_shape, members_in};
 ghost use Rattle.oci_schema_walks.specs.Allows.{member_allowed};
-ghost use Rattle.oci_schema_walks.specs.Normalized.{IsSound, accepts, member_accepts, normalized, normalized_member, member_normalized, chosen, is_one_of, is_one_there};
+ghost use Rattle.oci_schema_walks.specs.Normalized.{IsSound, accepts, known_accepted, normalized, normalized_member, known_normalized, chosen, is_one_of, is_one_there};
 
 use crate::absent::normal_absent;
 use crate::kept::{has_member, is_normal};
@@ -165,11 +165,11 @@ fn move_member<T: Records>(
     alloc: Global,
 ) -> Result<()>
     requires { MemberIsWellFormed (presence_of member.now.presence) (schema_shape (T.shape_at records.now) member.now.schema) (WellFormed (schema_shape (T.shape_at records.now) member.now.schema)) }
-    ensures ok { OnOk result (members_view made.new.entries ≡ with_member member.now.name.now (member_normalized (T.shape_at records.now) member.now (object (members_view found.old.entries))) (members_view made.old.entries)) }
-    ensures accepts { OnOk result (member_accepts (T.shape_at records.now) member.now (object (members_view found.old.entries)) ≡ true) }
+    ensures ok { OnOk result (members_view made.new.entries ≡ with_member member.now.name.now (known_normalized (T.shape_at records.now) member.now (object (members_view found.old.entries))) (members_view made.old.entries)) }
+    ensures accepts { OnOk result (known_accepted (T.shape_at records.now) member.now (object (members_view found.old.entries)) ≡ true) }
     ensures others { (q : _) → is_one_of q member.now.name.now (alias_of member.now.alias) ≡ false → get_member q (members_view found.new.entries) ≡ get_member q (members_view found.old.entries) }
     ensures smaller { members_size (members_view found.new.entries) ≤ members_size (members_view found.old.entries) }
-    ensures err { IfErr result (λ e. IsSchema e → member_accepts (T.shape_at records.now) member.now (object (members_view found.old.entries)) ≡ false) }
+    ensures err { IfErr result (λ e. IsSchema e → known_accepted (T.shape_at records.now) member.now (object (members_view found.old.entries)) ≡ false) }
     ensures kind { IfErr result IsMemoryOrSchema }
 {
     let value = take_by_name_or_alias(member, owner, found)?;

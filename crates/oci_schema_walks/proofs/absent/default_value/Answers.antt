@@ -2,8 +2,7 @@ use Rattle.std.proofs.Common.{ap, ◌∙◌}
 use Rattle.serde_json.specs.Data.{array}
 use Rattle.serde_json.specs.View.{items_view}
 use Rattle.serde_json.proofs.Views.{view-Array}
-use Rattle.oci_schema_types.specs.Shapes.{default_plain}
-use Rattle.oci_schema_types.specs.Shapes.{schema_shape}
+use Rattle.oci_schema_types.specs.Shapes.{default_plain, schema_shape}
 use Rattle.oci_schema_walks.proofs.DefaultValues.{variant_default, boolean_default, empty_default}
 use Rattle.oci_schema_walks.proofs.absent.default_value.Goals as goal
 

@@ -8,11 +8,10 @@ use Rattle.serde_json.proofs.Views.{Entry, view-Array, view-Object}
 use Rattle.oci_json_model.proofs.Lists.{exits}
 use Rattle.oci_schema_walks.specs.Allows.{each_allowed, each_member_allowed}
 use Rattle.oci_schema_walks.specs.Normalized.{accepts, normalized, each_normalized}
-use Rattle.oci_schema_types.specs.Shapes.{presence_of}
+use Rattle.oci_schema_types.specs.Shapes.{presence_of, part_shape, schema_shape, members_in}
 use Rattle.oci_schema_walks.proofs.Accepted.{of_member}
 use Rattle.oci_schema_walks.proofs.Given.{one_allowed, ends}
 use Rattle.oci_schema_walks.proofs.Parts.{none_left, items_more, items_all, members_more}
-use Rattle.oci_schema_types.specs.Shapes.{part_shape, schema_shape, members_in}
 use Rattle.oci_json_model.specs.Sizes.{items_size, members_size}
 use Rattle.oci_schema_walks.proofs.Moved.{moved_more, moved_all}
 use Rattle.oci_schema_walks.proofs.GivenSmaller.{given_smaller}
