@@ -12,8 +12,8 @@ use Rattle.oci_json_model.specs.Means.{as_whole, is_object, get_second}
 use Rattle.oci_json_model.specs.Shape.{Presence, required, defaulted, optional, nullable, unless_empty, Shape, text, truth, whole, named, open_name, digest_text, cpu_text, cap_set, list, key_set, detail, free_map, rows, Rows, no_rows, row}
 use Rattle.oci_json_model.specs.Shape as shape
 use Rattle.oci_schema_walks.specs.Processors.{is_list_of_processors}
-use Rattle.oci_schema_types.specs.Shapes.{shape_of, presence_of, alias_of}
-use Rattle.oci_schema_types.specs.declared.record.Member.{Row}
+use Rattle.oci_schema_types.specs.Shapes.{presence_of, alias_of, schema_shape}
+use Rattle.oci_schema_types.specs.declared.record.Member.{Member}
 
 -- ---- texts
 
@@ -110,9 +110,9 @@ abbrev mutual
   rows_allow no_rows d = true
   rows_allow (row name second presence s rs) d = either_allowed presence (allows s) (get name d) (get_second second d) && rows_allow rs d
 
--- a listed member of a table
-abbrev pub row_allows : Row → Data → Bool
-row_allows r d = either_allowed (presence_of r.presence) (allows (shape_of r.form.now)) (get r.name.now d) (get_second (alias_of r.second) d)
+-- a member of a record, over a table that has at each place a record of the shape `f place`
+abbrev pub member_allows : (ℕ → Shape) → Member → Data → Bool
+member_allows f m d = either_allowed (presence_of m.presence) (allows (schema_shape f m.schema)) (get m.name.now d) (get_second (alias_of m.alias) d)
 
 -- ---- sets of capabilities
 

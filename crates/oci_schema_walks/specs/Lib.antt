@@ -1,9 +1,6 @@
 pub mod Allows
-pub mod Conformed
-pub mod Faults
 pub mod Given
-pub mod Leads
 pub mod Normal
-pub mod Places
+pub mod Normalized
 pub mod Plain
 pub mod Processors

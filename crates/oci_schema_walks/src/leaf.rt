@@ -8,10 +8,10 @@ ghost use Rattle.oci_schema_walks.specs.Allows.{allows, is_capability as is_of_t
 ghost use Rattle.oci_schema_walks.specs.Processors.{is_list_of_processors as is_scanned};
 ghost use Rattle.oci_schema_types.specs.Shapes.{scalar_shape, names_of};
 
-use crate::form::Scalar;
 use oci_json_members::number::{has_other_numbers, members_have_other_numbers};
 use oci_json_model::JsonName;
 use oci_process_names::{Capability, is_cpu_list};
+use oci_schema_types::Scalar;
 use oci_text::is_digest;
 use serde_json::{Map, Value};
 

@@ -1,18 +1,10 @@
-//! A record's table as a value: the shape that a form stands for, and what is done by walks through it: whether a form allows a
-//! value, all that it refuses in it, and the value's normal form.
+//! Walks of JSON values by schemas: whether a value is valid, its violations, and its normal form.
 #![tactic(auto)]
 
 mod absent;
-pub mod check;
-pub mod conform;
-pub mod fault;
-pub mod find;
-pub mod kept;
-pub mod laws;
+mod kept;
 pub mod leaf;
 mod member;
 mod normal;
-pub mod place;
-pub mod plain;
-
-pub use fault::{Expected, Fault, Wanted};
+pub mod normal_value;
+mod plain;

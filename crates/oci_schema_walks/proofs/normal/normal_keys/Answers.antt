@@ -3,7 +3,7 @@ use Rattle.oci_json_members.specs.Keys.{keys_plain}
 use Rattle.oci_json_model.specs.Shape.{key_set}
 use Rattle.oci_json_model.proofs.Lists.{exits}
 use Rattle.oci_schema_walks.proofs.Parts.{not_allowed, written_told}
-use Rattle.oci_schema_walks.proofs.normal.conform_keys.Goals as goal
+use Rattle.oci_schema_walks.proofs.normal.normal_keys.Goals as goal
 
 pub returns-in_err-names-clause-err : goal.returns-in_err-names-clause-err
 returns-in_err-names-clause-err c =

@@ -1,4 +1,4 @@
--- The normal form of a value is what is written for the document that it means.
+-- The normal form of a value is the JSON of what the value decodes to.
 use Rattle.std.proofs.Common.{◌≡◌, refl, sym, ap, ◌∙◌, subst, Bool, true, false, not, ◌||◌, List, [], ◌∷◌, Option, Some, None, is_some, ℕ}
 use Rattle.std.specs.Prelude.{option_map, option_and_then, unwrap_or, if◌then◌else◌}
 use Rattle.serde_json.specs.Data.{Data, null, boolean, number, string, array, object, Items, no_items, item, Members, no_members, member}
@@ -15,7 +15,7 @@ use Rattle.oci_json_model.specs.Means.{Means, MeansRows, MeansEither, MeansMembe
 use Rattle.oci_json_model.specs.Value.{value, capability_texts, each_value, each_entry_value, free_members, member_value, with_member, with_rows}
 use Rattle.oci_json_model.specs.Writable.{Writable, AreWritable}
 use Rattle.oci_schema_walks.specs.Allows.{each_allowed, each_member_allowed, items_allowed, members_allowed, member_allowed, either_allowed, set_in, some_is}
-use Rattle.oci_schema_walks.specs.Conformed.{is_kept, accepts, rows_accept, items_in, each_conformed, each_member_conformed, chosen, unless_absent, unless_no_items, conformed_member, conformed, conformed_rows}
+use Rattle.oci_schema_walks.specs.Normalized.{is_kept, accepts, rows_accept, array_items, each_normalized, each_member_normalized, chosen, unless_absent, unless_no_items, normalized_member, normalized, normalized_rows}
 use Rattle.oci_schema_walks.proofs.Decides.{both, allowed, some_tells}
 use Rattle.oci_schema_walks.proofs.Texts.{same_told}
 use Rattle.oci_schema_walks.proofs.NormalParts.{object_kept}
@@ -71,12 +71,12 @@ set_told (name ∷ table) ds (b ∷ bs) h =
 
 -- ---- parts
 
--- of what is meant and writable: it is accepted, and its normal form is written
+-- of what decodes to something serializable: it is accepted, and its normal form is that thing's JSON
 abbrev Told : (Data → Plain → Type 0) → (Plain → Type 0) → (Data → Bool) → (Data → Data) → (Plain → Data) → Type 0
 Told M W f g v = (d : Data) (p : Plain) → M d p → W p → (f d ≡ true) × (g d ≡ v p)
 
 module _ (M : Data → Plain → Type 0) (W : Plain → Type 0) (f : Data → Bool) (g : Data → Data) (v : Plain → Data) (told : Told M W f g v) where
-  each_told : (ds : Items) (ps : Plains) → EachMeans M ds ps → Each W ps → (each_allowed f ds ≡ true) × (each_conformed g ds ≡ each_value v ps)
+  each_told : (ds : Items) (ps : Plains) → EachMeans M ds ps → Each W ps → (each_allowed f ds ≡ true) × (each_normalized g ds ≡ each_value v ps)
   each_told no_items no_plains m w = (refl, refl)
   each_told no_items (plain.plain p ps) m w = absurd m
   each_told (item d ds) no_plains m w = absurd m
@@ -86,7 +86,7 @@ module _ (M : Data → Plain → Type 0) (W : Plain → Type 0) (f : Data → Bo
       (both _ _ one.0 more.0, rw (one.1, more.1) refl)
 
   each_member_told : (ms : Members) (es : Entries) → EachEntryMeans M ms es → EachEntry W es
-      → (each_member_allowed f ms ≡ true) × (each_member_conformed g ms ≡ each_entry_value v es)
+      → (each_member_allowed f ms ≡ true) × (each_member_normalized g ms ≡ each_entry_value v es)
   each_member_told no_members no_entries m w = (refl, refl)
   each_member_told no_members (entry k p es) m w = absurd m
   each_member_told (member k d ms) no_entries m w = absurd m
@@ -139,7 +139,7 @@ module _ (M : Data → Plain → Type 0) (W : Plain → Type 0) (f : Data → Bo
   given_told d (filled q) p m w = ap Some (told d q m w).1
 
   member_told : (presence : Presence) (found : Option Data) (x : Slot) → MeansMember presence M found x → IfFilled W x
-      → (member_allowed presence f found ≡ true) × (conformed_member presence v g found ≡ member_value presence v x)
+      → (member_allowed presence f found ≡ true) × (normalized_member presence v g found ≡ member_value presence v x)
   member_told required None x m w = absurd m
   member_told required (Some d) empty m w = absurd m
   member_told required (Some d) (filled p) m w = let one = told d p m w in (one.0, ap Some one.1)
@@ -153,16 +153,16 @@ module _ (M : Data → Plain → Type 0) (W : Plain → Type 0) (f : Data → Bo
   member_told unless_empty (Some d) x m w = ((null_told d x m w).0, ap (option_and_then unless_no_items) (found_told (Some d) x m w) ∙ unless_empty_value x)
 
   either_told : (presence : Presence) (found second : Option Data) (x : Slot) → MeansEither presence M found second x → IfFilled W x
-      → (either_allowed presence f found second ≡ true) × (conformed_member presence v g (chosen found second) ≡ member_value presence v x)
+      → (either_allowed presence f found second ≡ true) × (normalized_member presence v g (chosen found second) ≡ member_value presence v x)
   either_told presence found None x m w = member_told presence found x m w
   either_told presence None (Some d) x m w = member_told presence (Some d) x m w
   either_told presence (Some c) (Some d) x m w = absurd m
 
 -- ---- shape by shape
 
--- what is meant and writable is accepted, and its normal form is written
+-- what decodes to something serializable is accepted, and its normal form is that thing's JSON
 mutual
-  pub told : (s : Shape) (d : Data) (p : Plain) → Means s d p → Writable s p → (accepts s d ≡ true) × (conformed s d ≡ value s p)
+  pub told : (s : Shape) (d : Data) (p : Plain) → Means s d p → Writable s p → (accepts s d ≡ true) × (normalized s d ≡ value s p)
   told text d p m w = (allowed text d p m, text_kept d m.0 p m.1 (ap text_of m.2))
   told truth d p m w = (allowed truth d p m, truth_kept d m.0 m.1 ∙ sym (ap (value truth) m.2))
   told (whole low high) d p m w = (allowed (whole low high) d p m, ap (λ o. number (of_integer (unwrap_or o low))) m.1 ∙ sym (ap (value (whole low high)) m.2))
@@ -171,13 +171,13 @@ mutual
   told digest_text d p m w = (allowed digest_text d p m, text_kept d m.0 p m.1 (ap text_of m.2))
   told cpu_text d p m w = (allowed cpu_text d p m, text_kept d m.0 p m.1 (ap text_of m.2))
   told (cap_set table) d p m w =
-      let same : set_in table (items_in d) ≡ set_of p = ap (λ o. set_in table (unwrap_or o no_items)) m.2 ∙ set_told table m.0 m.1 m.5 ∙ sym (ap set_of m.3) in
+      let same : set_in table (array_items d) ≡ set_of p = ap (λ o. set_in table (unwrap_or o no_items)) m.2 ∙ set_told table m.0 m.1 m.5 ∙ sym (ap set_of m.3) in
       (allowed (cap_set table) d p m, ap (λ bs. array (capability_texts table bs)) same)
   told (list s) d p m w =
-      let each = each_told (Means s) (Writable s) (accepts s) (conformed s) (value s) (λ x q. told s x q) m.0 m.1 m.4 (subst (λ q. Each (Writable s) (list_of q)) m.3 w) in
+      let each = each_told (Means s) (Writable s) (accepts s) (normalized s) (value s) (λ x q. told s x q) m.0 m.1 m.4 (subst (λ q. Each (Writable s) (list_of q)) m.3 w) in
       (ap (items_allowed (accepts s)) m.2 ∙ each.0, rw (m.2, m.3) (ap array each.1))
   told (shape.map s) d p m w =
-      let each = each_member_told (Means s) (Writable s) (accepts s) (conformed s) (value s) (λ x q. told s x q) m.0 m.1 m.4 (subst (λ q. EachEntry (Writable s) (map_of q)) m.3 w) in
+      let each = each_member_told (Means s) (Writable s) (accepts s) (normalized s) (value s) (λ x q. told s x q) m.0 m.1 m.4 (subst (λ q. EachEntry (Writable s) (map_of q)) m.3 w) in
       (ap (members_allowed (accepts s)) m.2 ∙ each.0, rw (m.2, m.3) (ap object each.1))
   told key_set d p m w = (allowed key_set d p m, rw (m.1, m.2) refl)
   told detail d p m w =
@@ -189,11 +189,11 @@ mutual
       (both _ _ m.1 all.0, ap object (all.1 no_members) ∙ sym (ap (value (rows rs)) m.2))
 
   told_rows : (rs : Rows) (d : Data) (xs : Slots) → MeansRows rs d xs → AreWritable rs xs
-      → (rows_accept rs d ≡ true) × ((ms : Members) → conformed_rows rs d ms ≡ with_rows rs xs ms)
+      → (rows_accept rs d ≡ true) × ((ms : Members) → normalized_rows rs d ms ≡ with_rows rs xs ms)
   told_rows no_rows d no_slots m w = (refl, λ ms. refl)
   told_rows no_rows d (slot x xs) m w = absurd m
   told_rows (row name second presence s rs) d no_slots m w = absurd m
   told_rows (row name second presence s rs) d (slot x xs) m w =
-      let one = either_told (Means s) (Writable s) (accepts s) (conformed s) (value s) (λ y q. told s y q) presence (get name d) (get_second second d) x m.0 w.0 in
+      let one = either_told (Means s) (Writable s) (accepts s) (normalized s) (value s) (λ y q. told s y q) presence (get name d) (get_second second d) x m.0 w.0 in
       let more = told_rows rs d xs m.1 w.1 in
-      (both _ _ one.0 more.0, λ ms. ap (λ o. conformed_rows rs d (with_member name o ms)) one.1 ∙ more.1 (with_member name (member_value presence (value s) x) ms))
+      (both _ _ one.0 more.0, λ ms. ap (λ o. normalized_rows rs d (with_member name o ms)) one.1 ∙ more.1 (with_member name (member_value presence (value s) x) ms))

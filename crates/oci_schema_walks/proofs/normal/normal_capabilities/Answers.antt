@@ -4,7 +4,7 @@ use Rattle.oci_process_names.specs.CapabilitySets.{set_plain}
 use Rattle.oci_json_model.specs.Shape.{cap_set}
 use Rattle.oci_json_model.proofs.Lists.{exits}
 use Rattle.oci_schema_walks.proofs.Parts.{not_allowed, written_told}
-use Rattle.oci_schema_walks.proofs.normal.conform_capabilities.Goals as goal
+use Rattle.oci_schema_walks.proofs.normal.normal_capabilities.Goals as goal
 
 pub returns-in_err-set-clause-err : goal.returns-in_err-set-clause-err
 returns-in_err-set-clause-err c =
