@@ -11,11 +11,9 @@ pub mod NormalMembers
 pub mod NormalParts
 pub mod Parts
 pub mod Pointers
-pub mod Records
 pub mod Replacing
 pub mod Stands
 mod Steps
-pub mod ScalarKinds
 pub mod Sizes
 pub mod Texts
 pub mod Ways

@@ -24,7 +24,7 @@ is_digest_text t = not (is_some (digest_refusal t))
 abbrev pub test_of : {P : List ℕ → Type 0} {f : List ℕ → Bool} → ((t : List ℕ) → (f t ≡ true) ↔ P t) → List ℕ → Bool
 test_of {P} {f} law = f
 
--- the scan of CPU lists, whose places have names in its own crate alone
+-- the scan of CPU lists: its start has a name in its own crate alone, so it is named by its law
 unfoldable pub is_cpu_text : List ℕ → Bool
 is_cpu_text = test_of lists
 

@@ -73,14 +73,12 @@ fn is_among(table: &[&'static str], text: &str) -> bool
     false
 }
 
-#[tactic(auto, using(crate::proofs::Texts::digest_same))]
 fn is_digest_value(text: &str) -> bool
     ensures { result ≡ is_digest_text text.now }
 {
     is_digest(text)
 }
 
-#[tactic(auto, using(crate::proofs::Texts::cpu_list_same))]
 fn is_cpu_list_value(text: &str) -> bool
     ensures { result ≡ is_cpu_text text.now }
 {

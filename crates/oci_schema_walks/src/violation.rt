@@ -63,7 +63,7 @@ fn scalar_kind(scalar: &Scalar) -> Kind
     Kind::Scalar(*scalar)
 }
 
-/// Looks the record up, since only its members say that it is one.
+/// An object. The look-up is for its contract, which says that the shape at this place is that of an object.
 fn record_kind<T: Records>(records: &T, place: usize) -> Kind
     ensures { value_kind result ≡ kind_of (T.shape_at records.now place) }
 {
