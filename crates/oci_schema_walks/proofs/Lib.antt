@@ -1,6 +1,7 @@
 pub mod Accepted
 pub mod Decides
 pub mod DefaultValues
+pub mod Empty
 pub mod Filled
 pub mod Given
 pub mod GivenSmaller
@@ -11,6 +12,8 @@ pub mod NormalForms
 pub mod NormalMembers
 pub mod NormalParts
 pub mod Parts
-pub mod Processors
+pub mod Pointers
+pub mod Replacing
 pub mod Sizes
 pub mod Texts
+pub mod Ways

@@ -1,6 +1,8 @@
 pub mod Allows
 pub mod Given
+pub mod Leads
 pub mod Normal
 pub mod Normalized
+pub mod Places
 pub mod Plain
-pub mod Processors
+pub mod Violations

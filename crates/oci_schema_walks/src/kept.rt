@@ -13,8 +13,8 @@ ghost use Rattle.oci_schema_types.specs.Shapes.{scalar_shape, part_shape, schema
 ghost use Rattle.oci_schema_walks.specs.Normalized.{IsSound};
 ghost use Rattle.oci_schema_walks.specs.Normal.{IsNormal, AreNormal, HoldNormal, AreNormalMembers, is_always_written as is_written, IsNormalMember, IsNormalEntry, AreNormalEntries, HasAll, AreEmptyObjects};
 
-use crate::leaf::scalar_allows;
 use crate::plain::is_plain;
+use crate::scalar::scalar_allows;
 use oci_schema_types::{Member, Part, Presence, Records, Scalar, Schema};
 use serde_json::{Map, Value};
 

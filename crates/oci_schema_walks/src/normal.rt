@@ -11,7 +11,7 @@ ghost use Rattle.oci_schema_walks.specs.Normalized.{accepts, normalized, unless_
 ghost use Rattle.oci_schema_types.specs.Shapes.{scalar_shape};
 
 use crate::kept::has_no_items;
-use crate::leaf::scalar_allows;
+use crate::scalar::scalar_allows;
 use oci_json_members::{Detail, Keys, OciKind};
 use oci_json_model::fault::refused;
 use oci_process_names::Caps;

@@ -1,11 +1,10 @@
-//! Whether a value with no listed parts is allowed.
+//! Whether a scalar allows a value.
 ghost use Rattle.std.specs.Prelude.{◌≡◌};
 ghost use Rattle.serde_json.specs.View.{view, items_view, members_view};
 ghost use Rattle.oci_text_base.specs.Names.{is_listed};
 ghost use Rattle.oci_process_names.specs.Capability.{capability_table};
 ghost use Rattle.oci_json_model.specs.Means.{as_whole, is_object};
-ghost use Rattle.oci_schema_walks.specs.Allows.{allows, is_capability as is_of_table, is_digest_text, names_capability, each_allowed, each_member_allowed};
-ghost use Rattle.oci_schema_walks.specs.Processors.{is_list_of_processors as is_scanned};
+ghost use Rattle.oci_schema_walks.specs.Allows.{allows, is_capability as is_of_table, is_cpu_text, is_digest_text, names_capability, each_allowed, each_member_allowed};
 ghost use Rattle.oci_schema_types.specs.Shapes.{scalar_shape, names_of};
 
 use oci_json_members::number::{has_other_numbers, members_have_other_numbers};
@@ -15,11 +14,11 @@ use oci_schema_types::Scalar;
 use oci_text::is_digest;
 use serde_json::{Map, Value};
 
-/// Whether the leaf allows the value.
-pub fn scalar_allows(leaf: &Scalar, value: &Value) -> bool
-    ensures { result ≡ allows (scalar_shape leaf.now) (view value.now) }
+/// Whether the scalar allows the value.
+pub fn scalar_allows(scalar: &Scalar, value: &Value) -> bool
+    ensures { result ≡ allows (scalar_shape scalar.now) (view value.now) }
 {
-    match leaf {
+    match scalar {
         Scalar::String | Scalar::MediaType | Scalar::Os | Scalar::Arch => value.is_string(),
         Scalar::Boolean => value.is_boolean(),
         Scalar::Integer(low, high) => match whole(value) {
@@ -35,7 +34,7 @@ pub fn scalar_allows(leaf: &Scalar, value: &Value) -> bool
             None => false,
         },
         Scalar::CpuList => match value.as_str() {
-            Some(text) => is_list_of_processors(text),
+            Some(text) => is_cpu_list_value(text),
             None => false,
         },
         Scalar::Capabilities => match value.as_array() {
@@ -74,16 +73,14 @@ fn is_among(table: &[&'static str], text: &str) -> bool
     false
 }
 
-#[tactic(auto, using(crate::proofs::Texts::digest_told))]
 fn is_digest_value(text: &str) -> bool
     ensures { result ≡ is_digest_text text.now }
 {
     is_digest(text)
 }
 
-#[tactic(auto, using(crate::proofs::Texts::processors_told))]
-fn is_list_of_processors(text: &str) -> bool
-    ensures { result ≡ is_scanned text.now }
+fn is_cpu_list_value(text: &str) -> bool
+    ensures { result ≡ is_cpu_text text.now }
 {
     is_cpu_list(text)
 }
