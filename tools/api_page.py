@@ -174,13 +174,17 @@ def equations(item):
 
 
 def heading_of(function, item):
-    """What a function of the specs is called in a table: what of the type speaks of it."""
+    """What a function of the specs is called in a table: the trait or the call of the type whose contract names it."""
+    impls = sources.impls_by_type().get(item, ())
     for trait, title in (("OciMember", "JSON text"), ("ClosedName", "JSON text"), ("Display", "displayed")):
-        for impl in sources.impls_by_type().get(item, ()):
-            if re.search(rf"\b{trait} for ", impl.head()) and re.search(rf"\b{function}\b", "\n".join(impl.lines)):
-                return title
+        if any(re.search(rf"\b{trait} for ", it.head()) and re.search(rf"\b{function}\b", "\n".join(it.lines)) for it in impls):
+            return title
+    for impl in impls:
+        calls = [it.name for it in impl.inner() if it.kind == "fn"]
+        if any(re.fullmatch(rf"ghost \w+ = \{{ {function} \}};", " ".join(it.lines)) for it in impl.inner()) and calls:
+            return f"`{calls[0]}()`"
     for call in inherent_calls(item):
-        if any(re.fullmatch(rf"result(\.now)? ≡ (name_text \()?{function} self\.now\)?", text) for _, _, text in call.clauses()):
+        if any(re.fullmatch(rf"result(\.now)? ≡ {function} self\.now", text) for _, _, text in call.clauses()):
             return f"`{call.name}()`"
     return f"`{function}`"
 
