@@ -13,7 +13,7 @@ PROOFS = {"laws", "well_formed", "same", "back", "told", "respects_eq", "values"
 ACCESSORS = {
     "get": [r"result\.now ≡ self\.now\.(\w+)"],
     "copy": [r"result ≡ self\.now\.(\w+)"],
-    "mut": [r"result\.now ≡ self\.old\.(\w+)"],
+    "mut": [r"sem 𝓛 \(lends_\w+ self\.entry result\)", r"result\.now ≡ self\.old\.(\w+)"],
     "set": [r"result\.now ≡ record self\.old \{ (\w+) = «?\w+»? \}", r"result\.ghost_name ≡ self\.entry\.ghost_name"],
     "build": [r"result ≡ record self \{ (\w+) = Some «?\w+»? \}"],
 }
@@ -39,7 +39,7 @@ Records have tables of accessors, whose contracts are these, for a member `x` wi
 |---|---|---|
 | read: reference | `x(&self) -> &T` | `result.now ≡ self.now.x` |
 | read: copy | `x(&self) -> T` | `result ≡ self.now.x` |
-| mutable | `x_mut(&mut self) -> &mut T` | `value`: `result.now ≡ self.old.x` |
+| mutable | `x_mut(&mut self) -> &mut T` | `writes_back`: what the reference holds at its end is the member `x` of the record, and all else is as before (`lends_x`); `value`: `result.now ≡ self.old.x` |
 | set | `set_x(&mut self, x: T) -> &mut Self` | `set`: `result.now ≡ record self.old { x = x }`; `same`: `result.ghost_name ≡ self.entry.ghost_name` |
 | builder | of the builder, `x(self, x: U) -> Self`, with `U` in the column | `result ≡ record self { x = Some x }` |
 
@@ -53,7 +53,7 @@ Two more calls have one contract in all records; `plain` is the record's content
 
 
 def cell(text):
-    return text.replace("|", "\\|")
+    return re.sub(r"\s+", " ", text).replace("|", "\\|")
 
 
 def code(text):
@@ -74,12 +74,12 @@ def fence(lines):
 
 
 def word_of(call, patterns):
-    """What the first of a call's clauses names, where the clauses are those of the patterns; else None."""
+    """What a call's clauses name, where they are those of the patterns; else None."""
     clauses = [text for _, _, text in call.clauses()]
     if len(clauses) != len(patterns):
         return None
     found = [re.fullmatch(pattern, text) for pattern, text in zip(patterns, clauses)]
-    return found[0][1] if all(found) else None
+    return next(it[1] for it in found if it.re.groups) if all(found) else None
 
 
 def shared_lines(calls):
@@ -135,7 +135,7 @@ class Accessors:
         doc = (read or next(iter(calls.values()))).doc
         mutable, setter, taken = calls.get("mut"), calls.get("set"), calls.get("build")
         return (code(name), code(kind), how, code(mutable.name if mutable else ""), code(setter.name if setter else ""),
-                code(argument_of(taken)) if taken else "", doc)
+                code(argument_of(taken)) if taken else "", cell(doc))
 
     def lines(self):
         titles = ("member", "type", "read", "mutable", "set", "builder", "what it is")
@@ -200,14 +200,14 @@ def variants_of(item):
         shown = re.search(r'#\[error\("(.*)"\)\]', " ".join(variant.attributes))
         doc = variant.doc + (" (default)" if "#[default]" in variant.attributes else "")
         values = [code(values.get(name, "")) for values in known.values()]
-        rows.append((code(text), *values, code(shown[1]) if shown else "", doc))
+        rows.append((code(text), *values, code(shown[1]) if shown else "", cell(doc)))
     return table(titles, rows)
 
 
 def struct_lines(item, builder):
     """A struct: its public fields, its accessors, and its other calls; of its builder what is not a setter."""
     fields = [it for it in item.inner() if it.public] if len(item.lines) > 1 else []
-    lines = table(("field", "type", "what it is"), [(code(it.lines[0].split()[1].rstrip(":")), code(it.lines[0].partition(": ")[2].rstrip(",")), it.doc) for it in fields]) if fields else []
+    lines = table(("field", "type", "what it is"), [(code(it.lines[0].split()[1].rstrip(":")), code(it.lines[0].partition(": ")[2].rstrip(",")), cell(it.doc)) for it in fields]) if fields else []
     shown = re.search(r'#\[error\("(.*?)"', " ".join(item.attributes))
     lines += [f"Displayed as {code(shown[1])}.", ""] if shown else []
     accessors = Accessors(item, builder)
@@ -228,7 +228,7 @@ def trait_lines(item):
     lines = [item.lines[0]]
     for part in item.inner():
         lines += [""] if len(lines) > 1 else []
-        lines += [f"    /// {part.doc}"] if part.doc else []
+        lines += [f"    /// {line}".rstrip() for line in part.doc.split("\n")] if part.doc else []
         own = [*part.contract()[:-1], part.contract()[-1] + ";"] if part.kind == "fn" else part.lines
         lines += [f"    {line}" for line in own]
     return fence([*lines, "}"])
@@ -262,7 +262,7 @@ class Page:
     """The page as it is written; what was listed once is named by its first place after that."""
 
     def __init__(self):
-        self.lines, self.places, self.contents = [], {}, []
+        self.lines, self.places, self.contents, self.unknown = [], {}, [], []
 
     def module(self, path, owner, module):
         names = sources.public_names(owner, module)
@@ -274,6 +274,10 @@ class Page:
             self.contents.append(path)
             self.lines += [f"## `{path}`", "", owner.about[module], ""]
             self.items(new)
+        self.unknown += [f"{path}::{name}" for name in sources.unknown_names(owner, module)]
+        of_kit = sources.names_of_the_kit(owner, module)
+        if of_kit:
+            self.lines += ["Of the kit: " + ", ".join(f"`{name}` is `{item}`" for name, item in of_kit.items()) + ".", ""]
         if known and not module:
             self.lines += ["Also here: " + ", ".join(f"`{self.places[item]}`" for _, item in known) + ".", ""]
         for name, other, inner in sources.public_modules(owner, module):
@@ -287,7 +291,7 @@ class Page:
                 self.lines += type_lines(name, item, builders.get(f"{name}Builder"))
         constants = [(name, item) for name, item in new if item.kind in ("const", "static")]
         if constants:
-            rows = [(code(name), *map(code, value_of(item)), item.doc) for name, item in constants]
+            rows = [(code(name), *map(code, value_of(item)), cell(item.doc)) for name, item in constants]
             self.lines += ["### Constants", "", *table(("constant", "type", "value", "what it is"), rows)]
         calls = [item for _, item in new if item.kind == "fn"]
         if calls:
@@ -297,10 +301,11 @@ class Page:
 
 
 def page():
-    """The whole page."""
+    """The whole page, and what it lacks: names that are re-exported and that nothing declares."""
     it = Page()
     for name in ROOTS:
         it.module(name, sources.crate(name), ())
     contents = [f"- [`{path}`](#{re.sub(r'[^a-z_]', '', path)})" for path in it.contents]
     introduction = INTRODUCTION.rstrip("\n").split("\n")
-    return "\n".join([*introduction, "", *contents, "", *it.lines]).rstrip("\n") + "\n"
+    text = "\n".join([*introduction, "", *contents, "", *it.lines]).rstrip("\n") + "\n"
+    return text, [f"nothing declares {name}" for name in it.unknown]

@@ -11,11 +11,16 @@ TOP = os.path.dirname(os.path.dirname(os.path.abspath(__file__)))
 WORDS = r"(?:pub(?:\(\w+\))? )?(?:const (?=fn))?(fn|struct|enum|trait|const|static|type|mod|macro_rules!)(?= )"
 
 
+def paragraphs(lines):
+    """The text of comment lines, with an empty line between paragraphs."""
+    return re.sub(r" *\0[ \0]*", "\n\n", " ".join(line.strip() or "\0" for line in lines))
+
+
 class Item:
     """A declaration: its kind, name and text, its documentation, and the crate and module that it stands in."""
 
     def __init__(self, crate, module, doc, attributes, lines):
-        self.crate, self.module, self.doc, self.attributes, self.lines = crate, module, " ".join(doc), attributes, lines
+        self.crate, self.module, self.doc, self.attributes, self.lines = crate, module, paragraphs(doc), attributes, lines
         self.public = lines[0].startswith("pub ")
         named = re.match(WORDS + r" (\w+)", lines[0])
         self.kind, self.name = (named[1], named[2]) if named else (re.match(r"(?:pub )?(\w*)", lines[0])[1], None)
@@ -39,7 +44,7 @@ class Item:
             if line in ("{", "{}"):
                 break
             lines.append(line)
-            if not line.startswith((" ", ")")) and len(lines) > 1 or re.search(r" \{(\})?$", line) and not line.startswith(" "):
+            if re.search(r" \{\}?$", line) and not line.startswith(" "):
                 lines[-1] = re.sub(r" \{\}?$", "", line)
                 break
         return [re.sub(r";$", "", line) if line is lines[-1] else line for line in lines]
@@ -47,13 +52,13 @@ class Item:
     def signature(self):
         """The signature on one line, as it would be written in one."""
         text = " ".join(line.strip() for line in self.contract() if not re.match(r"\s+(requires|ensures)\b", line))
-        text = re.split(r" (?:requires|ensures) ", text)[0]
+        text = re.split(r" (?:requires|ensures)\*? ", text)[0]
         return re.sub(r",? \)", ")", re.sub(r"\( ", "(", text))
 
     def clauses(self):
         """The clauses of a call: of each the word, the name (empty where it has none) and the text on one line."""
         text, found = "\n".join(self.contract()), []
-        for clause in re.finditer(r"\n\s+(requires|ensures)\s*(\w*)\s*\{", text):
+        for clause in re.finditer(r"\n\s+((?:requires|ensures)\*?)\s*(\w*)\s*\{", text):
             end = closing(text, clause.end() - 1)
             found.append((clause[1], clause[2], re.sub(r"\s+", " ", text[clause.end():end]).strip()))
         return found
@@ -131,7 +136,7 @@ class Crate:
     def read(self, folder, module, path):
         with open(path, encoding="utf-8") as file:
             lines = file.read().split("\n")
-        self.about[module] = " ".join(line[3:].strip() for line in lines if line.startswith("//!"))
+        self.about[module] = paragraphs([line[3:] for line in lines if line.startswith("//!")])
         self.modules[module] = [Item(self.name, module, *part) for part in split(lines)]
         for item in self.modules[module]:
             if item.kind == "mod" and item.lines[0].endswith(";") and "#[cfg(test)]" not in item.attributes:
@@ -185,7 +190,7 @@ def place_of(owner, module, path):
 
 @functools.lru_cache(None)
 def resolve(owner, module, name):
-    """What a name stands for in a module: an item of this repository, or None."""
+    """What a name stands for in a module: an item of this repository, the path of one of the kit, or None."""
     for item in owner.modules.get(module, ()):
         if item.name == name and item.kind not in ("mod", "use", "impl", "ghost"):
             return item
@@ -193,19 +198,31 @@ def resolve(owner, module, name):
         for alias, path in imports(item):
             if alias == name:
                 found = place_of(owner, module, path)
-                return resolve(found[0], found[1][:-1], path[-1]) if found else None
+                return resolve(found[0], found[1][:-1], path[-1]) if found else "::".join(path)
     return None
+
+
+def imported(owner, module):
+    """What a module re-exports: of each name what it stands for."""
+    return {alias: resolve(owner, module, alias) for item in owner.modules[module] if item.public for alias, _ in imports(item)}
 
 
 def public_names(owner, module):
     """What a module offers: pairs of a name and the item that it stands for, in order of names, modules left out."""
-    found = {}
-    for item in owner.modules[module]:
-        if item.public and item.name and item.kind != "mod":
-            found[item.name] = item
-        if item.public and item.kind == "use":
-            found.update({alias: resolve(owner, module, alias) for alias, _ in imports(item) if resolve(owner, module, alias)})
+    found = {item.name: item for item in owner.modules[module] if item.public and item.name and item.kind != "mod"}
+    found.update({name: item for name, item in imported(owner, module).items() if isinstance(item, Item)})
     return sorted(found.items(), key=lambda it: it[0].lower())
+
+
+def names_of_the_kit(owner, module):
+    """What a module re-exports of the kit: of each name the path that it stands for."""
+    return {name: path for name, path in imported(owner, module).items() if isinstance(path, str)}
+
+
+def unknown_names(owner, module):
+    """What a module re-exports and nothing declares."""
+    modules = {name for name, _, _ in public_modules(owner, module)}
+    return [name for name, item in imported(owner, module).items() if item is None and name not in modules]
 
 
 def public_modules(owner, module=()):

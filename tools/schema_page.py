@@ -105,7 +105,7 @@ def accessors(record):
     """The accessors of each member of a record, in order, as the sources have them."""
     facade = sources.crate(FACADE)
     modules = [(facade, ())] + [(owner, module) for _, owner, module in sources.public_modules(facade)]
-    item = next((it for it in (sources.resolve(owner, module, record.name) for owner, module in modules) if it and it.kind == "struct"), None)
+    item = next((it for it in (sources.resolve(owner, module, record.name) for owner, module in modules) if isinstance(it, sources.Item) and it.kind == "struct"), None)
     fields = [it.lines[0].partition(":")[0] for it in item.inner()] if item else []
     if len(fields) != len(record.members):
         sys.exit(f"tools/records has {len(record.members)} members of {record.name}, the sources {len(fields)}")
@@ -149,7 +149,7 @@ def enum_lines(listed):
 
 
 def page():
-    """The whole page."""
+    """The whole page, and what it lacks: records that the prose or the descriptions do not have."""
     known, listed, lines, seen = records(), enums(), [], []
     with open(PROSE, encoding="utf-8") as file:
         prose = file.read()
@@ -164,6 +164,5 @@ def page():
         elif not line.startswith("<!-- note: "):
             lines.append(line)
     wrong = {*seen} ^ {*known} | {*notes} - {*known}
-    if wrong:
-        sys.exit(f"tools/schema_page.md and tools/records do not agree on {', '.join(sorted(wrong))}")
-    return re.sub(r"\n{3,}", "\n\n", "\n".join(lines)).rstrip("\n") + "\n"
+    text = re.sub(r"\n{3,}", "\n\n", "\n".join(lines)).rstrip("\n") + "\n"
+    return text, [f"tools/schema_page.md and tools/records do not agree on {name}" for name in sorted(wrong)]
