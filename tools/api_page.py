@@ -29,9 +29,9 @@ Written by `tools/api` from the sources; `tools/api --check` compares. The facad
 the crates `oci_json`, `oci_text`, `oci_reference` and `oci_pin`, with what the facade does not have. The words of the
 contracts are defined in the crates' `specs/`; `rt lemma WORD` prints a definition.
 
-Of a call the page shows the signature and its clauses. In a clause `x.now` is what a reference points to, `self.old` and `self.new`
-what a mutable one points to before and after the call, and `IfOk`, `IfErr` and `OnOk` speak of the result where it is `Ok`, where it is `Err`,
-and of the call where its result is `Ok`.
+Of a call the page shows the signature and its clauses. In a clause `x.now` is what a reference points to, and `self.old` and `self.new`
+are what a mutable one points to before and after the call. `IfOk result p` says p of the value where the result is `Ok`, `IfErr result p`
+says it of the error where it is `Err`, and `OnOk result p` says p where the result is `Ok`.
 
 Records have tables of accessors, whose contracts are these, for a member `x` with the type `T`:
 
@@ -153,7 +153,8 @@ def implements(item):
         if " for " not in impl.head():
             continue
         name = re.sub(r"^impl(<.*?>)? ", "", impl.head().partition(" for ")[0]).replace("fmt::", "")
-        ghosts = [re.match(r"ghost (\w+) = \{ (.*) \};", re.sub(r"\s+", " ", " ".join(it.lines))) for it in impl.inner() if it.kind == "ghost"]
+        texts = [re.sub(r"\s+", " ", " ".join(it.lines)) for it in impl.inner() if it.kind == "ghost"]
+        ghosts = [re.match(r"ghost (\w+) = \{ (.*) \};", text) for text in texts]
         says = [f"`{it[1]}` is `{it[2]}`" for it in ghosts if it and it[1] not in PROOFS and len(it[2]) <= LONGEST_VALUE]
         told.append(f"`{name}`" + (f" ({', '.join(says)})" if says else ""))
     return [f"Implements {', '.join(dict.fromkeys(told))}.", ""] if told else []
@@ -207,7 +208,9 @@ def variants_of(item):
 def struct_lines(item, builder):
     """A struct: its public fields, its accessors, and its other calls; of its builder what is not a setter."""
     fields = [it for it in item.inner() if it.public] if len(item.lines) > 1 else []
-    lines = table(("field", "type", "what it is"), [(code(it.lines[0].split()[1].rstrip(":")), code(it.lines[0].partition(": ")[2].rstrip(",")), cell(it.doc)) for it in fields]) if fields else []
+    parted = [(*it.lines[0].removeprefix("pub ").rstrip(",").split(": ", 1), it.doc) for it in fields]
+    rows = [(code(field), code(kind), cell(doc)) for field, kind, doc in parted]
+    lines = table(("field", "type", "what it is"), rows) if rows else []
     shown = re.search(r'#\[error\("(.*?)"', " ".join(item.attributes))
     lines += [f"Displayed as {code(shown[1])}.", ""] if shown else []
     accessors = Accessors(item, builder)

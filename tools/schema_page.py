@@ -1,9 +1,9 @@
 """Writes docs/SCHEMA.md: the prose of tools/schema_page.md, with a table of each record of tools/records and the enums of tools/names.
 
 In the prose `<!-- records: NAME.. -->` gives way to the sections of these records, in this order, `<!-- note: NAME --> TEXT` is
-added to the section of its record, and `<!-- enums -->` gives way to the table of enums. A record that the prose does not name, or names and
-does not exist, is an error. The formats of the descriptions are told by tools/gen_records and tools/gen_names; what a page
-does not need of them is passed over. The accessors are those of the sources.
+added to the section of its record, and `<!-- enums -->` gives way to the table of enums. A record that only the prose or only a
+description has is reported. tools/gen_records and tools/gen_names say what a description holds; what the page does not need of
+it is passed over. The accessors are those of the sources.
 """
 import glob
 import re
@@ -101,11 +101,18 @@ def default_words(code, content):
     return f"`{re.sub(r'[(]alloc[)][?]', '', code)}`"
 
 
+def struct_of(name):
+    """The struct of a record, as the facade has it."""
+    for _, owner, module in sources.public_modules(sources.crate(FACADE)):
+        item = dict(sources.public_names(owner, module)).get(name)
+        if item and item.kind == "struct":
+            return item
+    return None
+
+
 def accessors(record):
     """The accessors of each member of a record, in order, as the sources have them."""
-    facade = sources.crate(FACADE)
-    modules = [(facade, ())] + [(owner, module) for _, owner, module in sources.public_modules(facade)]
-    item = next((it for it in (sources.resolve(owner, module, record.name) for owner, module in modules) if isinstance(it, sources.Item) and it.kind == "struct"), None)
+    item = struct_of(record.name)
     fields = [it.lines[0].partition(":")[0] for it in item.inner()] if item else []
     if len(fields) != len(record.members):
         sys.exit(f"tools/records has {len(record.members)} members of {record.name}, the sources {len(fields)}")
@@ -121,9 +128,10 @@ def told(record, note):
     says = [record.about]
     if record.required:
         says.append(f"Its builder requires {', '.join(f'`{field}`' for field in record.required)}.")
-    if "fixed" in record.words:
-        says.append(f"Its builder has no setter for `{record.words['fixed']}`, which is {default_words(*record.defaults[record.words['fixed']])}.")
-    defaults = [f"`{field}` {default_words(*value)}" for field, value in record.defaults.items() if field != record.words.get("fixed")]
+    fixed = record.words.get("fixed")
+    if fixed:
+        says.append(f"Its builder has no setter for `{fixed}`, which is {default_words(*record.defaults[fixed])}.")
+    defaults = [f"`{field}` {default_words(*value)}" for field, value in record.defaults.items() if field != fixed]
     if "whole" in record.words and "`try_default`" not in note:
         says.append(f"`try_default`: {', '.join(defaults)}." if defaults else "It has `try_default`.")
     says += ["It has reading and writing calls of its own."] if "calls" in record.words else []
@@ -144,7 +152,10 @@ def section(record, note, known, listed):
 
 
 def enum_lines(listed):
-    rows = [(f"`{name}`", ", ".join(f"**`{text}`**" if text == default else f"`{text}`" for text in texts)) for name, (texts, default) in listed.items()]
+    rows = []
+    for name, (texts, default) in listed.items():
+        shown = [f"**`{text}`**" if text == default else f"`{text}`" for text in texts]
+        rows.append((f"`{name}`", ", ".join(shown)))
     return api_page.table(("enum", "strings"), rows)
 
 
@@ -158,7 +169,8 @@ def page():
         names = re.fullmatch(r"<!-- records: (.*) -->", line)
         if names:
             seen += names[1].split()
-            lines += [it for name in names[1].split() if name in known for it in section(known[name], notes.get(name, ""), {*known, *listed}, listed)]
+            for name in (it for it in names[1].split() if it in known):
+                lines += section(known[name], notes.get(name, ""), {*known, *listed}, listed)
         elif line == "<!-- enums -->":
             lines += enum_lines(listed)
         elif not line.startswith("<!-- note: "):
