@@ -1,8 +1,8 @@
-"""Writes docs/API.md: the public types, constants and calls, with their contracts, as `rt_sources` reads them."""
+"""Writes docs/API.md: the public types, constants and calls, with their contracts, as `sources` reads them."""
 import glob
 import re
 
-import rt_sources as sources
+from pages import sources
 
 # the crates whose public names the page lists; of each, its modules follow
 ROOTS = ("oci_spec", "oci_json", "oci_text", "oci_reference", "oci_pin")

@@ -7,7 +7,7 @@ import functools
 import os
 import re
 
-TOP = os.path.dirname(os.path.dirname(os.path.abspath(__file__)))
+TOP = os.path.dirname(os.path.dirname(os.path.dirname(os.path.abspath(__file__))))
 WORDS = r"(?:pub(?:\(\w+\))? )?(?:const (?=fn))?(fn|struct|enum|trait|const|static|type|mod|macro_rules!)(?= )"
 
 

@@ -1,4 +1,4 @@
-"""Writes docs/SCHEMA.md: the prose of tools/schema_page.md, with a table of each record of tools/records and the enums of tools/names.
+"""Writes docs/SCHEMA.md: the prose of tools/pages/schema.md, with a table of each record of tools/records and the enums of tools/names.
 
 In the prose `<!-- records: NAME.. -->` gives way to the sections of these records, in this order, `<!-- note: NAME --> TEXT` is
 added to the section of its record, and `<!-- enums -->` gives way to the table of enums. A record that only the prose or only a
@@ -9,10 +9,9 @@ import glob
 import re
 import sys
 
-import api_page
-import rt_sources as sources
+from pages import api, sources
 
-PROSE = f"{sources.TOP}/tools/schema_page.md"
+PROSE = f"{sources.TOP}/tools/pages/schema.md"
 FACADE = "oci_spec"
 # of each presence, what it is called, with serde's attributes
 PRESENCES = {
@@ -116,7 +115,7 @@ def accessors(record):
     fields = [it.lines[0].partition(":")[0] for it in item.inner()] if item else []
     if len(fields) != len(record.members):
         sys.exit(f"tools/records has {len(record.members)} members of {record.name}, the sources {len(fields)}")
-    calls = api_page.Accessors(item, None).fields
+    calls = api.Accessors(item, None).fields
     for field in fields:
         own = calls.get(field, {})
         spelled = {"get": "`{}()`", "copy": "`{}()` (copy)", "set": "`{}(..)`", "mut": "`{}()`"}
@@ -146,9 +145,9 @@ def section(record, note, known, listed):
     for (presence, name, kind, _, text), calls in zip(record.members, accessors(record)):
         name, _, alias = name.partition("|")
         named = f"`{name}`" + (f", alias `{alias}`" if alias else "")
-        rows.append((named, type_of(kind, known), PRESENCES[presence].format(absent(kind, listed)), calls, api_page.cell(text)))
+        rows.append((named, type_of(kind, known), PRESENCES[presence].format(absent(kind, listed)), calls, api.cell(text)))
     titles = ("member", "type", "presence", "accessors", "what it is")
-    return [f"#### {record.name}", "", told(record, note), "", *api_page.table(titles, rows)]
+    return [f"#### {record.name}", "", told(record, note), "", *api.table(titles, rows)]
 
 
 def enum_lines(listed):
@@ -156,7 +155,7 @@ def enum_lines(listed):
     for name, (texts, default) in listed.items():
         shown = [f"**`{text}`**" if text == default else f"`{text}`" for text in texts]
         rows.append((f"`{name}`", ", ".join(shown)))
-    return api_page.table(("enum", "strings"), rows)
+    return api.table(("enum", "strings"), rows)
 
 
 def page():
@@ -177,4 +176,4 @@ def page():
             lines.append(line)
     wrong = {*seen} ^ {*known} | {*notes} - {*known}
     text = re.sub(r"\n{3,}", "\n\n", "\n".join(lines)).rstrip("\n") + "\n"
-    return text, [f"tools/schema_page.md and tools/records do not agree on {name}" for name in sorted(wrong)]
+    return text, [f"tools/pages/schema.md and tools/records do not agree on {name}" for name in sorted(wrong)]
