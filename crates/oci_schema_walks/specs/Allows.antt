@@ -89,26 +89,37 @@ either_allowed presence f found None = member_allowed presence f found
 either_allowed presence f None (Some d) = member_allowed presence f (Some d)
 either_allowed presence f (Some c) (Some d) = false
 
+-- where `f` is the test of details
 abbrev mutual
-  pub allows : Shape → Data → Bool
-  allows text d = is_some (as_str d)
-  allows truth d = is_some (as_bool d)
-  allows (whole low high) d = is_in_range low high (as_whole d)
-  allows (named table) d = text_allowed (is_listed table) (as_str d)
-  allows (open_name table) d = is_some (as_str d)
-  allows digest_text d = text_allowed is_digest_text (as_str d)
-  allows cpu_text d = text_allowed is_cpu_text (as_str d)
-  allows (cap_set table) d = items_allowed (names_capability table) (as_array d)
-  allows (list s) d = items_allowed (allows s) (as_array d)
-  allows (shape.map s) d = members_allowed (allows s) (as_object d)
-  allows key_set d = members_allowed is_object (as_object d)
-  allows detail d = not (is_some (as_null d)) && not (has_float d)
-  allows free_map d = are_free (as_object d)
-  allows (rows rs) d = is_object d && rows_allow rs d
+  pub allows_by : (Data → Bool) → Shape → Data → Bool
+  allows_by f text d = is_some (as_str d)
+  allows_by f truth d = is_some (as_bool d)
+  allows_by f (whole low high) d = is_in_range low high (as_whole d)
+  allows_by f (named table) d = text_allowed (is_listed table) (as_str d)
+  allows_by f (open_name table) d = is_some (as_str d)
+  allows_by f digest_text d = text_allowed is_digest_text (as_str d)
+  allows_by f cpu_text d = text_allowed is_cpu_text (as_str d)
+  allows_by f (cap_set table) d = items_allowed (names_capability table) (as_array d)
+  allows_by f (list s) d = items_allowed (allows_by f s) (as_array d)
+  allows_by f (shape.map s) d = members_allowed (allows_by f s) (as_object d)
+  allows_by f key_set d = members_allowed is_object (as_object d)
+  allows_by f detail d = f d
+  allows_by f free_map d = are_free (as_object d)
+  allows_by f (rows rs) d = is_object d && rows_allow_by f rs d
 
-  pub rows_allow : Rows → Data → Bool
-  rows_allow no_rows d = true
-  rows_allow (row name alias presence s rs) d = either_allowed presence (allows s) (get name d) (get_second alias d) && rows_allow rs d
+  pub rows_allow_by : (Data → Bool) → Rows → Data → Bool
+  rows_allow_by f no_rows d = true
+  rows_allow_by f (row name alias presence s rs) d = either_allowed presence (allows_by f s) (get name d) (get_second alias d) && rows_allow_by f rs d
+
+-- any value but null, in which each number is a 64-bit integer
+abbrev pub detail_allowed : Data → Bool
+detail_allowed d = not (is_some (as_null d)) && not (has_float d)
+
+abbrev pub allows : Shape → Data → Bool
+allows = allows_by detail_allowed
+
+abbrev pub rows_allow : Rows → Data → Bool
+rows_allow = rows_allow_by detail_allowed
 
 -- a member of a record, over a table with these shapes
 abbrev pub known_allowed : (ℕ → Shape) → Member → Data → Bool

@@ -4,7 +4,7 @@ use Rattle.serde_json.specs.Data.{Data, null, number, array, object, Items, no_i
 use Rattle.serde_json.specs.Find.{as_array, as_object, of_integer, get}
 use Rattle.serde_json.specs.Read.{read}
 use Rattle.serde_json.specs.Written.{has_float, compact_text}
-use Rattle.oci_json_model.specs.Means.{Means, as_whole, is_object, get_second, member_names, unless_null}
+use Rattle.oci_json_model.specs.Means.{Means, as_whole, get_second, member_names, unless_null}
 use Rattle.oci_json_model.specs.Plain.{Plain}
 use Rattle.oci_json_model.specs.Refused.{IsRefused}
 use Rattle.oci_json_model.specs.WellFormed.{WellFormed, MemberIsWellFormed}
@@ -12,7 +12,7 @@ use Rattle.oci_json_model.specs.Writable.{Writable}
 use Rattle.oci_json_model.specs.Shape.{Presence, required, defaulted, optional, nullable, unless_empty, Shape, text, truth, whole, named, open_name, digest_text, cpu_text, cap_set, list, key_set, detail, free_map, rows, Rows, no_rows, row}
 use Rattle.oci_json_model.specs.Shape as shape
 use Rattle.oci_json_model.specs.Value.{value, capability_texts, sorted, empty_objects, with_member, is_empty_array}
-use Rattle.oci_schema_walks.specs.Allows.{allows, set_in, items_allowed, members_allowed, either_allowed}
+use Rattle.oci_schema_walks.specs.Allows.{allows_by, rows_allow_by, detail_allowed, set_in, either_allowed}
 use Rattle.oci_schema_types.specs.Shapes.{presence_of, alias_of, schema_shape}
 use Rattle.oci_schema_types.specs.declared.record.Member.{Member}
 
@@ -23,27 +23,16 @@ abbrev pub is_kept : Option Data → Bool
 is_kept None = false
 is_kept (Some d) = not (has_float d)
 
--- valid, and what it decodes to is serializable: a detail nests no deeper than a JSON text may
-abbrev mutual
-  pub accepts : Shape → Data → Bool
-  accepts text d = allows text d
-  accepts truth d = allows truth d
-  accepts (whole low high) d = allows (whole low high) d
-  accepts (named table) d = allows (named table) d
-  accepts (open_name table) d = allows (open_name table) d
-  accepts digest_text d = allows digest_text d
-  accepts cpu_text d = allows cpu_text d
-  accepts (cap_set table) d = allows (cap_set table) d
-  accepts (list s) d = items_allowed (accepts s) (as_array d)
-  accepts (shape.map s) d = members_allowed (accepts s) (as_object d)
-  accepts key_set d = allows key_set d
-  accepts detail d = allows detail d && is_kept (read (compact_text d))
-  accepts free_map d = allows free_map d
-  accepts (rows rs) d = is_object d && rows_accept rs d
+-- such a detail is parsed again from its text, so it nests no deeper than a JSON text may
+abbrev pub detail_accepted : Data → Bool
+detail_accepted d = detail_allowed d && is_kept (read (compact_text d))
 
-  pub rows_accept : Rows → Data → Bool
-  rows_accept no_rows d = true
-  rows_accept (row name alias presence s rs) d = either_allowed presence (accepts s) (get name d) (get_second alias d) && rows_accept rs d
+-- valid, and what it decodes to is serializable
+abbrev pub accepts : Shape → Data → Bool
+accepts = allows_by detail_accepted
+
+abbrev pub rows_accept : Rows → Data → Bool
+rows_accept = rows_allow_by detail_accepted
 
 -- a member of a record, over a table that has at each place a record of the shape `f place`
 abbrev pub known_accepted : (ℕ → Shape) → Member → Data → Bool
