@@ -13,7 +13,7 @@ use oci_image_manifest::{ArtifactManifest, ImageIndex, ImageManifest, OciLayout}
 use oci_json_io::{from_slice, to_string};
 use oci_reference::Reference;
 use oci_runtime::{ContainerProcessState, Spec, State};
-use oci_spec::forms::{Tabled, normalize};
+use oci_spec::schema::{HasSchema, normalize_as};
 use serde_json::Value;
 use std::alloc::Global;
 
@@ -45,8 +45,8 @@ impl DocumentCall {
     }
 }
 
-/// Makes the call once on the bytes, or on the document of them, and lets go of all that it made.
-fn make<T: Tabled>(
+/// Makes the call once on the bytes, or on the document of them, and drops all that it made.
+fn make<T: HasSchema>(
     alloc: Global,
     call: DocumentCall,
     bytes: &[u8],
@@ -66,14 +66,14 @@ fn make<T: Tabled>(
         }
         DocumentCall::Normalize => {
             let mut written = Vec::new(alloc);
-            normalize::<T, _, _>(alloc, bytes, &mut written)?;
+            normalize_as::<T, _, _>(alloc, bytes, &mut written)?;
         }
     }
     Ok(())
 }
 
 /// Makes the call as often as is asked. The document is read before only where the call writes it.
-fn repeat<T: Tabled>(alloc: Global, bytes: &[u8], run: Run<DocumentCall>) -> Result<()> {
+fn repeat<T: HasSchema>(alloc: Global, bytes: &[u8], run: Run<DocumentCall>) -> Result<()> {
     let read: Option<T> = match run.call {
         DocumentCall::Write => Some(from_slice(alloc, bytes)?),
         _ => None,

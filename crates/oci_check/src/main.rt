@@ -1,12 +1,12 @@
-//! The program `ocicheck`: reads a document from its input, and writes all that the tables of its kind refuse in it, a line
-//! each: the place, as a JSON pointer (RFC 6901), and what was wanted there. It ends in 0 where nothing is refused, in 1 where
-//! something is, and in 2 where its one word names no kind.
+//! The program `ocicheck`: reads a document from standard input and writes all its schema violations, a line each: the JSON
+//! pointer (RFC 6901) of the part and what was expected there. It exits with 0 if there is none, with 1 if there is one, and
+//! with 2 if its one argument names no kind of document.
 #![tactic(auto)]
 
 mod report;
 
-use bumpalo::Bump;
 use oci_doc_run::Kind;
+use oci_schemas::OciRecords;
 use oci_text_base::Result;
 use report::judge;
 use std::env;
@@ -16,7 +16,7 @@ use std::process::ExitCode;
 const USAGE: &str = "usage: ocicheck KIND < DOCUMENT
 KIND: manifest | index | config | artifact | layout | descriptor | error | repositories | tags | reference | spec | state | process-state | features";
 
-/// The kind that the program's words ask for.
+/// The kind that the program's arguments name.
 fn asked<R: std::rt::Env + AllocGlobal>(rt: &R) -> Result<Option<Kind>> {
     let mut words = env::args(rt)?.skip(1);
     let Some(word) = words.next() else {
@@ -35,12 +35,10 @@ fn run(rt: &HostRuntime) -> Result<u8> {
     };
     let mut bytes = Vec::new(rt.alloc());
     rt.stdin().read_to_end(&mut bytes)?;
-    let room = Bump::new(rt.alloc());
-    let form = kind.form(&room)?;
-    let found = judge(form, bytes.as_slice(), rt.alloc())?;
+    let found = judge(&OciRecords, kind.schema(), bytes.as_slice(), rt.alloc())?;
     let lines = found.lines.as_str();
     print!(rt; "{lines}")?;
-    Ok(if found.sound { 0 } else { 1 })
+    Ok(if found.is_valid { 0 } else { 1 })
 }
 
 fn main(rt: HostRuntime) -> ExitCode {

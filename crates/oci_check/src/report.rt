@@ -1,12 +1,11 @@
-//! What a form refuses in the bytes of a document.
+//! The schema violations in the bytes of a document.
 ghost use Rattle.std.specs.Prelude.{◌≡◌, ◌↔◌, true, IfOk, IfErr};
 ghost use Rattle.oci_json_model.specs.Plain.{Plain};
 ghost use Rattle.oci_json_io.specs.Engines.{MeansBytes};
 ghost use Rattle.oci_text_base.specs.Refused.{IsMemory};
-ghost use Rattle.oci_schema_walks.specs.Tables.{shape_of};
+ghost use Rattle.oci_schema_types.specs.Shapes.{schema_shape};
 
-use oci_schema::faults;
-use oci_schema_walks::{Fault, Form};
+use oci_schema::{Records, Schema, Violation, violations};
 use oci_text_base::{OciSpecError, Result};
 use serde_json::Value;
 use std::alloc::{AllocError, Global};
@@ -14,24 +13,30 @@ use std::alloc::{AllocError, Global};
 /// What was found in the bytes of a document.
 #[derive(Drop)]
 pub struct Report {
-    /// A line for each part that is refused.
+    /// A line for each violation.
     pub lines: String,
-    /// Whether nothing is.
-    pub sound: bool,
+    /// Whether there is none.
+    pub is_valid: bool,
 }
 
-/// What the form refuses in the bytes; it refuses nothing exactly where they are a document.
+/// Returns the violations of the schema in the bytes: none exactly if they are JSON that is valid. Bytes that are no JSON are one
+/// violation at the root. Fails with `Memory` alone, if out of memory.
 #[tactic(auto, using(crate::proofs::Bytes::read_tells, crate::proofs::Bytes::no_json_tells))]
-pub fn judge(form: &Form<'_>, bytes: &[u8], alloc: Global) -> Result<Report>
-    ensures sound { IfOk result (λ r. (r.sound ≡ true) ↔ ((p : Plain) × MeansBytes (shape_of form.now) bytes.now p)) }
+pub fn judge<T: Records>(
+    records: &T,
+    schema: &Schema,
+    bytes: &[u8],
+    alloc: Global,
+) -> Result<Report>
+    ensures valid { IfOk result (λ r. (r.is_valid ≡ true) ↔ ((p : Plain) × MeansBytes (schema_shape (T.shape_at records.now) schema.now) bytes.now p)) }
     ensures kind { IfErr result IsMemory }
 {
     match Value::from_slice(alloc, bytes) {
         Ok(value) => {
-            let found = faults(form, &value, alloc)?;
+            let found = violations(records, schema, &value, alloc)?;
             let lines = lines_of(&found, alloc)?;
-            let sound = found.is_empty();
-            Ok(Report { lines, sound })
+            let is_valid = found.is_empty();
+            Ok(Report { lines, is_valid })
         }
         Err(fault) => {
             if fault.is_memory() {
@@ -40,19 +45,19 @@ pub fn judge(form: &Form<'_>, bytes: &[u8], alloc: Global) -> Result<Report>
             let lines = String::from_str(alloc, ": a JSON text\n")?;
             Ok(Report {
                 lines,
-                sound: false,
+                is_valid: false,
             })
         }
     }
 }
 
-/// A line for each fault.
-fn lines_of(found: &Vec<Fault>, alloc: Global) -> std::result::Result<String, AllocError> {
+/// A line for each violation.
+fn lines_of(found: &Vec<Violation>, alloc: Global) -> std::result::Result<String, AllocError> {
     let mut lines = String::new(alloc);
-    for fault in found {
-        let pointer = fault.pointer.as_str();
-        let wanted = fault.wanted;
-        let line = format!(in alloc; "{pointer}: {wanted}\n")?;
+    for violation in found {
+        let pointer = violation.pointer.as_str();
+        let expected = violation.expected;
+        let line = format!(in alloc; "{pointer}: {expected}\n")?;
         lines.push_str(line.as_str())?;
     }
     Ok(lines)

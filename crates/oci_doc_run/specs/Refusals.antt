@@ -12,7 +12,7 @@ use Rattle.oci_json_io.specs.Engines.{AppendsSome, WritesDocument, IsNoJson, IsN
 use Rattle.oci_reference_scan.specs.declared.error.ParseError.{ParseError}
 use Rattle.oci_reference_scan.specs.declared.error.ParseError.TheVariants as parse
 use Rattle.oci_reference.specs.Accepted as reference_texts
-use Rattle.oci_schema.specs.Pretty.{WritesPretty}
+use Rattle.oci_schema.specs.Normalizes.{WritesPretty}
 use Rattle.oci_doc_run.specs.declared.refusal.Refusal.{Refusal}
 use Rattle.oci_doc_run.specs.declared.refusal.Refusal.TheVariants.{Other, Io, Json, Schema, Builder, Memory, Reference}
 use Rattle.oci_doc_run.specs.Commands.{Asked, norm, pretty, reference, digest, pin}

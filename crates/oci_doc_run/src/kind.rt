@@ -1,11 +1,11 @@
 //! The kinds of documents.
-ghost use Rattle.std.specs.Prelude.{◌≡◌, IfOk};
+ghost use Rattle.std.specs.Prelude.{◌≡◌};
 ghost use Rattle.oci_json_model.specs.WellFormed.{WellFormed};
-ghost use Rattle.oci_schema_walks.specs.Tables.{shape_of as form_shape};
+ghost use Rattle.oci_schema_types.specs.Shapes.{schema_shape, shape_at};
+ghost use Rattle.oci_schemas.specs.Table.{shapes};
 ghost use Rattle.oci_doc_run.specs.Kinds.{kind_of, shape_of};
 
-use bumpalo::Bump;
-use oci_schema_walks::Form;
+use oci_schema_types::Schema;
 use oci_schemas::distribution::{error_response, repository_list, tag_list};
 use oci_schemas::features::features;
 use oci_schemas::image::image_configuration;
@@ -14,7 +14,6 @@ use oci_schemas::image_manifest::{artifact_manifest, image_index, image_manifest
 use oci_schemas::reference::reference;
 use oci_schemas::runtime_records::{container_process_state, state};
 use oci_schemas::runtime_spec::spec;
-use std::alloc::AllocError;
 
 /// A kind of document, which the program names by one word.
 #[derive(Clone, Copy, Debug, PartialEq, Eq)]
@@ -73,26 +72,32 @@ impl Kind {
         }
     }
 
-    /// The form of the kind's documents. What of it is no constant is made in the room.
-    pub fn form<'a>(self, room: &'a Bump) -> Result<&'a Form<'a>, AllocError>
-        ensures shape { IfOk result (λ f. form_shape f.now ≡ shape_of self) }
-        ensures well { IfOk result (λ f. WellFormed (form_shape f.now)) }
+    /// Returns the schema of the kind's documents, by the records of `OciRecords`.
+    pub fn schema(self) -> &'static Schema
+        ensures shape { schema_shape (shape_at shapes) result.now ≡ shape_of self }
+        ensures well { WellFormed (schema_shape (shape_at shapes) result.now) }
+    {
+        self.table()
+    }
+
+    fn table(self) -> &'static Schema
+        ensures { schema_shape (shape_at shapes) result.now ≡ shape_of self }
     {
         match self {
-            Kind::Manifest => Ok(image_manifest()),
-            Kind::Index => Ok(image_index()),
-            Kind::Config => Ok(image_configuration()),
-            Kind::Artifact => Ok(artifact_manifest()),
-            Kind::Layout => Ok(oci_layout()),
-            Kind::Descriptor => Ok(descriptor()),
-            Kind::Error => Ok(error_response()),
-            Kind::Repositories => Ok(repository_list()),
-            Kind::Tags => Ok(tag_list()),
-            Kind::Reference => Ok(reference()),
-            Kind::Spec => spec(room),
-            Kind::State => Ok(state()),
-            Kind::ProcessState => Ok(container_process_state()),
-            Kind::Features => features(room),
+            Kind::Manifest => image_manifest(),
+            Kind::Index => image_index(),
+            Kind::Config => image_configuration(),
+            Kind::Artifact => artifact_manifest(),
+            Kind::Layout => oci_layout(),
+            Kind::Descriptor => descriptor(),
+            Kind::Error => error_response(),
+            Kind::Repositories => repository_list(),
+            Kind::Tags => tag_list(),
+            Kind::Reference => reference(),
+            Kind::Spec => spec(),
+            Kind::State => state(),
+            Kind::ProcessState => container_process_state(),
+            Kind::Features => features(),
         }
     }
 }

@@ -17,28 +17,28 @@ ghost use Rattle.oci_json.specs.Depths.{nesting, is_closed};
 ghost use Rattle.oci_json.specs.Details.{HasNoNullDetail};
 ghost use Rattle.oci_json.specs.Examples.{system, windows, named, second_named, twice_named};
 
-/// A JSON tree means at most one plain tree, and that fits the shape.
+/// A JSON value decodes to one content at most, and that fits the shape.
 #[tactic(auto, using(crate::proofs::OneMeaning::one_meaning, crate::proofs::MeaningFits::fits))]
 pub fn one_meaning()
     ensures one { (s : Shape) (v : Data) (p q : Plain) → WellFormed s → Means s v p → Means s v q → p ≡ q }
     ensures fits { (s : Shape) (v : Data) (p : Plain) → WellFormed s → Means s v p → Fits s p }
 {}
 
-/// What is written for a writable plain tree means exactly its normal form, and nothing else.
+/// What is written for serializable content decodes to exactly its normal form, and nothing else.
 #[tactic(auto, using(crate::proofs::Canonical::reads_back))]
 pub fn reads_back()
     ensures { (s : Shape) (p q : Plain) → WellFormed s → Fits s p → Writable s p
         → Means s (value s p) q ↔ (q ≡ norm s p) }
 {}
 
-/// A normal form fits, is writable, and is its own normal form.
+/// A normal form fits, is serializable, and is its own normal form.
 #[tactic(auto, using(crate::proofs::Canonical::norm_stable))]
 pub fn norm_stable()
     ensures { (s : Shape) (p : Plain) → WellFormed s → Fits s p → Writable s p
         → Fits s (norm s p) × Writable s (norm s p) × (norm s (norm s p) ≡ norm s p) }
 {}
 
-/// Two plain trees have equal values exactly if they have equal normal forms. A `detail` that reads as null is left
+/// Two contents have equal values exactly if they have equal normal forms. A `detail` that reads as null is left
 /// out of account: it is written as null and none is omitted, though both have the same normal form.
 #[tactic(auto, using(crate::proofs::Canonical::values_apart))]
 pub fn values_apart()
@@ -60,20 +60,20 @@ pub fn reads_again()
     ensures { (t : List ℕ) (v : Data) → read t ≡ Some v → has_float v ≡ false → read (compact_text v) ≡ Some v }
 {}
 
-/// What a text means is writable.
+/// What a JSON text decodes to is serializable.
 #[tactic(auto, using(crate::proofs::ReadIsWritable::read_is_writable))]
 pub fn read_is_writable()
     ensures { (s : Shape) (t : List ℕ) (v : Data) (p : Plain) → WellFormed s → read t ≡ Some v → Means s v p
         → Writable s p }
 {}
 
-/// Each plain tree is writable by a shape without `detail`, free maps and CPU lists.
+/// All content of a shape without `detail`, free maps and CPU lists is serializable.
 #[tactic(auto, using(oci_json_model::proofs::AlwaysWritable::always_writable))]
 pub fn always_writable()
     ensures { (s : Shape) (p : Plain) → is_always_writable s ≡ true → Writable s p }
 {}
 
-/// A member that is not listed does not change what an object means.
+/// An unknown member does not change what an object decodes to.
 pub fn unlisted()
     ensures { (rs : Rows) (k : List ℕ) (d : Data) (ms : Members) (p : Plain) → is_listed (names rs) k ≡ false
         → Means (rows rs) (object (put k d ms)) p ↔ Means (rows rs) (object ms) p }
@@ -86,7 +86,7 @@ pub fn whole_numbers()
 {}
 
 /// What is written for what a text means, means the normal form. The normal form is written as the same bytes, so what is
-/// written is written again as it stands, and equal normal forms are written alike. What is written is read back where the
+/// written is written again unchanged, and equal normal forms are written alike. What is written is read back where the
 /// defaults of the shape are readable and it nests no deeper than a text may. Where two texts that are written are read
 /// back, they are equal exactly if the normal forms are.
 #[tactic(auto, using(crate::proofs::NormalText::means_norm, crate::proofs::NormalText::once, crate::proofs::NormalText::twice, crate::proofs::NormalText::same, crate::proofs::NormalText::is_read, crate::proofs::NormalText::apart))]
@@ -118,7 +118,7 @@ pub fn depths()
         → nesting s ≤ max_depth → depth (value s p) ≤ max_depth }
 {}
 
-/// A member with a second name is read under either, is written under its name, and under both it is refused.
+/// A member with an alias is read under either name, is written under its own, and under both it is rejected.
 pub fn second_names()
     ensures by_name { Means system named windows }
     ensures by_second { Means system second_named windows }

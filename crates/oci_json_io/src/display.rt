@@ -8,8 +8,8 @@ use oci_json_model::OciRecord;
 use std::alloc::Global;
 use std::fmt;
 
-/// Writes the pretty text of a document to a formatter, made in memory of `alloc`; a formatting error where memory, the
-/// formatter or the document refuses. Widths are not looked at.
+/// Writes a document to a formatter as pretty JSON, made in memory of `alloc`. Fails with a formatting error if out of memory, if
+/// the formatter fails, or if the document is not serializable. Widths are ignored.
 pub fn display_pretty<T: OciRecord, W: fmt::Write>(
     x: &T,
     alloc: Global,

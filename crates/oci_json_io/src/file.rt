@@ -11,7 +11,7 @@ use std::alloc::Global;
 use std::fs;
 use std::rt::Files;
 
-/// Reads a document of a file; refused as by `from_reader`, or with `Io` where the file can't be opened.
+/// Reads a document from a file. Fails as `from_reader`, and with `Io` if the file cannot be opened.
 pub fn from_file<T: OciRecord, R: Files>(rt: &R, alloc: Global, path: &str) -> Result<T>
     ensures kind { IfErr result IsMemorySerDeOrIo }
 {
@@ -19,8 +19,8 @@ pub fn from_file<T: OciRecord, R: Files>(rt: &R, alloc: Global, path: &str) -> R
     from_reader(alloc, file)
 }
 
-/// Writes the compact text of a document to a file, which is created or emptied. The text is made before the file is opened, so
-/// the file is as it was after `SerDe(Schema)` and `Memory`.
+/// Serializes a document to a file as compact JSON. The file is created or truncated, after the text was made: it is unchanged if
+/// the error is `SerDe(Schema)` or `Memory`. Fails with `Io` if it cannot be opened or written.
 pub fn to_file<T: OciRecord, R: Files>(rt: &R, x: &T, alloc: Global, path: &str) -> Result<()>
     ensures writable { OnOk result (Writable T.shape (T.plain x.now)) }
     ensures err { IfErr result (λ e. IsSchema e → ¬ Writable T.shape (T.plain x.now)) }
@@ -33,7 +33,7 @@ pub fn to_file<T: OciRecord, R: Files>(rt: &R, x: &T, alloc: Global, path: &str)
     Ok(())
 }
 
-/// Writes the pretty text of a document to a file, as `to_file` writes the compact one.
+/// Serializes a document to a file as pretty JSON. Fails as `to_file`.
 pub fn to_file_pretty<T: OciRecord, R: Files>(
     rt: &R,
     x: &T,

@@ -13,8 +13,9 @@ use oci_text_base::Result;
 use std::alloc::Global;
 use std::io::{Read, Write};
 
-/// Reads a document, and writes its compact text: members that are not listed are left out, the others stand in byte order of
-/// their names. Refused as by `from_reader` and `to_writer`.
+/// Reads a document to its end and writes its canonical (normal) form as compact JSON: unknown members are left out, the others
+/// are in byte order of their names. Fails as `from_reader` and `to_writer`. It makes the typed document; for a type with a schema
+/// `oci_spec::schema::normalize_as` does the same without.
 #[tactic(auto, using(crate::proofs::Bytes::keeps))]
 pub fn normalize<T: OciRecord, R: Read + Drop, W: Write>(
     alloc: Global,
@@ -36,7 +37,7 @@ pub fn normalize<T: OciRecord, R: Read + Drop, W: Write>(
     Ok(())
 }
 
-/// The compact text of a document, which is let go of before the text is made; refused as by `to_string`.
+/// Serializes a document to compact JSON. Drops the document first, so that peak memory is one copy. Fails as `to_string`.
 #[tactic(auto, using(crate::proofs::Texts::none_in, crate::proofs::Texts::read_back))]
 fn text_of<T: OciRecord>(document: T, alloc: Global) -> Result<String>
     ensures ok { IfOk result (IsCompactText (json_of T.shape (T.plain document))) }

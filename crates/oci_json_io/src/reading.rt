@@ -10,8 +10,8 @@ use serde_json::Value;
 use std::alloc::Global;
 use std::io::Read;
 
-/// Reads a document of the bytes: `SerDe(Json)` where they are no JSON text (bytes that are not UTF-8 and nesting past 127
-/// too), `SerDe(Schema)` where they are JSON that is no such document.
+/// Deserializes a document from bytes. Fails with `SerDe(Json)` if they are not JSON (not UTF-8 or nested deeper than 127 levels,
+/// too), with `SerDe(Schema)` if they are JSON that the schema rejects, and with `Memory` if out of memory.
 pub fn from_slice<T: OciRecord>(alloc: Global, bytes: &[u8]) -> Result<T>
     ensures ok { IfOk result (λ x. MeansBytes T.shape bytes.now (T.plain x)) }
     ensures json { IfErr result (λ e. IsJson e → IsNoJson bytes.now) }
@@ -22,7 +22,7 @@ pub fn from_slice<T: OciRecord>(alloc: Global, bytes: &[u8]) -> Result<T>
     T::from_value_owned(alloc, value)
 }
 
-/// The value of a JSON text; `SerDe(Json)` where it is none.
+/// Parses bytes as JSON. Fails with `SerDe(Json)` if they are not.
 fn value_of(alloc: Global, bytes: &[u8]) -> Result<Value>
     ensures ok { IfOk result (λ v. ReadsAs bytes.now (view v)) }
     ensures json { IfErr result (λ e. IsJson e → IsNoJson bytes.now) }
@@ -41,8 +41,8 @@ fn value_of(alloc: Global, bytes: &[u8]) -> Result<Value>
     }
 }
 
-/// All that is left to read. A fault of the reader is answered, also an interrupted read; each read makes the bytes longer, so
-/// a reader that never ends is answered `Memory`.
+/// Reads to the end. Fails with the reader's first error, an interrupted read included, and with `Memory` if out of memory, as for
+/// a reader that never ends.
 fn read_all<R: Read>(alloc: Global, reader: &mut R) -> Result<Vec<u8>>
     ensures ok { IfOk result (λ bytes. IfSome (R.remaining reader.old) (λ all. bytes.items ≡ all)) }
     ensures kind { IfErr result IsMemoryOrIo }
@@ -58,8 +58,8 @@ fn read_all<R: Read>(alloc: Global, reader: &mut R) -> Result<Vec<u8>>
     }
 }
 
-/// The value of all that is left to read, a JSON text; refused with `SerDe(Json)` where it is none, or with `Io` where a read
-/// failed. The bytes are let go of before the value is answered.
+/// Reads to the end and parses the bytes as JSON. Fails with `SerDe(Json)` if they are not JSON, or with `Io` if a read fails. The
+/// bytes are dropped before the value is returned.
 pub fn value_from_reader<R: Read + Drop>(alloc: Global, mut reader: R) -> Result<Value>
     ensures ok { IfOk result (λ v. IfSome (R.remaining reader) (λ bytes. ReadsAs bytes (view v))) }
     ensures json { IfErr result (λ e. IsJson e → IfSome (R.remaining reader) IsNoJson) }
@@ -70,7 +70,7 @@ pub fn value_from_reader<R: Read + Drop>(alloc: Global, mut reader: R) -> Result
     value_of(alloc, bytes.as_slice())
 }
 
-/// Reads a document of all that is left to read; refused as by `from_slice`, or with `Io` where a read failed.
+/// Reads to the end and deserializes a document. Fails as `from_slice`, and with `Io` if a read fails.
 pub fn from_reader<T: OciRecord, R: Read + Drop>(alloc: Global, reader: R) -> Result<T>
     ensures ok { IfOk result (λ x. IfSome (R.remaining reader) (λ bytes. MeansBytes T.shape bytes (T.plain x))) }
     ensures json { IfErr result (λ e. IsJson e → IfSome (R.remaining reader) IsNoJson) }

@@ -12,7 +12,8 @@ use std::alloc::Global;
 use std::io;
 use std::io::{ErrorKind, Write};
 
-/// The compact text of a document, members in byte order of their names; `SerDe(Schema)` where the document is not writable.
+/// Serializes a document to compact JSON, members in byte order of their names. Fails with `SerDe(Schema)` if it is not
+/// serializable, and with `Memory` if out of memory.
 #[tactic(auto, using(crate::proofs::Texts::none_in, crate::proofs::Texts::read_back, crate::proofs::Texts::memory_alone))]
 pub fn to_string<T: OciRecord>(x: &T, alloc: Global) -> Result<String>
     ensures ok { IfOk result (IsCompactText (json_of T.shape (T.plain x.now))) }
@@ -26,8 +27,8 @@ pub fn to_string<T: OciRecord>(x: &T, alloc: Global) -> Result<String>
     Ok(value.to_string(alloc)?)
 }
 
-/// The pretty text of a document: a line a member or item, two spaces a level, no line feed at the end;
-/// `SerDe(Schema)` where the document is not writable.
+/// Serializes a document to pretty JSON: a line for each member or item, indented by two spaces a level, no newline at the end.
+/// Fails as `to_string`.
 #[tactic(auto, using(crate::proofs::Texts::is_pretty, crate::proofs::Texts::memory_alone))]
 pub fn to_string_pretty<T: OciRecord>(x: &T, alloc: Global) -> Result<String>
     ensures ok { IfOk result (IsPrettyText (json_of T.shape (T.plain x.now))) }
@@ -40,8 +41,8 @@ pub fn to_string_pretty<T: OciRecord>(x: &T, alloc: Global) -> Result<String>
     Ok(value.to_string_pretty(alloc)?)
 }
 
-/// Writes the bytes, and flushes. A fault of the writer is answered, also an interrupted write; a write that takes no byte
-/// is a fault of kind `WriteZero`.
+/// Writes all bytes and flushes. Fails with the writer's first error, an interrupted write included; a write that takes no byte is
+/// an error of kind `WriteZero`.
 pub fn write_text<W: Write>(bytes: &[u8], writer: &mut W) -> io::Result<()>
     ensures ok { OnOk result (Appends (W.contents writer.old) (W.contents writer.new) bytes.now) }
     ensures err { OnErr result (AppendsSome (W.contents writer.old) (W.contents writer.new) bytes.now) }
@@ -57,7 +58,8 @@ pub fn write_text<W: Write>(bytes: &[u8], writer: &mut W) -> io::Result<()>
     writer.flush()
 }
 
-/// Writes the compact text of a document, and flushes. After `Io` a beginning of it was written, after any other refusal nothing.
+/// Serializes a document to compact JSON, writes it and flushes. After `Io` a beginning of it was written, after any other error
+/// nothing. Fails as `to_string`, and with `Io` if a write fails.
 pub fn to_writer<T: OciRecord, W: Write>(x: &T, alloc: Global, writer: &mut W) -> Result<()>
     ensures ok { OnOk result (AppendsCompact (W.contents writer.old) (W.contents writer.new) (json_of T.shape (T.plain x.now))) }
     ensures reads_back { OnOk result (ReadsBack (json_of T.shape (T.plain x.now))) }
@@ -73,7 +75,7 @@ pub fn to_writer<T: OciRecord, W: Write>(x: &T, alloc: Global, writer: &mut W) -
     Ok(())
 }
 
-/// Writes the pretty text of a document, and flushes. After `Io` a beginning of it was written, after any other refusal nothing.
+/// Serializes a document to pretty JSON, writes it and flushes. Fails as `to_writer`.
 pub fn to_writer_pretty<T: OciRecord, W: Write>(x: &T, alloc: Global, writer: &mut W) -> Result<()>
     ensures ok { OnOk result (AppendsPretty (W.contents writer.old) (W.contents writer.new) (json_of T.shape (T.plain x.now))) }
     ensures writable { OnOk result (Writable T.shape (T.plain x.now)) }

@@ -9,7 +9,7 @@ ghost use Rattle.oci_json_members.specs.FreeValues.{alike, free_eq, free_values_
 use serde_json::{Map, Number, Value};
 use std::collections::BTreeMap;
 
-/// Whether two trees are equal, where all numbers but the 64-bit whole ones count as one. It goes as deep as the trees do.
+/// Returns whether two values are equal, where all numbers other than 64-bit integers count as one. It recurses as deep as they nest.
 pub fn equal_trees(a: &Value, b: &Value) -> bool
     ensures { (result ≡ true) ↔ (erased (view a.now) ≡ erased (view b.now)) }
 {
@@ -83,7 +83,7 @@ fn same_value(a: &Option<Value>, b: &Option<Value>) -> bool
     }
 }
 
-/// Whether two maps of free values have the same names and, under each, equal trees or both none.
+/// Returns whether two maps of free values have the same names and, under each, equal values or both `None`.
 pub fn equal_values(
     a: &BTreeMap<String, Option<Value>>,
     b: &BTreeMap<String, Option<Value>>,
@@ -110,7 +110,7 @@ fn same_values(a: &BTreeMap<String, Option<Value>>, b: &BTreeMap<String, Option<
     others.next().is_none()
 }
 
-/// The same of maps that may be none.
+/// The same for maps that may be `None`.
 pub fn equal_optional_values(
     a: &Option<BTreeMap<String, Option<Value>>>,
     b: &Option<BTreeMap<String, Option<Value>>>,

@@ -6,8 +6,8 @@ use oci_text_base::{OciSpecError, Result};
 use serde_json::Value;
 use std::alloc::Global;
 
-/// Any value but null that holds no numbers but 64-bit whole ones. It is kept as its compact text, and written as the value
-/// that the text reads to: a text that is no JSON, or that holds other numbers, is not writable.
+/// Any value but null whose numbers are 64-bit integers. It is kept as its compact text, and written as the value that the text
+/// parses to: a text that is no JSON, or that has other numbers, is not serializable.
 pub struct Detail;
 
 impl OciKind<String> for Detail {

@@ -15,8 +15,8 @@ use serde_json::{Map, Value};
 use std::alloc::{AllocError, Global};
 use std::collections::BTreeMap;
 
-/// Names with any values that hold no numbers but 64-bit whole ones, or with none, which is null. A null that code sets
-/// as a value is written as null, too, and read back as none.
+/// An object of any values whose numbers are 64-bit integers; null is read as `None`. A null that code sets as a value is written
+/// as null, too, and read back as `None`.
 pub struct FreeValues;
 
 impl OciKind<BTreeMap<String, Option<Value>>> for FreeValues {

@@ -20,8 +20,8 @@ use oci_text_base::{OciSpecError, Result};
 use serde_json::{Map, Value};
 use std::alloc::Global;
 
-/// A way to read and write values of a type that has other ways too: a list of texts, for one, may stand for an array
-/// or for the names of an object.
+/// A way to read and write values of a type that has other ways too: a list of strings, for one, may be an array in JSON or the
+/// names of an object.
 pub trait OciKind<T> {
     /// The JSON that is allowed.
     ghost shape: { Shape };
@@ -29,13 +29,13 @@ pub trait OciKind<T> {
     /// The content.
     ghost plain: { T → Plain };
 
-    /// What the value means; `SerDe(Schema)` where the shape does not allow it.
+    /// Deserializes `value`. Fails with `SerDe(Schema)` exactly if the shape rejects it, else only with `Memory`.
     fn read(alloc: Global, value: &Value) -> Result<T>
         ensures ok { IfOk result (λ x. Means shape (view value.now) (plain x)) }
         ensures err { IfErr result (λ e. IsSchema e → IsRefused shape (view value.now)) }
         ensures kind { IfErr result IsMemoryOrSchema };
 
-    /// What the value means, from a value that may be taken apart. It is consumed also where it is refused.
+    /// Deserializes `value` and consumes it, in any case. Fails as `read`.
     fn read_owned(alloc: Global, value: Value) -> Result<T>
         ensures ok { IfOk result (λ x. Means shape (view value) (plain x)) }
         ensures err { IfErr result (λ e. IsSchema e → IsRefused shape (view value)) }
@@ -44,7 +44,7 @@ pub trait OciKind<T> {
         Self::read(alloc, &value)
     }
 
-    /// The value of the content; `SerDe(Schema)` where it is not writable.
+    /// Serializes the content to a value. Fails with `SerDe(Schema)` if it is not serializable, else only with `Memory`.
     fn write(x: &T, alloc: Global) -> Result<Value>
         ensures ok { IfOk result (λ v. view v ≡ json_of shape (plain x.now)) }
         ensures fits { IfOk result (λ v. Fits shape (plain x.now)) }
@@ -52,7 +52,7 @@ pub trait OciKind<T> {
         ensures err { IfErr result (λ e. IsSchema e → ¬ Writable shape (plain x.now)) }
         ensures kind { IfErr result IsMemoryOrSchema };
 
-    /// An equal value.
+    /// Returns an equal value. Fails with `Memory` alone.
     fn copy(x: &T, alloc: Global) -> Result<T>
         ensures ok { IfOk result (λ y. plain y ≡ plain x.now) }
         ensures err { IfErr result (λ e. e ≡ OciSpecError.Memory) };
@@ -146,7 +146,7 @@ pub fn optional_as_owned<K: OciKind<T>, T>(
     }
 }
 
-/// Writes a member of a kind unless it is none. Content that is not writable is placed at the owner and the name.
+/// Writes a member of a kind unless it is none. The error for content that is not serializable is placed at the owner and the name.
 #[tactic(auto, using(oci_json_model::proofs::Writers::inserted))]
 pub fn write_optional_as<K: OciKind<T>, T>(
     members: &mut Map<String, Value>,

@@ -20,12 +20,12 @@ use oci_text_base::Result;
 use serde_json::{Map, Value};
 use std::alloc::Global;
 
-/// A type with a value that is meant where a member of it is absent.
+/// A type with a default value, which an absent member has.
 pub trait OciDefault: OciMember {
     /// The content of that value.
     ghost default_plain: { Plain };
 
-    /// That value.
+    /// Returns the default value.
     fn absent(alloc: Global) -> Self
         ensures { Self.plain result ≡ default_plain };
 }

@@ -3,7 +3,7 @@ ghost use Rattle.std.specs.Prelude.{◌≡◌, ◌⊎◌, Ok, Err, IfOk, IfErr, 
 
 use oci_text_base::Result;
 
-/// Both answers, or the first refusal of them.
+/// Returns both results, or the first error.
 pub fn try_join2<A: Drop, B: Drop>(first: Result<A>, second: Result<B>) -> Result<(A, B)>
     ensures ok { IfOk result (λ x. (first ≡ Ok x.0) × (second ≡ Ok x.1)) }
     ensures err { IfErr result (λ e. (first ≡ Err e) ⊎ (IsOk first × (second ≡ Err e))) }
@@ -11,7 +11,7 @@ pub fn try_join2<A: Drop, B: Drop>(first: Result<A>, second: Result<B>) -> Resul
     Ok((first?, second?))
 }
 
-/// All three answers, or the first refusal of them.
+/// Returns all three results, or the first error.
 pub fn try_join3<A: Drop, B: Drop, C: Drop>(
     first: Result<A>,
     second: Result<B>,
@@ -24,7 +24,7 @@ pub fn try_join3<A: Drop, B: Drop, C: Drop>(
     Ok((first, second, third))
 }
 
-/// All four answers, or the first refusal of them.
+/// Returns all four results, or the first error.
 pub fn try_join4<A: Drop, B: Drop, C: Drop, D: Drop>(
     first: Result<A>,
     second: Result<B>,
@@ -41,7 +41,7 @@ pub fn try_join4<A: Drop, B: Drop, C: Drop, D: Drop>(
     Ok((first, second, third, fourth))
 }
 
-/// All five answers, or the first refusal of them.
+/// Returns all five results, or the first error.
 pub fn try_join5<A: Drop, B: Drop, C: Drop, D: Drop, E: Drop>(
     first: Result<A>,
     second: Result<B>,

@@ -1,4 +1,4 @@
-//! Closed names as members: one way of reading and of writing them, for each type of such names.
+//! Enums as members: one way of reading and writing them for every enum.
 ghost use Rattle.std.specs.Prelude.{◌≡◌, IfOk, IfErr};
 ghost use Rattle.serde_json.specs.Data.{string};
 ghost use Rattle.serde_json.specs.View.{view};

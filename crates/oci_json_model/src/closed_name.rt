@@ -1,4 +1,4 @@
-//! Closed names that list all their values, and how a text is found among these.
+//! Enums that list all their variants, and how a text is looked up among these.
 ghost use Rattle.std.specs.Prelude.{◌≡◌, ◌↔◌, ℕ, List, true, Some, map, IfSome, IfNone, IfOk, IfErr, IsTrue};
 ghost use Rattle.oci_text_base.specs.Names.{is_listed};
 ghost use Rattle.oci_json_model.specs.Variants.{variant_of, listed};
@@ -6,15 +6,15 @@ ghost use Rattle.oci_json_model.specs.Variants.{variant_of, listed};
 use crate::json_name::JsonName;
 use oci_text_base::UnknownName;
 
-/// A type with few values, each with a text of its own in JSON. It is a [`JsonName`] by that.
+/// An enum whose variants each have a JSON text of their own. It is a [`JsonName`] by that.
 pub trait ClosedName: Eq + Copy + Drop {
-    /// All values, in the order of their table.
+    /// All variants, in the order of their table.
     ghost values: { List Self };
 
     /// The text of a value.
     ghost text_of: { Self → List ℕ };
 
-    /// All values, in the order of their table.
+    /// All variants, in the order of their table.
     fn all() -> &'static [Self]
         ensures { result.now ≡ values };
 
@@ -43,7 +43,7 @@ pub fn named<T: ClosedName>(text: &str, all: &[T]) -> Option<T>
     None
 }
 
-/// The value that has the text; `UnknownName` where none has it.
+/// Returns the variant with this text; fails with `UnknownName` if there is none.
 pub fn parse_name<T: ClosedName + 'static>(text: &str) -> Result<T, UnknownName>
     ensures ok { IfOk result (λ x. T.text_of x ≡ text.now) }
     ensures err { IfErr result (λ e. (x : T) → ¬ (T.text_of x ≡ text.now)) }

@@ -1,10 +1,10 @@
-//! The faults of values that the schema does not allow.
+//! Errors of values that the schema rejects.
 ghost use Rattle.std.specs.Prelude.{◌↔◌};
 ghost use Rattle.oci_text_base.specs.Refused.{IsSchema, IsMemoryOrSchema};
 
 use oci_text_base::{OciSpecError, SchemaFault, SerDeError};
 
-/// The fault of a record, or with no owner that of any value, whose member or whole value is refused.
+/// The error for a member of a record, or with an empty name for the whole record; with no owner, for any value.
 pub fn refused(owner: &'static str, member: &'static str) -> OciSpecError
     ensures schema { IsSchema result }
     ensures kind { IsMemoryOrSchema result }
@@ -12,7 +12,7 @@ pub fn refused(owner: &'static str, member: &'static str) -> OciSpecError
     OciSpecError::SerDe(SerDeError::Schema(SchemaFault { owner, member }))
 }
 
-/// The fault of a member's value: where the value itself was refused, it is the member's.
+/// Places an error at a member, unless it has a place within the member's value already.
 pub fn placed(fault: OciSpecError, owner: &'static str, member: &'static str) -> OciSpecError
     ensures schema { IsSchema result → IsSchema fault }
     ensures kind { IsMemoryOrSchema fault → IsMemoryOrSchema result }

@@ -1,8 +1,8 @@
-//! What closed names have in common.
+//! What enums have in common.
 ghost use Rattle.std.specs.Prelude.{◌≡◌, ◌↔◌, ℕ, List, true, IfSome, IfNone, IsTrue};
 ghost use Rattle.oci_text_base.specs.Names.{is_listed};
 
-/// A type whose values are the names of a table, and its texts in JSON.
+/// An enum with a JSON text for each of its values.
 pub trait JsonName: Eq + Drop {
     /// The names.
     ghost table: { List (List ℕ) };
@@ -16,12 +16,12 @@ pub trait JsonName: Eq + Drop {
     /// The text that is written for a name: by default the name itself.
     ghost spelling: { List ℕ → List ℕ } = { λ n. n };
 
-    /// The value that a JSON text names.
+    /// Returns the value with this JSON text, if there is one.
     fn from_json_name(text: &str) -> Option<Self>
         ensures some { IfSome result (λ x. Spells text.now (name x)) }
         ensures none { IfNone result ((n : List ℕ) → IsTrue (is_listed table n) → ¬ Spells text.now n) };
 
-    /// The JSON text.
+    /// Returns the JSON text.
     fn json_name(&self) -> &'static str
         ensures { result.now ≡ spelling (name self.now) };
 

@@ -1,5 +1,5 @@
-//! The model of documents, what a document type can do, and the readers and writers of a record's members. Closed names, whose
-//! values are those of one table, are members too: a type of such names is one `impl` of [`ClosedName`].
+//! The model of documents, the traits of document types, and the readers and writers of a record's members. An enum is a member
+//! too, by one `impl` of [`ClosedName`].
 #![tactic(auto)]
 
 pub mod all;

@@ -83,7 +83,7 @@ pub fn optional<T: OciMember>(
     }
 }
 
-/// Reads a member that may be absent or null, and that has a second name. Under both names it is refused.
+/// Reads a member that may be absent or null, and that has an alias. Fails if both names are present.
 #[tactic(auto, using(crate::proofs::Readers::name_means, crate::proofs::Readers::name_refused, crate::proofs::Readers::second_means, crate::proofs::Readers::second_refused, crate::proofs::Readers::both_refused))]
 pub fn optional_either<T: OciMember>(
     alloc: Global,

@@ -1,4 +1,4 @@
-//! Whole numbers as members.
+//! Integers as members.
 ghost use Rattle.std.specs.Prelude.{◌≡◌, refl};
 ghost use Rattle.serde_json.specs.View.{view};
 ghost use Rattle.oci_json_model.specs.Means.{as_whole};
@@ -9,7 +9,7 @@ use oci_text_base::Result;
 use serde_json::Value;
 use std::alloc::Global;
 
-/// A number that is held as a 64-bit whole one.
+/// Returns the integer that the value holds, if it holds a 64-bit one.
 fn whole(value: &Value) -> Option<i128>
     ensures { result ≡ as_whole (view value.now) }
 {

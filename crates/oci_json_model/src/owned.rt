@@ -14,13 +14,13 @@ use oci_text_base::{OciSpecError, Result};
 use serde_json::{Map, Value};
 use std::alloc::Global;
 
-/// What stood under a name.
+/// The member that was taken from under a name, if there was one.
 pub struct Found {
     pub value: Option<Value>,
 }
 
 impl Found {
-    /// That value.
+    /// Returns the value.
     pub fn into_value(self) -> Option<Value>
         ensures { result ≡ self.value }
     {
@@ -36,7 +36,7 @@ impl Drop for Found {
     }
 }
 
-/// Reads a member that has to be there, of what stood under its name.
+/// Reads a required member from what was taken from under its name.
 #[tactic(auto, using(crate::proofs::Readers::required_missing, crate::proofs::Readers::required_refused, crate::proofs::Readers::required_means))]
 pub fn required_owned<T: OciMember>(
     alloc: Global,
@@ -57,7 +57,7 @@ pub fn required_owned<T: OciMember>(
     }
 }
 
-/// Reads what stood under the name of a member that may be absent or null.
+/// Reads a member that may be absent or null from the value that was found.
 #[tactic(auto, using(crate::proofs::Readers::found_refused, crate::proofs::Readers::optional_means, crate::proofs::Readers::optional_null))]
 fn optional_found<T: OciMember>(
     alloc: Global,
@@ -83,7 +83,7 @@ fn optional_found<T: OciMember>(
     }
 }
 
-/// Reads a member that may be absent or null, of what stood under its name.
+/// Reads a member that may be absent or null from what was taken from under its name.
 #[tactic(auto, using(crate::proofs::Readers::optional_refused, crate::proofs::Readers::optional_found_means))]
 pub fn optional_owned<T: OciMember>(
     alloc: Global,
@@ -101,8 +101,7 @@ pub fn optional_owned<T: OciMember>(
     }
 }
 
-/// Reads a member that may be absent or null, of what stood under its name and under its second name.
-/// Under both names it is refused.
+/// Reads a member that may be absent or null from what was taken from under its name and its alias. Fails if both are present.
 #[tactic(auto, using(crate::proofs::Readers::name_means, crate::proofs::Readers::name_refused, crate::proofs::Readers::second_means, crate::proofs::Readers::second_refused, crate::proofs::Readers::both_refused))]
 pub fn optional_either_owned<T: OciMember>(
     alloc: Global,
@@ -133,7 +132,7 @@ pub fn optional_either_owned<T: OciMember>(
     }
 }
 
-/// The text of a value.
+/// Returns the string of a value, if it is one.
 pub fn into_text(value: Value) -> Option<String>
     ensures { option_map string_bytes result ≡ as_str (view value) }
 {
@@ -143,7 +142,7 @@ pub fn into_text(value: Value) -> Option<String>
     }
 }
 
-/// The items of a list.
+/// Returns the items of a value, if it is an array.
 pub fn into_items(value: Value) -> Option<Vec<Value>>
     ensures { option_map (λ v. items_view v.items) result ≡ as_array (view value) }
 {
@@ -153,7 +152,7 @@ pub fn into_items(value: Value) -> Option<Vec<Value>>
     }
 }
 
-/// The members of an object.
+/// Returns the members of a value, if it is an object.
 pub fn into_members(value: Value) -> Option<Map<String, Value>>
     ensures { option_map (λ m. members_view m.entries) result ≡ as_object (view value) }
 {

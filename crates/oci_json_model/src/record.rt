@@ -15,9 +15,9 @@ use oci_text_base::{OciSpecError, Result};
 use serde_json::Value;
 use std::alloc::Global;
 
-/// A document type: it is read from a JSON value exactly where its shape allows the value, and written as one.
-/// The place in a `SchemaFault` is the innermost record and its first refused member in the order of the table; a value
-/// that is no object is placed at the member that holds it.
+/// A document type: it is read from a JSON value exactly if its shape allows the value, and written as one.
+/// A `SchemaFault` names the innermost record and its first offending member in schema order; a value that is no object is
+/// reported at the member that holds it.
 pub trait OciRecord: Eq + Drop {
     /// The JSON that is allowed.
     ghost shape: { Shape };
@@ -25,13 +25,13 @@ pub trait OciRecord: Eq + Drop {
     /// The content.
     ghost plain: { Self → Plain };
 
-    /// The document that the value means; `SerDe(Schema)` where the shape does not allow the value.
+    /// Deserializes `value`. Fails with `SerDe(Schema)` exactly if the schema rejects it, else only with `Memory`.
     fn from_value(alloc: Global, value: &Value) -> Result<Self>
         ensures ok { IfOk result (λ x. Means shape (view value.now) (plain x)) }
         ensures err { IfErr result (λ e. IsSchema e → IsRefused shape (view value.now)) }
         ensures kind { IfErr result IsMemoryOrSchema };
 
-    /// The document that the value means, from a value that may be taken apart. It is consumed also where it is refused.
+    /// Deserializes `value` and consumes it, in any case. Strings are moved where the type moves them. Fails as `from_value`.
     fn from_value_owned(alloc: Global, value: Value) -> Result<Self>
         ensures ok { IfOk result (λ x. Means shape (view value) (plain x)) }
         ensures err { IfErr result (λ e. IsSchema e → IsRefused shape (view value)) }
@@ -40,7 +40,8 @@ pub trait OciRecord: Eq + Drop {
         Self::from_value(alloc, &value)
     }
 
-    /// The value of the document; `SerDe(Schema)` where the document is not writable.
+    /// Serializes the document to a value. Fails with `SerDe(Schema)` if it is not serializable (a CPU list or a `detail` set in code
+    /// that is none), else only with `Memory`.
     fn to_value(&self, alloc: Global) -> Result<Value>
         ensures ok { IfOk result (λ v. view v ≡ json_of shape (plain self.now)) }
         ensures fits { IfOk result (λ v. Fits shape (plain self.now)) }
@@ -48,7 +49,7 @@ pub trait OciRecord: Eq + Drop {
         ensures err { IfErr result (λ e. IsSchema e → ¬ Writable shape (plain self.now)) }
         ensures kind { IfErr result IsMemoryOrSchema };
 
-    /// An equal document.
+    /// Returns an equal document. Fails with `Memory` alone.
     fn duplicate(&self, alloc: Global) -> Result<Self>
         ensures ok { IfOk result (λ x. plain x ≡ plain self.now) }
         ensures err { IfErr result (λ e. e ≡ OciSpecError.Memory) };
@@ -60,7 +61,7 @@ pub trait OciRecord: Eq + Drop {
     ghost same: { (x y : Self) → (Self.eq x y ≡ true) ↔ (plain x ≡ plain y) };
 }
 
-/// A type that a record's member may have: a record, a text, a number, a name, a list or a map.
+/// A type that a record's member may have: a record, a string, a number, an enum, a list or a map.
 pub trait OciMember: Eq + Drop {
     /// The JSON that is allowed.
     ghost shape: { Shape };
@@ -68,13 +69,13 @@ pub trait OciMember: Eq + Drop {
     /// The content.
     ghost plain: { Self → Plain };
 
-    /// What the value means; `SerDe(Schema)` where the shape does not allow it.
+    /// Deserializes `value`. Fails with `SerDe(Schema)` exactly if the shape rejects it, else only with `Memory`.
     fn read(alloc: Global, value: &Value) -> Result<Self>
         ensures ok { IfOk result (λ x. Means shape (view value.now) (plain x)) }
         ensures err { IfErr result (λ e. IsSchema e → IsRefused shape (view value.now)) }
         ensures kind { IfErr result IsMemoryOrSchema };
 
-    /// What the value means, from a value that may be taken apart.
+    /// Deserializes `value` and consumes it. Fails as `read`.
     fn read_owned(alloc: Global, value: Value) -> Result<Self>
         ensures ok { IfOk result (λ x. Means shape (view value) (plain x)) }
         ensures err { IfErr result (λ e. IsSchema e → IsRefused shape (view value)) }
@@ -83,7 +84,7 @@ pub trait OciMember: Eq + Drop {
         Self::read(alloc, &value)
     }
 
-    /// The value of the content; `SerDe(Schema)` where it is not writable.
+    /// Serializes the content to a value. Fails with `SerDe(Schema)` if it is not serializable, else only with `Memory`.
     fn write(&self, alloc: Global) -> Result<Value>
         ensures ok { IfOk result (λ v. view v ≡ json_of shape (plain self.now)) }
         ensures fits { IfOk result (λ v. Fits shape (plain self.now)) }
@@ -91,7 +92,7 @@ pub trait OciMember: Eq + Drop {
         ensures err { IfErr result (λ e. IsSchema e → ¬ Writable shape (plain self.now)) }
         ensures kind { IfErr result IsMemoryOrSchema };
 
-    /// An equal value.
+    /// Returns an equal value. Fails with `Memory` alone.
     fn copy(&self, alloc: Global) -> Result<Self>
         ensures ok { IfOk result (λ x. plain x ≡ plain self.now) }
         ensures err { IfErr result (λ e. e ≡ OciSpecError.Memory) };

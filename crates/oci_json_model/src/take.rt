@@ -1,5 +1,5 @@
-//! What is taken out of an object, whose members are moved and not copied. A record of five members or more takes a tuple,
-//! whose contract says of each item what it is; of fewer members an array is as good.
+//! Members that are moved out of an object. A record of five members or more takes a tuple, whose contract says of each item what
+//! it is; for fewer members an array serves.
 ghost use Rattle.std.specs.Prelude.{◌≡◌, ◌≤◌, ◌+◌, IfOk, IfErr, IsTrue, map, option_map, MatchOption, true, false, bytes_eq, length};
 ghost use Rattle.serde_json.specs.View.{view, members_view};
 ghost use Rattle.serde_json.specs.Find.{get_member};
@@ -40,8 +40,7 @@ fn take_members(
     Ok(found)
 }
 
-/// What stands under the names in an object, which is taken apart; nothing if it is no object.
-/// `Memory` where an allocation is refused.
+/// Takes the members of these names out of an object; `None` if the value is no object. Fails with `Memory` alone.
 pub fn taken<const N: usize>(
     alloc: Global,
     value: Value,
@@ -65,8 +64,7 @@ pub fn taken<const N: usize>(
     }
 }
 
-/// What stands under five names in an object, which is taken apart; nothing if it is no object.
-/// `Memory` where an allocation is refused.
+/// Takes five members out of an object by their names; `None` if the value is no object. Fails with `Memory` alone.
 #[tactic(auto, using(crate::proofs::FoundAll::stood_at))]
 pub fn taken_5(
     alloc: Global,
@@ -85,8 +83,7 @@ pub fn taken_5(
     }
 }
 
-/// What stands under six names in an object, which is taken apart; nothing if it is no object.
-/// `Memory` where an allocation is refused.
+/// Takes six members out of an object by their names; `None` if the value is no object. Fails with `Memory` alone.
 #[tactic(auto, using(crate::proofs::FoundAll::stood_at))]
 pub fn taken_6(
     alloc: Global,
@@ -105,8 +102,7 @@ pub fn taken_6(
     }
 }
 
-/// What stands under seven names in an object, which is taken apart; nothing if it is no object.
-/// `Memory` where an allocation is refused.
+/// Takes seven members out of an object by their names; `None` if the value is no object. Fails with `Memory` alone.
 #[tactic(auto, using(crate::proofs::FoundAll::stood_at))]
 pub fn taken_7(
     alloc: Global,
@@ -125,8 +121,7 @@ pub fn taken_7(
     }
 }
 
-/// What stands under eight names in an object, which is taken apart; nothing if it is no object.
-/// `Memory` where an allocation is refused.
+/// Takes eight members out of an object by their names; `None` if the value is no object. Fails with `Memory` alone.
 #[tactic(auto, using(crate::proofs::FoundAll::stood_at))]
 pub fn taken_8(
     alloc: Global,
@@ -145,8 +140,7 @@ pub fn taken_8(
     }
 }
 
-/// What stands under nine names in an object, which is taken apart; nothing if it is no object.
-/// `Memory` where an allocation is refused.
+/// Takes nine members out of an object by their names; `None` if the value is no object. Fails with `Memory` alone.
 #[tactic(auto, using(crate::proofs::FoundAll::stood_at))]
 pub fn taken_9(
     alloc: Global,
@@ -179,8 +173,7 @@ pub fn taken_9(
     }
 }
 
-/// What stands under ten names in an object, which is taken apart; nothing if it is no object.
-/// `Memory` where an allocation is refused.
+/// Takes ten members out of an object by their names; `None` if the value is no object. Fails with `Memory` alone.
 #[tactic(auto, using(crate::proofs::FoundAll::stood_at))]
 pub fn taken_10(
     alloc: Global,

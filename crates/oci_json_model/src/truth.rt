@@ -1,4 +1,4 @@
-//! Truth values as members.
+//! Booleans as members.
 use crate::fault::refused;
 use crate::record::OciMember;
 use oci_text_base::Result;

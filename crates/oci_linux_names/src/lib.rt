@@ -1,11 +1,10 @@
-//! The closed names of the runtime specification, each a type of a few variants with a text each.
+//! The enums of the runtime specification's Linux part, each variant with a text.
 //!
-//! `tools/gen_names` prints each of them from a description in `tools/names`. `src/NAME.rt` has the enum, the tables `ALL`,
-//! `NAMES` and, where it has numbers or displays other texts, `NUMBERS` and `SHOWN`, in the order of the variants, since
-//! a variant finds its place in them; then `Display` and the calls that it has, `ClosedName` over these tables, and
-//! `OciMember`. `specs/NAME.antt` has text and number variant by variant, which the contracts cite, the list of all
-//! variants, and a line a variant that leads its text back to it. Nothing is left to prove beyond these lines, and their
-//! cost is that of the number of variants. What a name does beside that stands by hand: `seccomp_numbers.rt`.
+//! `tools/gen_names` writes each of them from a description in `tools/names`. `src/NAME.rt` has the enum, the tables `ALL`, `NAMES`
+//! and, for an enum with numbers or other displayed texts, `NUMBERS` and `SHOWN`, in the order of the variants; then `Display` and
+//! its calls, `ClosedName` over these tables, and `OciMember`. `specs/NAME.antt` has the text and number of each variant, which the
+//! contracts cite, the list of all variants, and for each variant a line that leads its text back to it. What an enum has of its own
+//! is written by hand: `seccomp_numbers.rt`.
 #![tactic(auto)]
 
 pub mod linux_device_type;

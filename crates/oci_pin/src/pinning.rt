@@ -11,9 +11,9 @@ use oci_reference::Reference;
 use oci_text_base::{OciSpecError, Result};
 use std::alloc::Global;
 
-/// The reference by the digest of a descriptor's content in the place of its tag and digest, with the same registry,
-/// repository and mirror. Where the reference is one that was read, the whole text of the answer is read again exactly if
-/// the digest is by `sha256`, `sha384` or `sha512`, and then as the answer. The error is `Memory`.
+/// Returns the reference with the digest of a descriptor's content in place of its tag and digest, and with the same registry,
+/// repository and mirror. If the reference was parsed, the text of the result parses exactly if the digest is by `sha256`,
+/// `sha384` or `sha512`, and then to the result. Fails with `Memory` alone.
 pub fn pin(alloc: Global, reference: &Reference, descriptor: &Descriptor) -> Result<Reference>
     ensures ok { IfOk result (λ p. p ≡ record reference.now { tag = None; digest = Some descriptor.now.digest }) }
     ensures accepted { IfOk result (λ p. (t a e : List ℕ) → Accepted t reference.now → IsDigest descriptor.now.digest a e

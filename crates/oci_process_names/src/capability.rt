@@ -307,7 +307,7 @@ fn of_any_case(all: &[Capability], text: &[u8]) -> Option<Capability>
     None
 }
 
-/// What stands behind `CAP_` in any case, where the text begins so.
+/// Returns what follows `CAP_`, in any case, if the text begins so.
 fn behind_cap(text: &[u8]) -> Option<&[u8]>
     ensures some { IfSome result (λ rest. map ascii_upper text.now ≡ cap ++ map ascii_upper rest.now) }
     ensures none { IfNone result (IsBare text.now) }

@@ -1,4 +1,4 @@
-//! Lists of processors (Linux, cpuset(7), "List format"; runtime specification, "Configuration", "Linux Process",
+//! CPU lists (Linux, cpuset(7), "List format"; runtime specification, "Configuration", "Linux Process",
 //! `execCPUAffinity`).
 ghost use Rattle.std.specs.Prelude.{◌≡◌, ◌↔◌, IsTrue, IfSome, IfNone};
 ghost use Rattle.oci_text_base.specs.CpuList.{IsCpuList};
@@ -35,8 +35,8 @@ impl Place {
     }
 }
 
-/// Whether the text is a list of processors, as `0-3,7`: numbers and ranges, joined by commas, at least one. No order is
-/// asked of the ends of a range, and no size of a number.
+/// Returns whether the text is a CPU list, as `0-3,7`: numbers and ranges, joined by commas, at least one. Neither the order of
+/// a range's ends nor the size of a number is checked.
 pub fn is_cpu_list(text: &str) -> bool
     ensures { IsTrue result ↔ IsCpuList text.now }
 {
@@ -47,8 +47,8 @@ pub fn is_cpu_list(text: &str) -> bool
     place.is_whole()
 }
 
-/// The text for which an affinity is refused: `initial`, where it is given and no list of processors, else `last`, where
-/// it is given and none.
+/// Returns the text that makes an affinity invalid: `initial`, if it is given and no CPU list, else `last`, if it is given and
+/// none.
 pub fn refused_affinity<'a>(
     initial: &'a Option<String>,
     last: &'a Option<String>,

@@ -1,4 +1,4 @@
-//! Lists of processors as members of records.
+//! CPU lists as members of records.
 use crate::cpu_list::is_cpu_list;
 use oci_json_members::OciKind;
 use oci_json_model::fault::refused;
@@ -6,8 +6,8 @@ use oci_text_base::Result;
 use serde_json::Value;
 use std::alloc::Global;
 
-/// A list of processors as a text. Only lists are read and written; in code any text is kept, and a document with a text
-/// that is no list is not writable.
+/// A CPU list as a string. Only CPU lists are read and written; code may set any text, and a document with a text that is no
+/// CPU list is not serializable.
 pub struct CpuTexts;
 
 impl OciKind<String> for CpuTexts {

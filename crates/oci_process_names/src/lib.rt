@@ -1,6 +1,6 @@
-//! The texts of a process: the closed names of its limits, priorities and scheduler, capabilities and sets of them, and
-//! lists of processors. How closed names stand is said in `oci_linux_names`; capabilities, whose texts in JSON are not
-//! their names, have a search of their own.
+//! The enums of a process: its limits, priorities and scheduler; capabilities and sets of them; and CPU lists. How enums are
+//! written is said in `oci_linux_names`; capabilities, whose JSON texts are accepted in any case and with or without `CAP_`, have a
+//! search of their own.
 #![tactic(auto)]
 
 pub mod capabilities;

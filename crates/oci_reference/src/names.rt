@@ -65,7 +65,7 @@ fn has(text: &str, mark: u8) -> bool
     text.as_bytes().iter().any(|b| *b == mark)
 }
 
-/// What stands before the first mark, and what stands behind it.
+/// What comes before the first mark, and what follows it.
 pub(crate) fn cut_at(text: &str, mark: char) -> (&str, &str)
     requires { mark < 128 }
     ensures before { result.0.now ≡ until mark text.now }

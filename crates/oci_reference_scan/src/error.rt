@@ -30,7 +30,7 @@ pub enum ParseError {
     /// Never answered: a tag outside the grammar is `ReferenceInvalidFormat`.
     #[error("invalid tag format")]
     TagInvalidFormat,
-    /// The text is accepted, and its parts had no room.
+    /// The text is accepted, and there was no memory for its parts.
     #[error("out of memory")]
     Memory,
 }

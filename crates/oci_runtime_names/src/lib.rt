@@ -1,4 +1,4 @@
-//! Closed names of the runtime specification that stand in no other part of it.
+//! Enums of the runtime specification that belong to no other part of it.
 #![tactic(auto)]
 
 pub mod container_state;

@@ -1,1 +1,1 @@
-pub mod Pretty
+pub mod Normalizes

@@ -1,5 +1,3 @@
-pub mod Made
-pub mod Pretty
 pub use Rattle.oci_cgroups.specs.LinuxBlockIo
 pub use Rattle.oci_cgroups.specs.LinuxCpu
 pub use Rattle.oci_cgroups.specs.LinuxDeviceCgroup
@@ -48,9 +46,6 @@ pub use Rattle.oci_image_manifest.specs.OciLayoutBuilder
 pub use Rattle.oci_image_platform.specs.Platform
 pub use Rattle.oci_image_platform.specs.PlatformBuilder
 pub use Rattle.oci_json_io.specs.Engines
-pub use Rattle.oci_schema_walks.specs.Conformed
-pub use Rattle.oci_schema_walks.specs.Faults
-pub use Rattle.oci_schema_walks.specs.Tables
 pub use Rattle.oci_json_members.specs.DefaultMembers
 pub use Rattle.oci_json_members.specs.Keys
 pub use Rattle.oci_json_model.specs.Built
@@ -99,7 +94,6 @@ pub use Rattle.oci_platforms.specs.VMImage
 pub use Rattle.oci_platforms.specs.VMKernel
 pub use Rattle.oci_platforms.specs.ZOS
 pub use Rattle.oci_platforms.specs.ZOSNamespace
-pub use Rattle.oci_runtime_names.specs.ZOSNamespaceType
 pub use Rattle.oci_platforms_windows.specs.Windows
 pub use Rattle.oci_platforms_windows.specs.WindowsCPUResources
 pub use Rattle.oci_platforms_windows.specs.WindowsDevice
@@ -141,8 +135,9 @@ pub use Rattle.oci_runtime_defaults.specs.Answers
 pub use Rattle.oci_runtime_defaults.specs.Canonical
 pub use Rattle.oci_runtime_defaults.specs.Defaults
 pub use Rattle.oci_runtime_defaults.specs.DeviceRule
-pub use Rattle.oci_runtime_records.specs.ContainerProcessState
 pub use Rattle.oci_runtime_names.specs.ContainerState
+pub use Rattle.oci_runtime_names.specs.ZOSNamespaceType
+pub use Rattle.oci_runtime_records.specs.ContainerProcessState
 pub use Rattle.oci_runtime_records.specs.DefaultMounts
 pub use Rattle.oci_runtime_records.specs.Hook
 pub use Rattle.oci_runtime_records.specs.Hooks
@@ -152,6 +147,11 @@ pub use Rattle.oci_runtime_records.specs.Root
 pub use Rattle.oci_runtime_records.specs.State
 pub use Rattle.oci_runtime_spec.specs.RootlessSpec
 pub use Rattle.oci_runtime_spec.specs.Spec
+pub use Rattle.oci_schema.specs.Normalizes
+pub use Rattle.oci_schema_types.specs.Shapes
+pub use Rattle.oci_schema_walks.specs.Normalized
+pub use Rattle.oci_schema_walks.specs.Violations
+pub use Rattle.oci_schemas.specs.Table
 pub use Rattle.oci_text.specs.Algorithms
 pub use Rattle.oci_text.specs.Arch
 pub use Rattle.oci_text.specs.CutDigests

@@ -1,14 +1,15 @@
 //! What is found of a text, in the form of a row's last line.
 ghost use Rattle.oci_json_model.specs.WellFormed.{WellFormed};
-ghost use Rattle.oci_schema_walks.specs.Tables.{shape_of};
+ghost use Rattle.oci_schema_types.specs.Shapes.{schema_shape};
 
 use anyhow::Result;
 use oci_image::OciLayout;
 use oci_json_io::{from_slice, to_string};
 use oci_json_model::OciRecord;
-use oci_schema::{conform, faults};
-use oci_schema_walks::Form;
-use oci_spec::forms::{conform_as, faults_of};
+use oci_spec::schema::{
+    Records, Schema, is_valid, is_valid_as, normalize_value, normalize_value_as, violations,
+    violations_as,
+};
 use oci_text_base::{OciSpecError, SerDeError};
 use serde_json::Value;
 use std::alloc::Global;
@@ -55,19 +56,25 @@ fn refused(alloc: Global, fault: &OciSpecError) -> Result<String> {
     }
 }
 
-/// What is found by a record's form, with no document between: the compact text of the value's normal form, or the place
-/// that refuses the text. Faults are listed exactly where it is refused.
-pub fn by_form(form: &Form<'_>, alloc: Global, text: &str) -> Result<String>
-    requires { WellFormed (shape_of form.now) }
+/// What is found by a schema, with no document between: the compact text of the value's normal form, or the place
+/// that refuses the text. Violations are listed exactly where it is refused, and it is valid exactly where none is.
+pub fn by_schema<T: Records>(
+    records: &T,
+    schema: &Schema,
+    alloc: Global,
+    text: &str,
+) -> Result<String>
+    requires { WellFormed (schema_shape (T.shape_at records.now) schema.now) }
 {
     let value = match Value::from_str(alloc, text) {
         Ok(value) => value,
         Err(fault) => return refused(alloc, &OciSpecError::from(fault)),
     };
-    let is_faulty = !faults(form, &value, alloc)?.is_empty();
-    let answer = conform(form, value, alloc);
-    if is_faulty != answer.is_err() {
-        return Ok(String::from_str(alloc, "faults are listed, or not")?);
+    let valid = is_valid(records, schema, &value);
+    let found = violations(records, schema, &value, alloc)?;
+    let answer = normalize_value(records, schema, value, alloc);
+    if valid != found.is_empty() || valid != answer.is_ok() {
+        return Ok(String::from_str(alloc, "violations are listed, or not")?);
     }
     match answer {
         Ok(normal) => {
@@ -78,14 +85,15 @@ pub fn by_form(form: &Form<'_>, alloc: Global, text: &str) -> Result<String>
     }
 }
 
-/// What the calls by a record's type find: how many faults of a layout with no members, and the normal form of one with a member
-/// that is not listed.
+/// What the calls by a record's type find: how many violations a layout with no members has, and the normal form of one with an
+/// unknown member.
 pub fn by_type(alloc: Global) -> Result<String> {
     let empty = Value::from_str(alloc, "{}")?;
-    let count = faults_of::<OciLayout>(alloc, &empty)?.len();
+    let count = violations_as::<OciLayout>(&empty, alloc)?.len();
     let more = Value::from_str(alloc, "{\"more\":1,\"imageLayoutVersion\":\"1.0.0\"}")?;
-    let normal = conform_as::<OciLayout>(more, alloc)?.to_string(alloc)?;
-    Ok(format!(in alloc; "{count} fault, {normal}")?)
+    let valid = is_valid_as::<OciLayout>(&empty) || !is_valid_as::<OciLayout>(&more);
+    let normal = normalize_value_as::<OciLayout>(more, alloc)?.to_string(alloc)?;
+    Ok(format!(in alloc; "{count} violation, {valid}, {normal}")?)
 }
 
 /// The compact text of the document of a text.

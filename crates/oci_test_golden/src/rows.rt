@@ -1,33 +1,33 @@
 //! The rows of one record.
 ghost use Rattle.oci_json_model.specs.WellFormed.{WellFormed};
-ghost use Rattle.oci_schema_walks.specs.Tables.{shape_of};
+ghost use Rattle.oci_schema_types.specs.Shapes.{schema_shape};
 
-use crate::found::{Reading, by_form, by_type};
+use crate::found::{Reading, by_schema, by_type};
 use anyhow::{Context, Result};
-use bumpalo::Bump;
 use oci_json_model::OciRecord;
-use oci_schema_walks::Form;
-use oci_spec::forms::Tabled;
+use oci_spec::schema::{HasSchema, Records, Schema};
 use std::fs;
 use std::rt::Files;
 
-/// Checks the rows of a record, by its table too, and prints each that differs, and how many there are.
-pub fn rows<T: Tabled, R: Files + Print + AllocGlobal>(rt: &R, record: &str) {
+/// Checks the rows of a record, by its schema too, and prints each that differs, and how many there are.
+pub fn rows<T: HasSchema, R: Files + Print + AllocGlobal>(rt: &R, record: &str) {
     if let Err(fault) = check_rows::<T, R>(rt, record) {
         let _ = println!(rt; "{record}: {fault}");
     }
-    if let Err(fault) = check_table::<T, R>(rt, record) {
-        let _ = println!(rt; "{record}, by its table: {fault}");
+    if let Err(fault) = check_schema_of::<T, R>(rt, record) {
+        let _ = println!(rt; "{record}, by its schema: {fault}");
     }
 }
 
-fn check_table<T: Tabled, R: Files + Print + AllocGlobal>(rt: &R, record: &str) -> Result<()> {
-    let room = Bump::new(rt.alloc());
-    let form = T::table(&room)?;
-    check_form(rt, record, form)
+fn check_schema_of<T: HasSchema, R: Files + Print + AllocGlobal>(
+    rt: &R,
+    record: &str,
+) -> Result<()> {
+    let (records, schema) = T::schema();
+    check_schema(rt, record, records, schema)
 }
 
-/// Prints what the calls by a record's type find; the rows make these calls by a record's form.
+/// Prints what the calls by a record's type find; the rows make these calls by a record's schema.
 pub fn check_type<R: Print + AllocGlobal>(rt: &R) {
     let _ = match by_type(rt.alloc()) {
         Ok(found) => println!(rt; "by type: {found}"),
@@ -68,17 +68,22 @@ fn check_row<T: OciRecord, R: Files + Print + AllocGlobal>(
     Ok(())
 }
 
-/// The same by a form, one function for all records.
-fn check_form<R: Files + Print + AllocGlobal>(rt: &R, record: &str, form: &Form<'_>) -> Result<()>
-    requires { WellFormed (shape_of form.now) }
+/// The same by a schema, one function for all records.
+fn check_schema<T: Records, R: Files + Print + AllocGlobal>(
+    rt: &R,
+    record: &str,
+    records: &T,
+    schema: &Schema,
+) -> Result<()>
+    requires { WellFormed (schema_shape (T.shape_at records.now) schema.now) }
 {
     let text = read(rt, record)?;
     for row in text.as_str().trim().split("\n\n") {
         if !row.starts_with('#') {
             let (text, expected) = row.rsplit_once('\n').context("a row has one line")?;
-            let found = by_form(form, rt.alloc(), text)?;
+            let found = by_schema(records, schema, rt.alloc(), text)?;
             if found.as_str() != expected {
-                println!(rt; "{record}: by its table, of {text}\nfound {found}")?;
+                println!(rt; "{record}: by its schema, of {text}\nfound {found}")?;
             }
         }
     }

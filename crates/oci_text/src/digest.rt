@@ -135,7 +135,7 @@ impl Digest {
         &self.algorithm
     }
 
-    /// The encoded part: what stands behind the colon.
+    /// The encoded part: what follows the colon.
     #[tactic(auto, using(crate::proofs::CutDigests::of_encoded, crate::proofs::CutDigests::is_some_digest))]
     pub fn digest(&self) -> &str
         ensures digest { IsDigestText self.now }
@@ -153,7 +153,7 @@ impl Digest {
         self.text.as_str()
     }
 
-    /// An equal digest.
+    /// Returns an equal digest. Fails with `Memory` alone.
     pub fn clone(&self) -> Result<Digest>
         ensures ok { IfOk result (λ d. d ≡ self.now) }
         ensures err { IfErr result (λ e. e ≡ OciSpecError.Memory) }
@@ -218,14 +218,14 @@ impl OciMember for Digest {
     ghost same = { same_bytes };
 }
 
-/// Whether the text is a digest.
+/// Returns whether the text is a digest (image specification, "Descriptor", "Digests").
 pub fn is_digest(text: &str) -> bool
     ensures { IsTrue result ↔ IsDigestText text.now }
 {
     is_plain_sha256(text) || digest_fault(text).is_none()
 }
 
-/// Whether the text is `sha256:` and its digits, as most digests are: it is then known without a look at each rule.
+/// Returns whether the text is `sha256:` and its digits, as most digests are, without a look at each rule.
 fn is_plain_sha256(text: &str) -> bool
     ensures { IsTrue result → IsDigestText text.now }
 {

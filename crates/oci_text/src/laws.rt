@@ -1,4 +1,4 @@
-//! Laws of the grammars of digests and of lists of processors, and of the tables of names, over their definitions alone.
+//! Laws of the grammars of digests and of CPU lists, and of the tables of names, over their definitions alone.
 ghost use Rattle.std.specs.Prelude.{◌≡◌, ◌↔◌, ℕ, List, [], None, false, codes};
 ghost use Rattle.oci_text_base.specs.CpuList.{IsCpuList};
 ghost use Rattle.oci_text_base.specs.Digest.{IsDigest, IsDigestText, digest_refusal};
@@ -20,7 +20,7 @@ pub fn digest_refused()
     ensures { (t : List ℕ) → (digest_refusal t ≡ None) ↔ IsDigestText t }
 {}
 
-/// A list of processors has numbers and ranges, which may also count down; a range without its end is none, nor is no text.
+/// A CPU list has numbers and ranges, which may also count down; a range without its end is not one, nor is the empty text.
 pub fn cpu_lists()
     ensures ranges { IsCpuList (codes "0-3,7") }
     ensures downward { IsCpuList (codes "3-1") }

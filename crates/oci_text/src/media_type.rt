@@ -255,8 +255,8 @@ pub trait ToDockerV2S2 {
     /// That media type, if there is one.
     ghost docker_text: { Self → Option (List ℕ) };
 
-    /// The media type that stands for this one in the Docker image manifest, version 2, schema 2; a formatting error where
-    /// there is none.
+    /// Returns the media type that the Docker image manifest, version 2, schema 2, has for this one; fails with a formatting error
+    /// if it has none.
     fn to_docker_v2s2(&self) -> std::result::Result<&str, fmt::Error>
         ensures ok { IfOk result (λ t. docker_text self.now ≡ Some t.now) }
         ensures err { IfErr result (λ e. docker_text self.now ≡ None) };

@@ -1,4 +1,4 @@
-//! How a text is looked for in the table of an open name.
+//! How a text is looked up in the table of an extensible enum.
 ghost use Rattle.std.specs.Prelude.{◌≡◌, Some, false, map, IfSome, IfNone};
 ghost use Rattle.std.specs.List.{slice_get};
 ghost use Rattle.oci_text_base.specs.Names.{is_listed};

@@ -23,7 +23,7 @@ pub enum OciSpecError {
     /// A builder lacks a field that has to be set.
     #[error("uninitialized field")]
     Builder(UninitializedFieldError),
-    /// Memory was refused.
+    /// Out of memory.
     #[error("out of memory")]
     Memory,
 }
@@ -31,7 +31,7 @@ pub enum OciSpecError {
 /// Text that is no JSON, or JSON that is no document.
 #[derive(Debug, Drop, Error)]
 pub enum SerDeError {
-    /// The JSON reader's own fault.
+    /// The JSON reader's own error.
     #[error("{0}")]
     Json(serde_json::Error),
     /// The schema does not allow the value.

@@ -1,4 +1,4 @@
-/// Where the parts of a reference stand in the bytes pushed: the end of the name, and begin and end of tag and digest,
+/// Where the parts of a reference are in the bytes pushed: the end of the name, and begin and end of tag and digest,
 /// without their marks.
 #[derive(Clone, Copy, Debug, PartialEq, Eq)]
 pub struct Places {

@@ -1,5 +1,0 @@
-use Rattle.oci_schema_walks.proofs.Stands.{shape_is, a_list, a_leaf}
-use Rattle.oci_spec.proofs.forms.made.texts.Goals as goal
-
-pub returns : goal.returns
-returns c = shape_is (a_list a_leaf)

@@ -1,0 +1,17 @@
+//! Schemas of all documents, and what is done by them: whether a value is valid, all its violations, and normal forms, by a schema
+//! and its table of records or by a type.
+mod distribution;
+mod image;
+mod linux;
+mod runtime;
+pub mod typed;
+
+pub use oci_schema::{
+    DefaultValue, Expected, Kind, Member, Part, Presence, Record, Records, Scalar, Schema,
+    Violation, is_valid, normal_value_from_reader, normalize, normalize_pretty, normalize_value,
+    violations,
+};
+pub use oci_schemas::{OciRecords, oci_records};
+pub use typed::{
+    HasSchema, is_valid_as, normalize_as, normalize_pretty_as, normalize_value_as, violations_as,
+};
