@@ -1,4 +1,4 @@
-//! What a container may use of its host: memory, processors, tasks, devices, huge pages and the network.
+//! The cgroup limits of a container: memory, CPU, tasks, devices, huge pages and the network.
 #![tactic(auto)]
 
 mod display;

@@ -1,4 +1,4 @@
-//! How a container's traffic is ranked, and what it may use of devices for remote direct memory access.
+//! The cgroup limits of a container's network traffic and RDMA devices.
 #![tactic(auto)]
 
 mod display;

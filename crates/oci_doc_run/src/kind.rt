@@ -42,7 +42,7 @@ pub enum Kind {
     Spec,
     /// `state`: the state of a container.
     State,
-    /// `process-state`: what a listener to a container's system calls is told.
+    /// `process-state`: what a seccomp listener receives.
     ProcessState,
     /// `features`: what a runtime can do.
     Features,

@@ -19,8 +19,8 @@ use oci_text_base::OciSpecError;
 use std::alloc::Global;
 use std::io::{Read, Write};
 
-/// Reads a descriptor, and writes the whole text of the reference with its digest, and a line feed. Where the text is no
-/// reference, nothing is read.
+/// Reads a descriptor, and writes the full text of the reference with its digest, and a newline. If the text is no reference,
+/// nothing is read.
 pub fn pinned<R: Read, W: Write>(
     alloc: Global,
     text: &str,

@@ -14,9 +14,9 @@ use std::io::{Read, Write};
 
 const USAGE: &str = "usage: ocidoc norm KIND | pretty KIND | ref TEXT | digest TEXT | pin TEXT\n";
 
-/// Runs the command that the words ask for, and answers its status: 0 where it is done, 1 where it is refused, which one
-/// line to the errors tells, and 2 where the words ask for no command; then the line of usage goes to the errors. A fault
-/// of the errors' writer changes nothing.
+/// Runs the command that the arguments name and returns the exit status: 0 if it succeeded, 1 if it failed, which one line on
+/// standard error reports, and 2 if the arguments name no command; then the usage line goes to standard error. A failed write to
+/// standard error changes nothing.
 pub fn run<R: Read, W: Write, E: Write>(
     alloc: Global,
     words: &[String],
@@ -50,7 +50,7 @@ pub fn run<R: Read, W: Write, E: Write>(
     }
 }
 
-/// Writes the line of usage, or a beginning of it.
+/// Writes the usage line, or a beginning of it.
 fn show_usage<E: Write>(errors: &mut E)
     ensures { AppendsSome (E.contents errors.old) (E.contents errors.new) usage }
 {

@@ -24,7 +24,7 @@ pub enum Refusal {
     Schema,
     /// A builder lacks a field. No command answers it.
     Builder,
-    /// Memory was refused.
+    /// Out of memory.
     Memory,
     /// The text is no reference.
     Reference(ParseError),

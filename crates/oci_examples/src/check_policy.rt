@@ -1,6 +1,6 @@
-//! Reads a container's specification, and prints what a policy forbids: capabilities with which a container could reach its host,
-//! a `/proc` that is mounted without the option `ro`, and namespaces that it shares with its host. What each of these is stands in
-//! `specs/Policy.antt`, in words of the facade, and the answers have clauses that say exactly that.
+//! Reads a container's specification, and prints what a policy forbids: capabilities with which a container could reach its host, a
+//! `/proc` that is mounted without the option `ro`, and namespaces that it shares with its host. What each of these is, is defined in
+//! `specs/Policy.antt` in words of the facade, and the functions have clauses that say exactly that.
 ghost use Rattle.std.specs.Prelude.{◌↔◌, IsTrue};
 ghost use Rattle.oci_examples.specs.Policy.{HasCapability, HasNamespace, HasOption, IsIn, IsWritableProc, MayUse, SharesWithHost};
 

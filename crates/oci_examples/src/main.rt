@@ -1,6 +1,6 @@
-//! Six small programs over the public calls, one after the other: a manifest is put together, a registry's error reply is told, a
+//! Six small programs over the public calls, one after the other: a manifest is put together, a registry's error reply is reported, a
 //! reference is pinned to what an index has for a platform, a bundle's specification is checked by a policy, tightened and checked
-//! again, and one without privileges is printed. Their inputs stand in `data/`.
+//! again, and one without privileges is printed. Their inputs are in `data/`.
 #![tactic(auto)]
 
 mod build_manifest;

@@ -80,7 +80,7 @@ fn tighten(spec: &mut Spec, alloc: Global) -> Result<()>
     Ok(())
 }
 
-/// A path without `.` and empty parts: this stands in for what a runtime asks the file system.
+/// A path without `.` and empty parts: what a runtime would ask the file system for.
 fn resolve(alloc: Global, path: &str) -> Result<String> {
     let mut resolved = String::new(alloc);
     for part in path.split('/') {

@@ -1,4 +1,4 @@
-//! What a runtime can do, as it tells of itself.
+//! What a runtime supports, as it reports (runtime specification, "Features Structure").
 #![tactic(auto)]
 
 pub mod apparmor;

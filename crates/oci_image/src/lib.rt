@@ -1,5 +1,5 @@
-//! The image documents: configurations and their parts, and what stands behind this crate, descriptors, manifests, indexes and
-//! layouts; the keys of annotations and the version of the image specification.
+//! The image documents: configurations and their parts, and re-exports of descriptors, manifests, indexes and layouts; the keys of
+//! annotations and the version of the image specification.
 #![tactic(auto)]
 
 pub mod annotations;

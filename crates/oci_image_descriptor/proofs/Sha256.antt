@@ -1,9 +1,9 @@
--- SHA-256 digests, told by the name of their algorithm.
+-- SHA-256 digests, recognized by the name of their algorithm.
 use Rattle.std.proofs.Common.{◌≡◌, ℕ, List, Bool, true, false, cond, bytes_eq, codes, Some, None, refl, sym, subst, ap, ◌∙◌}
 use Rattle.std.proofs.lemmas.Slice.Eq.{bytes_eq-Decides}
 use Rattle.oci_text_base.specs.Digest.{IsDigest, IsDigestText}
 use Rattle.oci_text_base.specs.Names.{Name, variant, other, is_listed, opened, name_text}
-use Rattle.oci_image_descriptor.specs.Descriptor.{sha256_part}
+use Rattle.oci_image_descriptor.specs.DescriptorOwn.{sha256_part}
 
 same : (b : Bool) (t : List ℕ) → name_text (cond b (variant t) (other t)) ≡ t
 same true t = refl

@@ -1,4 +1,4 @@
-//! The machines that images are for.
+//! The platforms that images are for.
 #![tactic(auto)]
 
 pub mod platform;

@@ -4,7 +4,7 @@ use Rattle.oci_json_model.specs.Plain as plain
 use Rattle.oci_json_model.specs.Plain.{Plain, document, slots, empty, filled, plains}
 use Rattle.oci_runtime_defaults.specs.Defaults.{default_masked_paths, default_readonly_paths, rootless_namespaces}
 
--- one mapping: the container's ID 0 stands for this one of the host, and no other for any
+-- one mapping: the container's ID 0 is this one of the host, and no other ID is mapped
 abbrev pub mapping_of : ℕ → Plain
 mapping_of host = plain.list (plains (
     document (slots (filled (plain.whole (pos host)) ∷ filled (plain.whole (pos 0)) ∷ filled (plain.whole (pos 1)) ∷ []))

@@ -1,10 +1,10 @@
--- The numbers that a seccomp filter answers with (runtime specification, "Linux Container Configuration", "Seccomp", `action`).
+-- The return values of a seccomp filter (runtime specification, "Linux Container Configuration", "Seccomp", `action`).
 use Rattle.std.specs.Prelude.{ℕ, Option, bit_or, unwrap_or}
 use Rattle.oci_linux_names.specs.declared.linux_seccomp_action.LinuxSeccompAction.{LinuxSeccompAction}
 use Rattle.oci_linux_names.specs.declared.linux_seccomp_action.LinuxSeccompAction.TheVariants.{ScmpActKill, ScmpActKillThread, ScmpActKillProcess, ScmpActTrap, ScmpActErrno, ScmpActNotify, ScmpActTrace, ScmpActLog, ScmpActAllow}
 
--- the number for an action, which in two cases has the number that is handed on in its low bits, or 1 where none is given.
--- Beside each stands the kernel's name for it in `linux/seccomp.h`.
+-- the number for an action, which in two cases has the number that is passed on in its low bits, or 1 where none is given.
+-- Beside each is the kernel's name for it in `linux/seccomp.h`.
 abbrev pub filter_number : LinuxSeccompAction → Option ℕ → ℕ
 -- SECCOMP_RET_KILL and SECCOMP_RET_KILL_THREAD, 0
 filter_number ScmpActKill n = 0

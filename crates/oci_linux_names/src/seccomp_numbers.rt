@@ -1,11 +1,11 @@
-//! The numbers that a seccomp filter answers with (runtime specification, "Linux Container Configuration", "Seccomp", `action`).
+//! The return values of a seccomp filter (runtime specification, "Linux Container Configuration", "Seccomp", `action`).
 ghost use Rattle.std.specs.Prelude.{◌≡◌};
 ghost use Rattle.oci_linux_names.specs.SeccompNumbers.{filter_number};
 
 use crate::linux_seccomp_action::LinuxSeccompAction;
 
 impl LinuxSeccompAction {
-    /// The number that a filter answers with. `ScmpActErrno` and `ScmpActTrace` have the given number in their low bits,
+    /// The return value of a filter. `ScmpActErrno` and `ScmpActTrace` have the given number in their low bits,
     /// or 1 where none is given; the others pass over it.
     pub fn as_u32(&self, handed_on: Option<u32>) -> u32
         ensures { result ≡ filter_number self.now handed_on }

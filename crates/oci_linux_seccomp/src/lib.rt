@@ -1,5 +1,4 @@
-//! What the kernel does for a container: how it answers system calls, where it takes memory from, what share of the
-//! caches and which execution domain the container has.
+//! Seccomp filters, NUMA memory policy, Intel RDT and personality of a Linux container.
 #![tactic(auto)]
 
 pub mod linux_intel_rdt;

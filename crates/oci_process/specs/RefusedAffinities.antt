@@ -1,4 +1,4 @@
--- What the builder of an affinity says where it refuses (runtime specification, "Configuration", "Linux Process", `execCPUAffinity`).
+-- The errors of the builder of an affinity (runtime specification, "Configuration", "Linux Process", `execCPUAffinity`).
 use Rattle.std.specs.Prelude.{ℕ, List, ◌++◌, codes}
 
 -- the text that is no list of processors is named

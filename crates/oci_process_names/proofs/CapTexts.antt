@@ -20,7 +20,7 @@ repeated_more (suc n) t = append_assoc cap (repeated n cap) (cap ++ t) ∙ ap (�
 behind : (s t : List ℕ) → cap ++ s ≡ cap ++ t → s ≡ t
 behind s t e = cc
 
--- what stands behind all `CAP_` is one text
+-- what follows all `CAP_` is one text
 pub one_rest : (n k : ℕ) (r name : List ℕ) → ((t : List ℕ) → r ≡ cap ++ t → ⊥) → ((t : List ℕ) → name ≡ cap ++ t → ⊥) → repeated n cap ++ r ≡ repeated k cap ++ name → r ≡ name
 one_rest zero zero r name f g e = e
 one_rest zero (suc k) r name f g e = absurd (f (repeated k cap ++ name) (e ∙ append_assoc cap (repeated k cap) name))

@@ -13,7 +13,7 @@ abbrev pub IsOtherText : Option (String Global) → List ℕ → Type 0
 IsOtherText None text = ⊥
 IsOtherText (Some t) text = (string_bytes t ≡ text) × ¬ IsCpuList text
 
--- both may stand
+-- both are accepted
 abbrev pub AreLists : Option (String Global) → Option (String Global) → Type 0
 AreLists initial last = IsListIfGiven initial × IsListIfGiven last
 

@@ -4,10 +4,10 @@ ghost use Rattle.std.specs.Prelude.{◌≡◌, codes, IfOk, IfErr, string_bytes}
 use oci_text_base::{OciSpecError, Result};
 use std::alloc::Global;
 
-/// Changes that break what stands count up this number.
+/// The major version: incompatible changes increment it.
 pub const VERSION_MAJOR: u32 = 1;
 
-/// Changes that keep what stands count up this number.
+/// The minor version: compatible additions increment it.
 pub const VERSION_MINOR: u32 = 1;
 
 /// Mended faults count up this number.

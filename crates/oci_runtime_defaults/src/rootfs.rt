@@ -10,9 +10,9 @@ use oci_runtime_records::Root;
 use oci_text_base::{OciSpecError, Result};
 use std::alloc::{AllocError, Global};
 
-/// Replaces a root's path by what the resolver makes of it: it is asked for an absolute path alone; else for the bundle, and then
-/// for the path behind its answer. A root that says nothing of writing becomes writable. `Other` where there is no root, else the
-/// resolver's own refusal; after a refusal the root is as before.
+/// Replaces a root's path by what the resolver makes of it: it is asked once for an absolute path; else for the bundle, and then for
+/// the path joined to its result. An absent `readonly` becomes false. Fails with `Other` if there is no root, and with the resolver's
+/// own error; the root is unchanged after an error.
 pub fn canonicalize<R: Answer, F: Fn(&str) -> R>(
     root: &mut Option<Root>,
     alloc: Global,

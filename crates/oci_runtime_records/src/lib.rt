@@ -1,5 +1,5 @@
 //! The smaller records of a container's configuration and life: its root and its mounts, with the mounts that it has by default,
-//! the hooks that are run at its turns, and the state that a runtime tells of it (runtime specification, "Configuration", "Runtime
+//! the hooks that are run at its turns, and the state that a runtime reports (runtime specification, "Configuration", "Runtime
 //! and Lifecycle").
 #![tactic(auto)]
 
@@ -21,6 +21,6 @@ pub use oci_runtime_names::ContainerState;
 pub use root::{Root, RootBuilder};
 pub use state::{State, StateBuilder};
 
-/// The name of the open file over which system calls are told (runtime specification, "Linux Container Configuration",
+/// The name of the file descriptor over which system calls are reported (runtime specification, "Linux Container Configuration",
 /// "The Container Process State", `fds`).
 pub const SECCOMP_FD_NAME: &str = "seccompFd";

@@ -1,5 +1,5 @@
 //! The configuration of a container, the file `config.json` of its bundle (runtime specification, "Configuration"). Its builder
-//! stands in the crate above.
+//! is in the crate above, `oci_runtime`.
 #![tactic(auto)]
 
 pub mod spec;

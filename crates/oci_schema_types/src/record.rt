@@ -11,7 +11,7 @@ use crate::schema::Schema;
 pub struct Member {
     /// Its name.
     pub name: &'static str,
-    /// A second name, under which it is read too.
+    /// Its alias, under which it is read too.
     pub alias: Option<&'static str>,
     /// Whether it is required, and what its absence means.
     pub presence: Presence,

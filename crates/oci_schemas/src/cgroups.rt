@@ -14,7 +14,11 @@ ghost use Rattle.oci_shapes.specs.LinuxResources.{linux_resources};
 ghost use Rattle.oci_shapes.specs.LinuxThrottleDevice.{linux_throttle_device};
 ghost use Rattle.oci_shapes.specs.LinuxWeightDevice.{linux_weight_device};
 
-use crate::parts::{BOOLEAN, I64, LINUX_BLOCK_IO, LINUX_CPU, LINUX_DEVICE_CGROUP, LINUX_DEVICE_TYPE, LINUX_HUGEPAGE_LIMIT, LINUX_MEMORY, LINUX_NETWORK, LINUX_PIDS, LINUX_RDMA, LINUX_RESOURCES, LINUX_THROTTLE_DEVICE, LINUX_WEIGHT_DEVICE, STRING, U16, U64};
+use crate::parts::{
+    BOOLEAN, I64, LINUX_BLOCK_IO, LINUX_CPU, LINUX_DEVICE_CGROUP, LINUX_DEVICE_TYPE,
+    LINUX_HUGEPAGE_LIMIT, LINUX_MEMORY, LINUX_NETWORK, LINUX_PIDS, LINUX_RDMA, LINUX_RESOURCES,
+    LINUX_THROTTLE_DEVICE, LINUX_WEIGHT_DEVICE, STRING, U16, U64,
+};
 use oci_schema_types::{DefaultValue, Member, Presence, Record, Schema};
 
 static LINUX_BLOCK_IO_RECORD: Record = Record {
@@ -22,11 +26,31 @@ static LINUX_BLOCK_IO_RECORD: Record = Record {
     members: &[
         member!("weight", Presence::Optional, Schema::One(U16)),
         member!("leafWeight", Presence::Optional, Schema::One(U16)),
-        member!("weightDevice", Presence::Optional, Schema::List(LINUX_WEIGHT_DEVICE)),
-        member!("throttleReadBpsDevice", Presence::Optional, Schema::List(LINUX_THROTTLE_DEVICE)),
-        member!("throttleWriteBpsDevice", Presence::Optional, Schema::List(LINUX_THROTTLE_DEVICE)),
-        member!("throttleReadIOPSDevice", Presence::Optional, Schema::List(LINUX_THROTTLE_DEVICE)),
-        member!("throttleWriteIOPSDevice", Presence::Optional, Schema::List(LINUX_THROTTLE_DEVICE)),
+        member!(
+            "weightDevice",
+            Presence::Optional,
+            Schema::List(LINUX_WEIGHT_DEVICE)
+        ),
+        member!(
+            "throttleReadBpsDevice",
+            Presence::Optional,
+            Schema::List(LINUX_THROTTLE_DEVICE)
+        ),
+        member!(
+            "throttleWriteBpsDevice",
+            Presence::Optional,
+            Schema::List(LINUX_THROTTLE_DEVICE)
+        ),
+        member!(
+            "throttleReadIOPSDevice",
+            Presence::Optional,
+            Schema::List(LINUX_THROTTLE_DEVICE)
+        ),
+        member!(
+            "throttleWriteIOPSDevice",
+            Presence::Optional,
+            Schema::List(LINUX_THROTTLE_DEVICE)
+        ),
     ],
 };
 
@@ -80,7 +104,11 @@ pub fn linux_cpu() -> &'static Schema
 static LINUX_DEVICE_CGROUP_RECORD: Record = Record {
     name: "LinuxDeviceCgroup",
     members: &[
-        member!("allow", Presence::Defaulted(DefaultValue::Boolean(false)), Schema::One(BOOLEAN)),
+        member!(
+            "allow",
+            Presence::Defaulted(DefaultValue::Boolean(false)),
+            Schema::One(BOOLEAN)
+        ),
         member!("type", Presence::Optional, Schema::One(LINUX_DEVICE_TYPE)),
         member!("major", Presence::Optional, Schema::One(I64)),
         member!("minor", Presence::Optional, Schema::One(I64)),
@@ -107,8 +135,16 @@ pub fn linux_device_cgroup() -> &'static Schema
 static LINUX_HUGEPAGE_LIMIT_RECORD: Record = Record {
     name: "LinuxHugepageLimit",
     members: &[
-        member!("pageSize", Presence::Defaulted(DefaultValue::String("")), Schema::One(STRING)),
-        member!("limit", Presence::Defaulted(DefaultValue::Integer(0)), Schema::One(I64)),
+        member!(
+            "pageSize",
+            Presence::Defaulted(DefaultValue::String("")),
+            Schema::One(STRING)
+        ),
+        member!(
+            "limit",
+            Presence::Defaulted(DefaultValue::Integer(0)),
+            Schema::One(I64)
+        ),
     ],
 };
 
@@ -139,7 +175,11 @@ static LINUX_MEMORY_RECORD: Record = Record {
         member!("swappiness", Presence::Optional, Schema::One(U64)),
         member!("disableOOMKiller", Presence::Optional, Schema::One(BOOLEAN)),
         member!("useHierarchy", Presence::Optional, Schema::One(BOOLEAN)),
-        member!("checkBeforeUpdate", Presence::Optional, Schema::One(BOOLEAN)),
+        member!(
+            "checkBeforeUpdate",
+            Presence::Optional,
+            Schema::One(BOOLEAN)
+        ),
     ],
 };
 
@@ -161,9 +201,11 @@ pub fn linux_memory() -> &'static Schema
 
 static LINUX_PIDS_RECORD: Record = Record {
     name: "LinuxPids",
-    members: &[
-        member!("limit", Presence::Defaulted(DefaultValue::Integer(0)), Schema::One(I64)),
-    ],
+    members: &[member!(
+        "limit",
+        Presence::Defaulted(DefaultValue::Integer(0)),
+        Schema::One(I64)
+    )],
 };
 
 static LINUX_PIDS_SCHEMA: Schema = Schema::One(LINUX_PIDS);
@@ -185,12 +227,20 @@ pub fn linux_pids() -> &'static Schema
 static LINUX_RESOURCES_RECORD: Record = Record {
     name: "LinuxResources",
     members: &[
-        member!("devices", Presence::Optional, Schema::List(LINUX_DEVICE_CGROUP)),
+        member!(
+            "devices",
+            Presence::Optional,
+            Schema::List(LINUX_DEVICE_CGROUP)
+        ),
         member!("memory", Presence::Optional, Schema::One(LINUX_MEMORY)),
         member!("cpu", Presence::Optional, Schema::One(LINUX_CPU)),
         member!("pids", Presence::Optional, Schema::One(LINUX_PIDS)),
         member!("blockIO", Presence::Optional, Schema::One(LINUX_BLOCK_IO)),
-        member!("hugepageLimits", Presence::Optional, Schema::List(LINUX_HUGEPAGE_LIMIT)),
+        member!(
+            "hugepageLimits",
+            Presence::Optional,
+            Schema::List(LINUX_HUGEPAGE_LIMIT)
+        ),
         member!("network", Presence::Optional, Schema::One(LINUX_NETWORK)),
         member!("rdma", Presence::Optional, Schema::Map(LINUX_RDMA)),
         member!("unified", Presence::Optional, Schema::Map(STRING)),
@@ -216,9 +266,21 @@ pub fn linux_resources() -> &'static Schema
 static LINUX_THROTTLE_DEVICE_RECORD: Record = Record {
     name: "LinuxThrottleDevice",
     members: &[
-        member!("major", Presence::Defaulted(DefaultValue::Integer(0)), Schema::One(I64)),
-        member!("minor", Presence::Defaulted(DefaultValue::Integer(0)), Schema::One(I64)),
-        member!("rate", Presence::Defaulted(DefaultValue::Integer(0)), Schema::One(U64)),
+        member!(
+            "major",
+            Presence::Defaulted(DefaultValue::Integer(0)),
+            Schema::One(I64)
+        ),
+        member!(
+            "minor",
+            Presence::Defaulted(DefaultValue::Integer(0)),
+            Schema::One(I64)
+        ),
+        member!(
+            "rate",
+            Presence::Defaulted(DefaultValue::Integer(0)),
+            Schema::One(U64)
+        ),
     ],
 };
 
@@ -241,8 +303,16 @@ pub fn linux_throttle_device() -> &'static Schema
 static LINUX_WEIGHT_DEVICE_RECORD: Record = Record {
     name: "LinuxWeightDevice",
     members: &[
-        member!("major", Presence::Defaulted(DefaultValue::Integer(0)), Schema::One(I64)),
-        member!("minor", Presence::Defaulted(DefaultValue::Integer(0)), Schema::One(I64)),
+        member!(
+            "major",
+            Presence::Defaulted(DefaultValue::Integer(0)),
+            Schema::One(I64)
+        ),
+        member!(
+            "minor",
+            Presence::Defaulted(DefaultValue::Integer(0)),
+            Schema::One(I64)
+        ),
         member!("weight", Presence::Optional, Schema::One(U16)),
         member!("leafWeight", Presence::Optional, Schema::One(U16)),
     ],

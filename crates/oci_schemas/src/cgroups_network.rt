@@ -14,8 +14,16 @@ use oci_schema_types::{DefaultValue, Member, Presence, Record, Schema};
 static LINUX_INTERFACE_PRIORITY_RECORD: Record = Record {
     name: "LinuxInterfacePriority",
     members: &[
-        member!("name", Presence::Defaulted(DefaultValue::String("")), Schema::One(STRING)),
-        member!("priority", Presence::Defaulted(DefaultValue::Integer(0)), Schema::One(U32)),
+        member!(
+            "name",
+            Presence::Defaulted(DefaultValue::String("")),
+            Schema::One(STRING)
+        ),
+        member!(
+            "priority",
+            Presence::Defaulted(DefaultValue::Integer(0)),
+            Schema::One(U32)
+        ),
     ],
 };
 
@@ -39,7 +47,11 @@ static LINUX_NETWORK_RECORD: Record = Record {
     name: "LinuxNetwork",
     members: &[
         member!("classID", Presence::Optional, Schema::One(U32)),
-        member!("priorities", Presence::Optional, Schema::List(LINUX_INTERFACE_PRIORITY)),
+        member!(
+            "priorities",
+            Presence::Optional,
+            Schema::List(LINUX_INTERFACE_PRIORITY)
+        ),
     ],
 };
 

@@ -9,7 +9,9 @@ ghost use Rattle.oci_shapes.specs.ErrorResponse.{error_response};
 ghost use Rattle.oci_shapes.specs.RepositoryList.{repository_list};
 ghost use Rattle.oci_shapes.specs.TagList.{tag_list};
 
-use crate::parts::{DETAIL, ERROR_CODE, ERROR_INFO, ERROR_RESPONSE, REPOSITORY_LIST, STRING, TAG_LIST};
+use crate::parts::{
+    DETAIL, ERROR_CODE, ERROR_INFO, ERROR_RESPONSE, REPOSITORY_LIST, STRING, TAG_LIST,
+};
 use oci_schema_types::{Member, Presence, Record, Schema};
 
 static ERROR_INFO_RECORD: Record = Record {
@@ -39,9 +41,7 @@ pub fn error_info() -> &'static Schema
 
 static ERROR_RESPONSE_RECORD: Record = Record {
     name: "ErrorResponse",
-    members: &[
-        member!("errors", Presence::Required, Schema::List(ERROR_INFO)),
-    ],
+    members: &[member!("errors", Presence::Required, Schema::List(ERROR_INFO))],
 };
 
 static ERROR_RESPONSE_SCHEMA: Schema = Schema::One(ERROR_RESPONSE);
@@ -62,9 +62,7 @@ pub fn error_response() -> &'static Schema
 
 static REPOSITORY_LIST_RECORD: Record = Record {
     name: "RepositoryList",
-    members: &[
-        member!("repositories", Presence::Required, Schema::List(STRING)),
-    ],
+    members: &[member!("repositories", Presence::Required, Schema::List(STRING))],
 };
 
 static REPOSITORY_LIST_SCHEMA: Schema = Schema::One(REPOSITORY_LIST);

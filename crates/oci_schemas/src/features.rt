@@ -16,14 +16,16 @@ ghost use Rattle.oci_shapes.specs.NetDevices.{net_devices};
 ghost use Rattle.oci_shapes.specs.Seccomp.{seccomp};
 ghost use Rattle.oci_shapes.specs.Selinux.{selinux};
 
-use crate::parts::{APPARMOR, BOOLEAN, CGROUP, FEATURES, ID_MAP, INTEL_RDT, LINUX_FEATURE, LINUX_NAMESPACE_TYPE, LINUX_SECCOMP_ACTION, MEMORY_POLICY, MOUNT_EXTENSIONS, NET_DEVICES, SECCOMP, SELINUX, STRING, S_ARCH};
+use crate::parts::{
+    APPARMOR, BOOLEAN, CGROUP, FEATURES, ID_MAP, INTEL_RDT, LINUX_FEATURE, LINUX_NAMESPACE_TYPE,
+    LINUX_SECCOMP_ACTION, MEMORY_POLICY, MOUNT_EXTENSIONS, NET_DEVICES, S_ARCH, SECCOMP, SELINUX,
+    STRING,
+};
 use oci_schema_types::{Member, Presence, Record, Schema};
 
 static APPARMOR_RECORD: Record = Record {
     name: "Apparmor",
-    members: &[
-        member!("enabled", Presence::Nullable, Schema::One(BOOLEAN)),
-    ],
+    members: &[member!("enabled", Presence::Nullable, Schema::One(BOOLEAN))],
 };
 
 static APPARMOR_SCHEMA: Schema = Schema::One(APPARMOR);
@@ -78,7 +80,11 @@ static FEATURES_RECORD: Record = Record {
         member!("mountOptions", Presence::Nullable, Schema::List(STRING)),
         member!("linux", Presence::Nullable, Schema::One(LINUX_FEATURE)),
         member!("annotations", Presence::Nullable, Schema::Map(STRING)),
-        member!("potentiallyUnsafeConfigAnnotations", Presence::Nullable, Schema::List(STRING)),
+        member!(
+            "potentiallyUnsafeConfigAnnotations",
+            Presence::Nullable,
+            Schema::List(STRING)
+        ),
     ],
 };
 
@@ -100,9 +106,7 @@ pub fn features() -> &'static Schema
 
 static ID_MAP_RECORD: Record = Record {
     name: "IDMap",
-    members: &[
-        member!("enabled", Presence::Nullable, Schema::One(BOOLEAN)),
-    ],
+    members: &[member!("enabled", Presence::Nullable, Schema::One(BOOLEAN))],
 };
 
 static ID_MAP_SCHEMA: Schema = Schema::One(ID_MAP);
@@ -149,15 +153,27 @@ pub fn intel_rdt() -> &'static Schema
 static LINUX_FEATURE_RECORD: Record = Record {
     name: "LinuxFeature",
     members: &[
-        member!("namespaces", Presence::Nullable, Schema::List(LINUX_NAMESPACE_TYPE)),
+        member!(
+            "namespaces",
+            Presence::Nullable,
+            Schema::List(LINUX_NAMESPACE_TYPE)
+        ),
         member!("capabilities", Presence::Nullable, Schema::List(STRING)),
         member!("cgroup", Presence::Nullable, Schema::One(CGROUP)),
         member!("seccomp", Presence::Nullable, Schema::One(SECCOMP)),
         member!("apparmor", Presence::Nullable, Schema::One(APPARMOR)),
         member!("selinux", Presence::Nullable, Schema::One(SELINUX)),
         member!("intelRdt", Presence::Nullable, Schema::One(INTEL_RDT)),
-        member!("memoryPolicy", Presence::Nullable, Schema::One(MEMORY_POLICY)),
-        member!("mountExtensions", Presence::Nullable, Schema::One(MOUNT_EXTENSIONS)),
+        member!(
+            "memoryPolicy",
+            Presence::Nullable,
+            Schema::One(MEMORY_POLICY)
+        ),
+        member!(
+            "mountExtensions",
+            Presence::Nullable,
+            Schema::One(MOUNT_EXTENSIONS)
+        ),
         member!("netDevices", Presence::Nullable, Schema::One(NET_DEVICES)),
     ],
 };
@@ -204,9 +220,7 @@ pub fn memory_policy() -> &'static Schema
 
 static MOUNT_EXTENSIONS_RECORD: Record = Record {
     name: "MountExtensions",
-    members: &[
-        member!("idmap", Presence::Nullable, Schema::One(ID_MAP)),
-    ],
+    members: &[member!("idmap", Presence::Nullable, Schema::One(ID_MAP))],
 };
 
 static MOUNT_EXTENSIONS_SCHEMA: Schema = Schema::One(MOUNT_EXTENSIONS);
@@ -227,9 +241,7 @@ pub fn mount_extensions() -> &'static Schema
 
 static NET_DEVICES_RECORD: Record = Record {
     name: "NetDevices",
-    members: &[
-        member!("enabled", Presence::Nullable, Schema::One(BOOLEAN)),
-    ],
+    members: &[member!("enabled", Presence::Nullable, Schema::One(BOOLEAN))],
 };
 
 static NET_DEVICES_SCHEMA: Schema = Schema::One(NET_DEVICES);
@@ -252,7 +264,11 @@ static SECCOMP_RECORD: Record = Record {
     name: "Seccomp",
     members: &[
         member!("enabled", Presence::Nullable, Schema::One(BOOLEAN)),
-        member!("actions", Presence::Nullable, Schema::List(LINUX_SECCOMP_ACTION)),
+        member!(
+            "actions",
+            Presence::Nullable,
+            Schema::List(LINUX_SECCOMP_ACTION)
+        ),
         member!("operators", Presence::Nullable, Schema::List(STRING)),
         member!("archs", Presence::Nullable, Schema::List(S_ARCH)),
         member!("knownFlags", Presence::Nullable, Schema::List(STRING)),
@@ -278,9 +294,7 @@ pub fn seccomp() -> &'static Schema
 
 static SELINUX_RECORD: Record = Record {
     name: "Selinux",
-    members: &[
-        member!("enabled", Presence::Nullable, Schema::One(BOOLEAN)),
-    ],
+    members: &[member!("enabled", Presence::Nullable, Schema::One(BOOLEAN))],
 };
 
 static SELINUX_SCHEMA: Schema = Schema::One(SELINUX);

@@ -9,7 +9,9 @@ ghost use Rattle.oci_shapes.specs.History.{history};
 ghost use Rattle.oci_shapes.specs.ImageConfiguration.{image_configuration};
 ghost use Rattle.oci_shapes.specs.RootFs.{root_fs};
 
-use crate::parts::{ARCH, BOOLEAN, CONFIG, HISTORY, IMAGE_CONFIGURATION, KEYS, OS, ROOT_FS, STRING};
+use crate::parts::{
+    ARCH, BOOLEAN, CONFIG, HISTORY, IMAGE_CONFIGURATION, KEYS, OS, ROOT_FS, STRING,
+};
 use oci_schema_types::{Member, Presence, Record, Schema};
 
 static CONFIG_RECORD: Record = Record {
@@ -88,7 +90,7 @@ static IMAGE_CONFIGURATION_RECORD: Record = Record {
 
 static IMAGE_CONFIGURATION_SCHEMA: Schema = Schema::One(IMAGE_CONFIGURATION);
 
-/// The members of `ImageConfiguration`: an image's configuration: its machine, its layers and what a container runs with (image specification, "Image Configuration").
+/// The members of `ImageConfiguration`: an image's configuration: its platform, its layers and what a container runs with (image specification, "Image Configuration").
 pub fn image_configuration_record() -> &'static Record
     ensures { rows (members_in (shape_at shapes) result.now.members.now) ≡ image_configuration }
 {

@@ -9,7 +9,9 @@ ghost use Rattle.oci_shapes.specs.ImageIndex.{image_index};
 ghost use Rattle.oci_shapes.specs.ImageManifest.{image_manifest};
 ghost use Rattle.oci_shapes.specs.OciLayout.{oci_layout};
 
-use crate::parts::{ARTIFACT_MANIFEST, DESCRIPTOR, IMAGE_INDEX, IMAGE_MANIFEST, MEDIA_TYPE, OCI_LAYOUT, STRING, U32};
+use crate::parts::{
+    ARTIFACT_MANIFEST, DESCRIPTOR, IMAGE_INDEX, IMAGE_MANIFEST, MEDIA_TYPE, OCI_LAYOUT, STRING, U32,
+};
 use oci_schema_types::{Member, Presence, Record, Schema};
 
 static ARTIFACT_MANIFEST_RECORD: Record = Record {
@@ -53,7 +55,7 @@ static IMAGE_INDEX_RECORD: Record = Record {
 
 static IMAGE_INDEX_SCHEMA: Schema = Schema::One(IMAGE_INDEX);
 
-/// The members of `ImageIndex`: manifests of one image for several machines (image specification, "Image Index").
+/// The members of `ImageIndex`: manifests of one image for several platforms (image specification, "Image Index").
 pub fn image_index_record() -> &'static Record
     ensures { rows (members_in (shape_at shapes) result.now.members.now) ≡ image_index }
 {
@@ -82,7 +84,7 @@ static IMAGE_MANIFEST_RECORD: Record = Record {
 
 static IMAGE_MANIFEST_SCHEMA: Schema = Schema::One(IMAGE_MANIFEST);
 
-/// The members of `ImageManifest`: a configuration and layers for one image on one machine (image specification, "Image Manifest").
+/// The members of `ImageManifest`: a configuration and layers for one image on one platform (image specification, "Image Manifest").
 pub fn image_manifest_record() -> &'static Record
     ensures { rows (members_in (shape_at shapes) result.now.members.now) ≡ image_manifest }
 {
@@ -98,9 +100,11 @@ pub fn image_manifest() -> &'static Schema
 
 static OCI_LAYOUT_RECORD: Record = Record {
     name: "OciLayout",
-    members: &[
-        member!("imageLayoutVersion", Presence::Required, Schema::One(STRING)),
-    ],
+    members: &[member!(
+        "imageLayoutVersion",
+        Presence::Required,
+        Schema::One(STRING)
+    )],
 };
 
 static OCI_LAYOUT_SCHEMA: Schema = Schema::One(OCI_LAYOUT);

@@ -14,8 +14,16 @@ static PLATFORM_RECORD: Record = Record {
     members: &[
         member!("architecture", Presence::Required, Schema::One(ARCH)),
         member!("os", Presence::Required, Schema::One(OS)),
-        member!("os.version" | "os_version", Presence::Optional, Schema::One(STRING)),
-        member!("os.features" | "os_features", Presence::Optional, Schema::List(STRING)),
+        member!(
+            "os.version" | "os_version",
+            Presence::Optional,
+            Schema::One(STRING)
+        ),
+        member!(
+            "os.features" | "os_features",
+            Presence::Optional,
+            Schema::List(STRING)
+        ),
         member!("variant", Presence::Optional, Schema::One(STRING)),
         member!("features", Presence::Optional, Schema::List(STRING)),
     ],
@@ -23,7 +31,7 @@ static PLATFORM_RECORD: Record = Record {
 
 static PLATFORM_SCHEMA: Schema = Schema::One(PLATFORM);
 
-/// The members of `Platform`: the machine that an image is for (image specification, "Image Index", `platform`).
+/// The members of `Platform`: the platform that an image is for (image specification, "Image Index", `platform`).
 pub fn platform_record() -> &'static Record
     ensures { rows (members_in (shape_at shapes) result.now.members.now) ≡ platform }
 {

@@ -23,7 +23,7 @@ pub mod image_manifest;
 pub mod image_platform;
 pub mod linux;
 pub mod linux_namespaces;
-pub mod linux_policies;
+pub mod linux_seccomp;
 pub mod parts;
 pub mod platforms;
 pub mod platforms_windows;

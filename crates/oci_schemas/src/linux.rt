@@ -6,19 +6,42 @@ ghost use Rattle.oci_schema_types.specs.Shapes.{members_in, schema_shape, shape_
 ghost use Rattle.oci_schemas.specs.Table.{shapes};
 ghost use Rattle.oci_shapes.specs.Linux.{linux};
 
-use crate::parts::{LINUX, LINUX_DEVICE, LINUX_ID_MAPPING, LINUX_INTEL_RDT, LINUX_MEMORY_POLICY, LINUX_NAMESPACE, LINUX_NET_DEVICE, LINUX_PERSONALITY, LINUX_RESOURCES, LINUX_SECCOMP, LINUX_TIME_OFFSET, STRING};
+use crate::parts::{
+    LINUX, LINUX_DEVICE, LINUX_ID_MAPPING, LINUX_INTEL_RDT, LINUX_MEMORY_POLICY, LINUX_NAMESPACE,
+    LINUX_NET_DEVICE, LINUX_PERSONALITY, LINUX_RESOURCES, LINUX_SECCOMP, LINUX_TIME_OFFSET, STRING,
+};
 use oci_schema_types::{Member, Presence, Record, Schema};
 
 static LINUX_RECORD: Record = Record {
     name: "Linux",
     members: &[
-        member!("netDevices", Presence::Optional, Schema::Map(LINUX_NET_DEVICE)),
-        member!("uidMappings", Presence::Optional, Schema::List(LINUX_ID_MAPPING)),
-        member!("gidMappings", Presence::Optional, Schema::List(LINUX_ID_MAPPING)),
+        member!(
+            "netDevices",
+            Presence::Optional,
+            Schema::Map(LINUX_NET_DEVICE)
+        ),
+        member!(
+            "uidMappings",
+            Presence::Optional,
+            Schema::List(LINUX_ID_MAPPING)
+        ),
+        member!(
+            "gidMappings",
+            Presence::Optional,
+            Schema::List(LINUX_ID_MAPPING)
+        ),
         member!("sysctl", Presence::Optional, Schema::Map(STRING)),
-        member!("resources", Presence::Optional, Schema::One(LINUX_RESOURCES)),
+        member!(
+            "resources",
+            Presence::Optional,
+            Schema::One(LINUX_RESOURCES)
+        ),
         member!("cgroupsPath", Presence::Optional, Schema::One(STRING)),
-        member!("namespaces", Presence::Optional, Schema::List(LINUX_NAMESPACE)),
+        member!(
+            "namespaces",
+            Presence::Optional,
+            Schema::List(LINUX_NAMESPACE)
+        ),
         member!("devices", Presence::Optional, Schema::List(LINUX_DEVICE)),
         member!("seccomp", Presence::Optional, Schema::One(LINUX_SECCOMP)),
         member!("rootfsPropagation", Presence::Optional, Schema::One(STRING)),
@@ -26,9 +49,21 @@ static LINUX_RECORD: Record = Record {
         member!("readonlyPaths", Presence::Optional, Schema::List(STRING)),
         member!("mountLabel", Presence::Optional, Schema::One(STRING)),
         member!("intelRdt", Presence::Optional, Schema::One(LINUX_INTEL_RDT)),
-        member!("memoryPolicy", Presence::Optional, Schema::One(LINUX_MEMORY_POLICY)),
-        member!("personality", Presence::Optional, Schema::One(LINUX_PERSONALITY)),
-        member!("timeOffsets", Presence::Optional, Schema::Map(LINUX_TIME_OFFSET)),
+        member!(
+            "memoryPolicy",
+            Presence::Optional,
+            Schema::One(LINUX_MEMORY_POLICY)
+        ),
+        member!(
+            "personality",
+            Presence::Optional,
+            Schema::One(LINUX_PERSONALITY)
+        ),
+        member!(
+            "timeOffsets",
+            Presence::Optional,
+            Schema::Map(LINUX_TIME_OFFSET)
+        ),
     ],
 };
 

@@ -10,16 +10,31 @@ ghost use Rattle.oci_shapes.specs.LinuxNamespace.{linux_namespace};
 ghost use Rattle.oci_shapes.specs.LinuxNetDevice.{linux_net_device};
 ghost use Rattle.oci_shapes.specs.LinuxTimeOffset.{linux_time_offset};
 
-use crate::parts::{I64, LINUX_DEVICE, LINUX_DEVICE_TYPE, LINUX_ID_MAPPING, LINUX_NAMESPACE, LINUX_NAMESPACE_TYPE, LINUX_NET_DEVICE, LINUX_TIME_OFFSET, STRING, U32};
+use crate::parts::{
+    I64, LINUX_DEVICE, LINUX_DEVICE_TYPE, LINUX_ID_MAPPING, LINUX_NAMESPACE, LINUX_NAMESPACE_TYPE,
+    LINUX_NET_DEVICE, LINUX_TIME_OFFSET, STRING, U32,
+};
 use oci_schema_types::{DefaultValue, Member, Presence, Record, Schema};
 
 static LINUX_DEVICE_RECORD: Record = Record {
     name: "LinuxDevice",
     members: &[
-        member!("path", Presence::Defaulted(DefaultValue::String("")), Schema::One(STRING)),
+        member!(
+            "path",
+            Presence::Defaulted(DefaultValue::String("")),
+            Schema::One(STRING)
+        ),
         member!("type", Presence::Required, Schema::One(LINUX_DEVICE_TYPE)),
-        member!("major", Presence::Defaulted(DefaultValue::Integer(0)), Schema::One(I64)),
-        member!("minor", Presence::Defaulted(DefaultValue::Integer(0)), Schema::One(I64)),
+        member!(
+            "major",
+            Presence::Defaulted(DefaultValue::Integer(0)),
+            Schema::One(I64)
+        ),
+        member!(
+            "minor",
+            Presence::Defaulted(DefaultValue::Integer(0)),
+            Schema::One(I64)
+        ),
         member!("fileMode", Presence::Optional, Schema::One(U32)),
         member!("uid", Presence::Optional, Schema::One(U32)),
         member!("gid", Presence::Optional, Schema::One(U32)),
@@ -45,15 +60,27 @@ pub fn linux_device() -> &'static Schema
 static LINUX_ID_MAPPING_RECORD: Record = Record {
     name: "LinuxIdMapping",
     members: &[
-        member!("hostID", Presence::Defaulted(DefaultValue::Integer(0)), Schema::One(U32)),
-        member!("containerID", Presence::Defaulted(DefaultValue::Integer(0)), Schema::One(U32)),
-        member!("size", Presence::Defaulted(DefaultValue::Integer(0)), Schema::One(U32)),
+        member!(
+            "hostID",
+            Presence::Defaulted(DefaultValue::Integer(0)),
+            Schema::One(U32)
+        ),
+        member!(
+            "containerID",
+            Presence::Defaulted(DefaultValue::Integer(0)),
+            Schema::One(U32)
+        ),
+        member!(
+            "size",
+            Presence::Defaulted(DefaultValue::Integer(0)),
+            Schema::One(U32)
+        ),
     ],
 };
 
 static LINUX_ID_MAPPING_SCHEMA: Schema = Schema::One(LINUX_ID_MAPPING);
 
-/// The members of `LinuxIdMapping`: a run of user or group IDs of a container, and the IDs of the host that they stand for (runtime specification, "Linux Container Configuration", "User namespace mappings").
+/// The members of `LinuxIdMapping`: a range of user or group IDs of a container, and the host's IDs that it is mapped to (runtime specification, "Linux Container Configuration", "User namespace mappings").
 pub fn linux_id_mapping_record() -> &'static Record
     ensures { rows (members_in (shape_at shapes) result.now.members.now) ≡ linux_id_mapping }
 {
@@ -70,7 +97,11 @@ pub fn linux_id_mapping() -> &'static Schema
 static LINUX_NAMESPACE_RECORD: Record = Record {
     name: "LinuxNamespace",
     members: &[
-        member!("type", Presence::Required, Schema::One(LINUX_NAMESPACE_TYPE)),
+        member!(
+            "type",
+            Presence::Required,
+            Schema::One(LINUX_NAMESPACE_TYPE)
+        ),
         member!("path", Presence::Optional, Schema::One(STRING)),
     ],
 };
@@ -93,9 +124,7 @@ pub fn linux_namespace() -> &'static Schema
 
 static LINUX_NET_DEVICE_RECORD: Record = Record {
     name: "LinuxNetDevice",
-    members: &[
-        member!("name", Presence::Nullable, Schema::One(STRING)),
-    ],
+    members: &[member!("name", Presence::Nullable, Schema::One(STRING))],
 };
 
 static LINUX_NET_DEVICE_SCHEMA: Schema = Schema::One(LINUX_NET_DEVICE);

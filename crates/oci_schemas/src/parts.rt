@@ -54,49 +54,165 @@ pub const I32: Part = Part::Scalar(Scalar::Integer(-2147483648, 2147483647));
 pub const I64: Part = Part::Scalar(Scalar::Integer(-9223372036854775808, 9223372036854775807));
 
 /// The enum `ContainerState`.
-pub const CONTAINER_STATE: Part = Part::Scalar(Scalar::Enum(&["creating", "created", "running", "stopped"]));
+pub const CONTAINER_STATE: Part = Part::Scalar(Scalar::Enum(&[
+    "creating", "created", "running", "stopped",
+]));
 
 /// The enum `ErrorCode`.
-pub const ERROR_CODE: Part = Part::Scalar(Scalar::Enum(&["BLOB_UNKNOWN", "BLOB_UPLOAD_INVALID", "BLOB_UPLOAD_UNKNOWN", "DIGEST_INVALID", "MANIFEST_BLOB_UNKNOWN", "MANIFEST_INVALID", "MANIFEST_UNKNOWN", "NAME_INVALID", "NAME_UNKNOWN", "SIZE_INVALID", "UNAUTHORIZED", "DENIED", "UNSUPPORTED", "TOOMANYREQUESTS"]));
+pub const ERROR_CODE: Part = Part::Scalar(Scalar::Enum(&[
+    "BLOB_UNKNOWN",
+    "BLOB_UPLOAD_INVALID",
+    "BLOB_UPLOAD_UNKNOWN",
+    "DIGEST_INVALID",
+    "MANIFEST_BLOB_UNKNOWN",
+    "MANIFEST_INVALID",
+    "MANIFEST_UNKNOWN",
+    "NAME_INVALID",
+    "NAME_UNKNOWN",
+    "SIZE_INVALID",
+    "UNAUTHORIZED",
+    "DENIED",
+    "UNSUPPORTED",
+    "TOOMANYREQUESTS",
+]));
 
 /// The enum `IOPriorityClass`.
-pub const IO_PRIORITY_CLASS: Part = Part::Scalar(Scalar::Enum(&["IOPRIO_CLASS_RT", "IOPRIO_CLASS_BE", "IOPRIO_CLASS_IDLE"]));
+pub const IO_PRIORITY_CLASS: Part = Part::Scalar(Scalar::Enum(&[
+    "IOPRIO_CLASS_RT",
+    "IOPRIO_CLASS_BE",
+    "IOPRIO_CLASS_IDLE",
+]));
 
 /// The enum `LinuxDeviceType`.
 pub const LINUX_DEVICE_TYPE: Part = Part::Scalar(Scalar::Enum(&["a", "b", "c", "u", "p"]));
 
 /// The enum `LinuxNamespaceType`.
-pub const LINUX_NAMESPACE_TYPE: Part = Part::Scalar(Scalar::Enum(&["mount", "cgroup", "uts", "ipc", "user", "pid", "network", "time"]));
+pub const LINUX_NAMESPACE_TYPE: Part = Part::Scalar(Scalar::Enum(&[
+    "mount", "cgroup", "uts", "ipc", "user", "pid", "network", "time",
+]));
 
 /// The enum `LinuxPersonalityDomain`.
 pub const LINUX_PERSONALITY_DOMAIN: Part = Part::Scalar(Scalar::Enum(&["LINUX", "LINUX32"]));
 
 /// The enum `LinuxSchedulerFlag`.
-pub const LINUX_SCHEDULER_FLAG: Part = Part::Scalar(Scalar::Enum(&["SCHED_RESET_ON_FORK", "SCHED_FLAG_RECLAIM", "SCHED_FLAG_D_L_OVERRUN", "SCHED_FLAG_KEEP_POLICY", "SCHED_FLAG_KEEP_PARAMS", "SCHED_FLAG_UTIL_CLAMP_MIN", "SCHED_FLAG_UTIL_CLAMP_MAX"]));
+pub const LINUX_SCHEDULER_FLAG: Part = Part::Scalar(Scalar::Enum(&[
+    "SCHED_RESET_ON_FORK",
+    "SCHED_FLAG_RECLAIM",
+    "SCHED_FLAG_D_L_OVERRUN",
+    "SCHED_FLAG_KEEP_POLICY",
+    "SCHED_FLAG_KEEP_PARAMS",
+    "SCHED_FLAG_UTIL_CLAMP_MIN",
+    "SCHED_FLAG_UTIL_CLAMP_MAX",
+]));
 
 /// The enum `LinuxSchedulerPolicy`.
-pub const LINUX_SCHEDULER_POLICY: Part = Part::Scalar(Scalar::Enum(&["SCHED_OTHER", "SCHED_FIFO", "SCHED_RR", "SCHED_BATCH", "SCHED_ISO", "SCHED_IDLE", "SCHED_DEADLINE"]));
+pub const LINUX_SCHEDULER_POLICY: Part = Part::Scalar(Scalar::Enum(&[
+    "SCHED_OTHER",
+    "SCHED_FIFO",
+    "SCHED_RR",
+    "SCHED_BATCH",
+    "SCHED_ISO",
+    "SCHED_IDLE",
+    "SCHED_DEADLINE",
+]));
 
 /// The enum `LinuxSeccompAction`.
-pub const LINUX_SECCOMP_ACTION: Part = Part::Scalar(Scalar::Enum(&["SCMP_ACT_KILL", "SCMP_ACT_KILL_THREAD", "SCMP_ACT_KILL_PROCESS", "SCMP_ACT_TRAP", "SCMP_ACT_ERRNO", "SCMP_ACT_NOTIFY", "SCMP_ACT_TRACE", "SCMP_ACT_LOG", "SCMP_ACT_ALLOW"]));
+pub const LINUX_SECCOMP_ACTION: Part = Part::Scalar(Scalar::Enum(&[
+    "SCMP_ACT_KILL",
+    "SCMP_ACT_KILL_THREAD",
+    "SCMP_ACT_KILL_PROCESS",
+    "SCMP_ACT_TRAP",
+    "SCMP_ACT_ERRNO",
+    "SCMP_ACT_NOTIFY",
+    "SCMP_ACT_TRACE",
+    "SCMP_ACT_LOG",
+    "SCMP_ACT_ALLOW",
+]));
 
 /// The enum `LinuxSeccompFilterFlag`.
-pub const LINUX_SECCOMP_FILTER_FLAG: Part = Part::Scalar(Scalar::Enum(&["SECCOMP_FILTER_FLAG_LOG", "SECCOMP_FILTER_FLAG_TSYNC", "SECCOMP_FILTER_FLAG_SPEC_ALLOW", "SECCOMP_FILTER_FLAG_WAIT_KILLABLE_RECV"]));
+pub const LINUX_SECCOMP_FILTER_FLAG: Part = Part::Scalar(Scalar::Enum(&[
+    "SECCOMP_FILTER_FLAG_LOG",
+    "SECCOMP_FILTER_FLAG_TSYNC",
+    "SECCOMP_FILTER_FLAG_SPEC_ALLOW",
+    "SECCOMP_FILTER_FLAG_WAIT_KILLABLE_RECV",
+]));
 
 /// The enum `LinuxSeccompOperator`.
-pub const LINUX_SECCOMP_OPERATOR: Part = Part::Scalar(Scalar::Enum(&["SCMP_CMP_NE", "SCMP_CMP_LT", "SCMP_CMP_LE", "SCMP_CMP_EQ", "SCMP_CMP_GE", "SCMP_CMP_GT", "SCMP_CMP_MASKED_EQ"]));
+pub const LINUX_SECCOMP_OPERATOR: Part = Part::Scalar(Scalar::Enum(&[
+    "SCMP_CMP_NE",
+    "SCMP_CMP_LT",
+    "SCMP_CMP_LE",
+    "SCMP_CMP_EQ",
+    "SCMP_CMP_GE",
+    "SCMP_CMP_GT",
+    "SCMP_CMP_MASKED_EQ",
+]));
 
 /// The enum `MemoryPolicyFlagType`.
-pub const MEMORY_POLICY_FLAG_TYPE: Part = Part::Scalar(Scalar::Enum(&["MPOL_F_NUMA_BALANCING", "MPOL_F_RELATIVE_NODES", "MPOL_F_STATIC_NODES"]));
+pub const MEMORY_POLICY_FLAG_TYPE: Part = Part::Scalar(Scalar::Enum(&[
+    "MPOL_F_NUMA_BALANCING",
+    "MPOL_F_RELATIVE_NODES",
+    "MPOL_F_STATIC_NODES",
+]));
 
 /// The enum `MemoryPolicyModeType`.
-pub const MEMORY_POLICY_MODE_TYPE: Part = Part::Scalar(Scalar::Enum(&["MPOL_DEFAULT", "MPOL_BIND", "MPOL_INTERLEAVE", "MPOL_WEIGHTED_INTERLEAVE", "MPOL_PREFERRED", "MPOL_PREFERRED_MANY", "MPOL_LOCAL"]));
+pub const MEMORY_POLICY_MODE_TYPE: Part = Part::Scalar(Scalar::Enum(&[
+    "MPOL_DEFAULT",
+    "MPOL_BIND",
+    "MPOL_INTERLEAVE",
+    "MPOL_WEIGHTED_INTERLEAVE",
+    "MPOL_PREFERRED",
+    "MPOL_PREFERRED_MANY",
+    "MPOL_LOCAL",
+]));
 
 /// The enum `PosixRlimitType`.
-pub const POSIX_RLIMIT_TYPE: Part = Part::Scalar(Scalar::Enum(&["RLIMIT_CPU", "RLIMIT_FSIZE", "RLIMIT_DATA", "RLIMIT_STACK", "RLIMIT_CORE", "RLIMIT_RSS", "RLIMIT_NPROC", "RLIMIT_NOFILE", "RLIMIT_MEMLOCK", "RLIMIT_AS", "RLIMIT_LOCKS", "RLIMIT_SIGPENDING", "RLIMIT_MSGQUEUE", "RLIMIT_NICE", "RLIMIT_RTPRIO", "RLIMIT_RTTIME"]));
+pub const POSIX_RLIMIT_TYPE: Part = Part::Scalar(Scalar::Enum(&[
+    "RLIMIT_CPU",
+    "RLIMIT_FSIZE",
+    "RLIMIT_DATA",
+    "RLIMIT_STACK",
+    "RLIMIT_CORE",
+    "RLIMIT_RSS",
+    "RLIMIT_NPROC",
+    "RLIMIT_NOFILE",
+    "RLIMIT_MEMLOCK",
+    "RLIMIT_AS",
+    "RLIMIT_LOCKS",
+    "RLIMIT_SIGPENDING",
+    "RLIMIT_MSGQUEUE",
+    "RLIMIT_NICE",
+    "RLIMIT_RTPRIO",
+    "RLIMIT_RTTIME",
+]));
 
 /// The enum `SArch`.
-pub const S_ARCH: Part = Part::Scalar(Scalar::Enum(&["SCMP_ARCH_NATIVE", "SCMP_ARCH_X86", "SCMP_ARCH_X86_64", "SCMP_ARCH_X32", "SCMP_ARCH_ARM", "SCMP_ARCH_AARCH64", "SCMP_ARCH_MIPS", "SCMP_ARCH_MIPS64", "SCMP_ARCH_MIPS64N32", "SCMP_ARCH_MIPSEL", "SCMP_ARCH_MIPSEL64", "SCMP_ARCH_MIPSEL64N32", "SCMP_ARCH_PPC", "SCMP_ARCH_PPC64", "SCMP_ARCH_PPC64LE", "SCMP_ARCH_S390", "SCMP_ARCH_S390X", "SCMP_ARCH_PARISC", "SCMP_ARCH_PARISC64", "SCMP_ARCH_RISCV64", "SCMP_ARCH_LOONGARCH64", "SCMP_ARCH_M68K", "SCMP_ARCH_SH", "SCMP_ARCH_SHEB"]));
+pub const S_ARCH: Part = Part::Scalar(Scalar::Enum(&[
+    "SCMP_ARCH_NATIVE",
+    "SCMP_ARCH_X86",
+    "SCMP_ARCH_X86_64",
+    "SCMP_ARCH_X32",
+    "SCMP_ARCH_ARM",
+    "SCMP_ARCH_AARCH64",
+    "SCMP_ARCH_MIPS",
+    "SCMP_ARCH_MIPS64",
+    "SCMP_ARCH_MIPS64N32",
+    "SCMP_ARCH_MIPSEL",
+    "SCMP_ARCH_MIPSEL64",
+    "SCMP_ARCH_MIPSEL64N32",
+    "SCMP_ARCH_PPC",
+    "SCMP_ARCH_PPC64",
+    "SCMP_ARCH_PPC64LE",
+    "SCMP_ARCH_S390",
+    "SCMP_ARCH_S390X",
+    "SCMP_ARCH_PARISC",
+    "SCMP_ARCH_PARISC64",
+    "SCMP_ARCH_RISCV64",
+    "SCMP_ARCH_LOONGARCH64",
+    "SCMP_ARCH_M68K",
+    "SCMP_ARCH_SH",
+    "SCMP_ARCH_SHEB",
+]));
 
 /// The enum `ZOSNamespaceType`.
 pub const ZOS_NAMESPACE_TYPE: Part = Part::Scalar(Scalar::Enum(&["pid", "mount", "ipc", "uts"]));

@@ -15,7 +15,10 @@ ghost use Rattle.oci_shapes.specs.VMKernel.{vm_kernel};
 ghost use Rattle.oci_shapes.specs.ZOS.{zos};
 ghost use Rattle.oci_shapes.specs.ZOSNamespace.{zos_namespace};
 
-use crate::parts::{SOLARIS, SOLARIS_ANET, SOLARIS_CAPPED_CPU, SOLARIS_CAPPED_MEMORY, STRING, VM, VM_HYPERVISOR, VM_IMAGE, VM_KERNEL, ZOS, ZOS_NAMESPACE, ZOS_NAMESPACE_TYPE};
+use crate::parts::{
+    SOLARIS, SOLARIS_ANET, SOLARIS_CAPPED_CPU, SOLARIS_CAPPED_MEMORY, STRING, VM, VM_HYPERVISOR,
+    VM_IMAGE, VM_KERNEL, ZOS, ZOS_NAMESPACE, ZOS_NAMESPACE_TYPE,
+};
 use oci_schema_types::{Member, Presence, Record, Schema};
 
 static SOLARIS_RECORD: Record = Record {
@@ -25,8 +28,16 @@ static SOLARIS_RECORD: Record = Record {
         member!("limitpriv", Presence::Optional, Schema::One(STRING)),
         member!("maxShmMemory", Presence::Optional, Schema::One(STRING)),
         member!("anet", Presence::Optional, Schema::List(SOLARIS_ANET)),
-        member!("cappedCPU", Presence::Optional, Schema::One(SOLARIS_CAPPED_CPU)),
-        member!("cappedMemory", Presence::Optional, Schema::One(SOLARIS_CAPPED_MEMORY)),
+        member!(
+            "cappedCPU",
+            Presence::Optional,
+            Schema::One(SOLARIS_CAPPED_CPU)
+        ),
+        member!(
+            "cappedMemory",
+            Presence::Optional,
+            Schema::One(SOLARIS_CAPPED_MEMORY)
+        ),
     ],
 };
 
@@ -52,7 +63,11 @@ static SOLARIS_ANET_RECORD: Record = Record {
         member!("linkname", Presence::Optional, Schema::One(STRING)),
         member!("lowerLink", Presence::Optional, Schema::One(STRING)),
         member!("allowedAddress", Presence::Optional, Schema::One(STRING)),
-        member!("configureAllowedAddress", Presence::Optional, Schema::One(STRING)),
+        member!(
+            "configureAllowedAddress",
+            Presence::Optional,
+            Schema::One(STRING)
+        ),
         member!("defrouter", Presence::Optional, Schema::One(STRING)),
         member!("linkProtection", Presence::Optional, Schema::One(STRING)),
         member!("macAddress", Presence::Optional, Schema::One(STRING)),
@@ -77,9 +92,7 @@ pub fn solaris_anet() -> &'static Schema
 
 static SOLARIS_CAPPED_CPU_RECORD: Record = Record {
     name: "SolarisCappedCPU",
-    members: &[
-        member!("ncpus", Presence::Optional, Schema::One(STRING)),
-    ],
+    members: &[member!("ncpus", Presence::Optional, Schema::One(STRING))],
 };
 
 static SOLARIS_CAPPED_CPU_SCHEMA: Schema = Schema::One(SOLARIS_CAPPED_CPU);
@@ -222,9 +235,11 @@ pub fn vm_kernel() -> &'static Schema
 
 static ZOS_RECORD: Record = Record {
     name: "ZOS",
-    members: &[
-        member!("namespaces", Presence::Optional, Schema::List(ZOS_NAMESPACE)),
-    ],
+    members: &[member!(
+        "namespaces",
+        Presence::Optional,
+        Schema::List(ZOS_NAMESPACE)
+    )],
 };
 
 static ZOS_SCHEMA: Schema = Schema::One(ZOS);

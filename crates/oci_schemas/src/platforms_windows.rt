@@ -13,7 +13,11 @@ ghost use Rattle.oci_shapes.specs.WindowsNetwork.{windows_network};
 ghost use Rattle.oci_shapes.specs.WindowsResources.{windows_resources};
 ghost use Rattle.oci_shapes.specs.WindowsStorageResources.{windows_storage_resources};
 
-use crate::parts::{BOOLEAN, FREE_VALUES, STRING, U16, U64, WINDOWS, WINDOWS_CPU_RESOURCES, WINDOWS_DEVICE, WINDOWS_HYPER_V, WINDOWS_MEMORY_RESOURCES, WINDOWS_NETWORK, WINDOWS_RESOURCES, WINDOWS_STORAGE_RESOURCES};
+use crate::parts::{
+    BOOLEAN, FREE_VALUES, STRING, U16, U64, WINDOWS, WINDOWS_CPU_RESOURCES, WINDOWS_DEVICE,
+    WINDOWS_HYPER_V, WINDOWS_MEMORY_RESOURCES, WINDOWS_NETWORK, WINDOWS_RESOURCES,
+    WINDOWS_STORAGE_RESOURCES,
+};
 use oci_schema_types::{Member, Presence, Record, Schema};
 
 static WINDOWS_RECORD: Record = Record {
@@ -21,10 +25,22 @@ static WINDOWS_RECORD: Record = Record {
     members: &[
         member!("layerFolders", Presence::Optional, Schema::List(STRING)),
         member!("devices", Presence::Optional, Schema::List(WINDOWS_DEVICE)),
-        member!("resources", Presence::Optional, Schema::One(WINDOWS_RESOURCES)),
-        member!("credentialSpec", Presence::Optional, Schema::One(FREE_VALUES)),
+        member!(
+            "resources",
+            Presence::Optional,
+            Schema::One(WINDOWS_RESOURCES)
+        ),
+        member!(
+            "credentialSpec",
+            Presence::Optional,
+            Schema::One(FREE_VALUES)
+        ),
         member!("servicing", Presence::Optional, Schema::One(BOOLEAN)),
-        member!("ignoreFlushesDuringBoot", Presence::Optional, Schema::One(BOOLEAN)),
+        member!(
+            "ignoreFlushesDuringBoot",
+            Presence::Optional,
+            Schema::One(BOOLEAN)
+        ),
         member!("hyperv", Presence::Optional, Schema::One(WINDOWS_HYPER_V)),
         member!("network", Presence::Optional, Schema::One(WINDOWS_NETWORK)),
     ],
@@ -97,9 +113,7 @@ pub fn windows_device() -> &'static Schema
 
 static WINDOWS_HYPER_V_RECORD: Record = Record {
     name: "WindowsHyperV",
-    members: &[
-        member!("utilityVmPath", Presence::Optional, Schema::One(STRING)),
-    ],
+    members: &[member!("utilityVmPath", Presence::Optional, Schema::One(STRING))],
 };
 
 static WINDOWS_HYPER_V_SCHEMA: Schema = Schema::One(WINDOWS_HYPER_V);
@@ -120,9 +134,7 @@ pub fn windows_hyper_v() -> &'static Schema
 
 static WINDOWS_MEMORY_RESOURCES_RECORD: Record = Record {
     name: "WindowsMemoryResources",
-    members: &[
-        member!("limit", Presence::Optional, Schema::One(U64)),
-    ],
+    members: &[member!("limit", Presence::Optional, Schema::One(U64))],
 };
 
 static WINDOWS_MEMORY_RESOURCES_SCHEMA: Schema = Schema::One(WINDOWS_MEMORY_RESOURCES);
@@ -145,9 +157,17 @@ static WINDOWS_NETWORK_RECORD: Record = Record {
     name: "WindowsNetwork",
     members: &[
         member!("endpointList", Presence::Optional, Schema::List(STRING)),
-        member!("allowUnqualifiedDNSQuery", Presence::Optional, Schema::One(BOOLEAN)),
+        member!(
+            "allowUnqualifiedDNSQuery",
+            Presence::Optional,
+            Schema::One(BOOLEAN)
+        ),
         member!("DNSSearchList", Presence::Optional, Schema::List(STRING)),
-        member!("networkSharedContainerName", Presence::Optional, Schema::One(STRING)),
+        member!(
+            "networkSharedContainerName",
+            Presence::Optional,
+            Schema::One(STRING)
+        ),
         member!("networkNamespace", Presence::Optional, Schema::One(STRING)),
     ],
 };
@@ -171,9 +191,21 @@ pub fn windows_network() -> &'static Schema
 static WINDOWS_RESOURCES_RECORD: Record = Record {
     name: "WindowsResources",
     members: &[
-        member!("memory", Presence::Optional, Schema::One(WINDOWS_MEMORY_RESOURCES)),
-        member!("cpu", Presence::Optional, Schema::One(WINDOWS_CPU_RESOURCES)),
-        member!("storage", Presence::Optional, Schema::One(WINDOWS_STORAGE_RESOURCES)),
+        member!(
+            "memory",
+            Presence::Optional,
+            Schema::One(WINDOWS_MEMORY_RESOURCES)
+        ),
+        member!(
+            "cpu",
+            Presence::Optional,
+            Schema::One(WINDOWS_CPU_RESOURCES)
+        ),
+        member!(
+            "storage",
+            Presence::Optional,
+            Schema::One(WINDOWS_STORAGE_RESOURCES)
+        ),
     ],
 };
 

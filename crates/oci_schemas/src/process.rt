@@ -13,14 +13,26 @@ ghost use Rattle.oci_shapes.specs.Process.{process};
 ghost use Rattle.oci_shapes.specs.Scheduler.{scheduler};
 ghost use Rattle.oci_shapes.specs.User.{user};
 
-use crate::parts::{BOOLEAN, CAPABILITIES, CONSOLE_BOX, CPU_LIST, EXEC_CPU_AFFINITY, I32, I64, IO_PRIORITY_CLASS, LINUX_CAPABILITIES, LINUX_IO_PRIORITY, LINUX_SCHEDULER_FLAG, LINUX_SCHEDULER_POLICY, POSIX_RLIMIT, POSIX_RLIMIT_TYPE, PROCESS, SCHEDULER, STRING, U32, U64, USER};
+use crate::parts::{
+    BOOLEAN, CAPABILITIES, CONSOLE_BOX, CPU_LIST, EXEC_CPU_AFFINITY, I32, I64, IO_PRIORITY_CLASS,
+    LINUX_CAPABILITIES, LINUX_IO_PRIORITY, LINUX_SCHEDULER_FLAG, LINUX_SCHEDULER_POLICY,
+    POSIX_RLIMIT, POSIX_RLIMIT_TYPE, PROCESS, SCHEDULER, STRING, U32, U64, USER,
+};
 use oci_schema_types::{DefaultValue, Member, Presence, Record, Schema};
 
 static CONSOLE_BOX_RECORD: Record = Record {
     name: "Box",
     members: &[
-        member!("height", Presence::Defaulted(DefaultValue::Integer(0)), Schema::One(U64)),
-        member!("width", Presence::Defaulted(DefaultValue::Integer(0)), Schema::One(U64)),
+        member!(
+            "height",
+            Presence::Defaulted(DefaultValue::Integer(0)),
+            Schema::One(U64)
+        ),
+        member!(
+            "width",
+            Presence::Defaulted(DefaultValue::Integer(0)),
+            Schema::One(U64)
+        ),
     ],
 };
 
@@ -94,8 +106,16 @@ pub fn linux_capabilities() -> &'static Schema
 static LINUX_IO_PRIORITY_RECORD: Record = Record {
     name: "LinuxIOPriority",
     members: &[
-        member!("class", Presence::Defaulted(DefaultValue::Variant("IOPRIO_CLASS_BE")), Schema::One(IO_PRIORITY_CLASS)),
-        member!("priority", Presence::Defaulted(DefaultValue::Integer(0)), Schema::One(I64)),
+        member!(
+            "class",
+            Presence::Defaulted(DefaultValue::Variant("IOPRIO_CLASS_BE")),
+            Schema::One(IO_PRIORITY_CLASS)
+        ),
+        member!(
+            "priority",
+            Presence::Defaulted(DefaultValue::Integer(0)),
+            Schema::One(I64)
+        ),
     ],
 };
 
@@ -119,8 +139,16 @@ static POSIX_RLIMIT_RECORD: Record = Record {
     name: "PosixRlimit",
     members: &[
         member!("type", Presence::Required, Schema::One(POSIX_RLIMIT_TYPE)),
-        member!("hard", Presence::Defaulted(DefaultValue::Integer(0)), Schema::One(U64)),
-        member!("soft", Presence::Defaulted(DefaultValue::Integer(0)), Schema::One(U64)),
+        member!(
+            "hard",
+            Presence::Defaulted(DefaultValue::Integer(0)),
+            Schema::One(U64)
+        ),
+        member!(
+            "soft",
+            Presence::Defaulted(DefaultValue::Integer(0)),
+            Schema::One(U64)
+        ),
     ],
 };
 
@@ -150,15 +178,27 @@ static PROCESS_RECORD: Record = Record {
         member!("commandLine", Presence::Optional, Schema::One(STRING)),
         member!("env", Presence::Optional, Schema::List(STRING)),
         member!("cwd", Presence::Required, Schema::One(STRING)),
-        member!("capabilities", Presence::Optional, Schema::One(LINUX_CAPABILITIES)),
+        member!(
+            "capabilities",
+            Presence::Optional,
+            Schema::One(LINUX_CAPABILITIES)
+        ),
         member!("rlimits", Presence::Optional, Schema::List(POSIX_RLIMIT)),
         member!("noNewPrivileges", Presence::Optional, Schema::One(BOOLEAN)),
         member!("apparmorProfile", Presence::Optional, Schema::One(STRING)),
         member!("oomScoreAdj", Presence::Optional, Schema::One(I32)),
         member!("selinuxLabel", Presence::Optional, Schema::One(STRING)),
-        member!("ioPriority", Presence::Optional, Schema::One(LINUX_IO_PRIORITY)),
+        member!(
+            "ioPriority",
+            Presence::Optional,
+            Schema::One(LINUX_IO_PRIORITY)
+        ),
         member!("scheduler", Presence::Optional, Schema::One(SCHEDULER)),
-        member!("execCPUAffinity", Presence::Optional, Schema::One(EXEC_CPU_AFFINITY)),
+        member!(
+            "execCPUAffinity",
+            Presence::Optional,
+            Schema::One(EXEC_CPU_AFFINITY)
+        ),
     ],
 };
 
@@ -181,10 +221,18 @@ pub fn process() -> &'static Schema
 static SCHEDULER_RECORD: Record = Record {
     name: "Scheduler",
     members: &[
-        member!("policy", Presence::Required, Schema::One(LINUX_SCHEDULER_POLICY)),
+        member!(
+            "policy",
+            Presence::Required,
+            Schema::One(LINUX_SCHEDULER_POLICY)
+        ),
         member!("nice", Presence::Optional, Schema::One(I32)),
         member!("priority", Presence::Optional, Schema::One(I32)),
-        member!("flags", Presence::Optional, Schema::List(LINUX_SCHEDULER_FLAG)),
+        member!(
+            "flags",
+            Presence::Optional,
+            Schema::List(LINUX_SCHEDULER_FLAG)
+        ),
         member!("runtime", Presence::Optional, Schema::One(U64)),
         member!("deadline", Presence::Optional, Schema::One(U64)),
         member!("period", Presence::Optional, Schema::One(U64)),
@@ -210,8 +258,16 @@ pub fn scheduler() -> &'static Schema
 static USER_RECORD: Record = Record {
     name: "User",
     members: &[
-        member!("uid", Presence::Defaulted(DefaultValue::Integer(0)), Schema::One(U32)),
-        member!("gid", Presence::Defaulted(DefaultValue::Integer(0)), Schema::One(U32)),
+        member!(
+            "uid",
+            Presence::Defaulted(DefaultValue::Integer(0)),
+            Schema::One(U32)
+        ),
+        member!(
+            "gid",
+            Presence::Defaulted(DefaultValue::Integer(0)),
+            Schema::One(U32)
+        ),
         member!("umask", Presence::Optional, Schema::One(U32)),
         member!("additionalGids", Presence::Optional, Schema::List(U32)),
         member!("username", Presence::Optional, Schema::One(STRING)),

@@ -11,23 +11,49 @@ ghost use Rattle.oci_shapes.specs.Mount.{mount};
 ghost use Rattle.oci_shapes.specs.Root.{root};
 ghost use Rattle.oci_shapes.specs.State.{state};
 
-use crate::parts::{BOOLEAN, CONTAINER_PROCESS_STATE, CONTAINER_STATE, HOOK, HOOKS, I32, I64, LINUX_ID_MAPPING, MOUNT, ROOT, STATE, STRING};
+use crate::parts::{
+    BOOLEAN, CONTAINER_PROCESS_STATE, CONTAINER_STATE, HOOK, HOOKS, I32, I64, LINUX_ID_MAPPING,
+    MOUNT, ROOT, STATE, STRING,
+};
 use oci_schema_types::{DefaultValue, Member, Presence, Record, Schema};
 
 static CONTAINER_PROCESS_STATE_RECORD: Record = Record {
     name: "ContainerProcessState",
     members: &[
-        member!("ociVersion", Presence::Defaulted(DefaultValue::String("")), Schema::One(STRING)),
-        member!("fds", Presence::Defaulted(DefaultValue::EmptyArray), Schema::List(STRING)),
-        member!("pid", Presence::Defaulted(DefaultValue::Integer(0)), Schema::One(I32)),
+        member!(
+            "ociVersion",
+            Presence::Defaulted(DefaultValue::String("")),
+            Schema::One(STRING)
+        ),
+        member!(
+            "fds",
+            Presence::Defaulted(DefaultValue::EmptyArray),
+            Schema::List(STRING)
+        ),
+        member!(
+            "pid",
+            Presence::Defaulted(DefaultValue::Integer(0)),
+            Schema::One(I32)
+        ),
         member!("metadata", Presence::Optional, Schema::One(STRING)),
-        member!("state", Presence::DefaultedRecord(&[Some(DefaultValue::String("")), Some(DefaultValue::String("")), Some(DefaultValue::Variant("stopped")), None, Some(DefaultValue::String("")), None]), Schema::One(STATE)),
+        member!(
+            "state",
+            Presence::DefaultedRecord(&[
+                Some(DefaultValue::String("")),
+                Some(DefaultValue::String("")),
+                Some(DefaultValue::Variant("stopped")),
+                None,
+                Some(DefaultValue::String("")),
+                None
+            ]),
+            Schema::One(STATE)
+        ),
     ],
 };
 
 static CONTAINER_PROCESS_STATE_SCHEMA: Schema = Schema::One(CONTAINER_PROCESS_STATE);
 
-/// The members of `ContainerProcessState`: what a program that listens to a container's system calls is told (runtime specification, "Linux Container Configuration", "The Container Process State").
+/// The members of `ContainerProcessState`: the state that is sent to the program that listens to a container's system calls (runtime specification, "Linux Container Configuration", "The Container Process State").
 pub fn container_process_state_record() -> &'static Record
     ensures { rows (members_in (shape_at shapes) result.now.members.now) ≡ container_process_state }
 {
@@ -102,8 +128,16 @@ static MOUNT_RECORD: Record = Record {
         member!("type", Presence::Optional, Schema::One(STRING)),
         member!("source", Presence::Optional, Schema::One(STRING)),
         member!("options", Presence::Optional, Schema::List(STRING)),
-        member!("uidMappings", Presence::Optional, Schema::List(LINUX_ID_MAPPING)),
-        member!("gidMappings", Presence::Optional, Schema::List(LINUX_ID_MAPPING)),
+        member!(
+            "uidMappings",
+            Presence::Optional,
+            Schema::List(LINUX_ID_MAPPING)
+        ),
+        member!(
+            "gidMappings",
+            Presence::Optional,
+            Schema::List(LINUX_ID_MAPPING)
+        ),
     ],
 };
 
@@ -126,7 +160,11 @@ pub fn mount() -> &'static Schema
 static ROOT_RECORD: Record = Record {
     name: "Root",
     members: &[
-        member!("path", Presence::Defaulted(DefaultValue::String("")), Schema::One(STRING)),
+        member!(
+            "path",
+            Presence::Defaulted(DefaultValue::String("")),
+            Schema::One(STRING)
+        ),
         member!("readonly", Presence::Optional, Schema::One(BOOLEAN)),
     ],
 };
@@ -150,11 +188,27 @@ pub fn root() -> &'static Schema
 static STATE_RECORD: Record = Record {
     name: "State",
     members: &[
-        member!("ociVersion", Presence::Defaulted(DefaultValue::String("")), Schema::One(STRING)),
-        member!("id", Presence::Defaulted(DefaultValue::String("")), Schema::One(STRING)),
-        member!("status", Presence::Defaulted(DefaultValue::Variant("stopped")), Schema::One(CONTAINER_STATE)),
+        member!(
+            "ociVersion",
+            Presence::Defaulted(DefaultValue::String("")),
+            Schema::One(STRING)
+        ),
+        member!(
+            "id",
+            Presence::Defaulted(DefaultValue::String("")),
+            Schema::One(STRING)
+        ),
+        member!(
+            "status",
+            Presence::Defaulted(DefaultValue::Variant("stopped")),
+            Schema::One(CONTAINER_STATE)
+        ),
         member!("pid", Presence::Optional, Schema::One(I32)),
-        member!("bundle", Presence::Defaulted(DefaultValue::String("")), Schema::One(STRING)),
+        member!(
+            "bundle",
+            Presence::Defaulted(DefaultValue::String("")),
+            Schema::One(STRING)
+        ),
         member!("annotations", Presence::Optional, Schema::Map(STRING)),
     ],
 };

@@ -6,13 +6,19 @@ ghost use Rattle.oci_schema_types.specs.Shapes.{members_in, schema_shape, shape_
 ghost use Rattle.oci_schemas.specs.Table.{shapes};
 ghost use Rattle.oci_shapes.specs.Spec.{spec};
 
-use crate::parts::{HOOKS, LINUX, LINUX_ID_MAPPING, MOUNT, PROCESS, ROOT, SOLARIS, SPEC, STRING, VM, WINDOWS, ZOS};
+use crate::parts::{
+    HOOKS, LINUX, LINUX_ID_MAPPING, MOUNT, PROCESS, ROOT, SOLARIS, SPEC, STRING, VM, WINDOWS, ZOS,
+};
 use oci_schema_types::{DefaultValue, Member, Presence, Record, Schema};
 
 static SPEC_RECORD: Record = Record {
     name: "Spec",
     members: &[
-        member!("ociVersion", Presence::Defaulted(DefaultValue::String("")), Schema::One(STRING)),
+        member!(
+            "ociVersion",
+            Presence::Defaulted(DefaultValue::String("")),
+            Schema::One(STRING)
+        ),
         member!("root", Presence::Optional, Schema::One(ROOT)),
         member!("mounts", Presence::Optional, Schema::List(MOUNT)),
         member!("process", Presence::Optional, Schema::One(PROCESS)),
@@ -25,8 +31,16 @@ static SPEC_RECORD: Record = Record {
         member!("windows", Presence::Optional, Schema::One(WINDOWS)),
         member!("vm", Presence::Optional, Schema::One(VM)),
         member!("zos", Presence::Optional, Schema::One(ZOS)),
-        member!("uidMappings", Presence::Optional, Schema::List(LINUX_ID_MAPPING)),
-        member!("gidMappings", Presence::Optional, Schema::List(LINUX_ID_MAPPING)),
+        member!(
+            "uidMappings",
+            Presence::Optional,
+            Schema::List(LINUX_ID_MAPPING)
+        ),
+        member!(
+            "gidMappings",
+            Presence::Optional,
+            Schema::List(LINUX_ID_MAPPING)
+        ),
     ],
 };
 

@@ -5,23 +5,57 @@ ghost use Rattle.oci_json_model.specs.Shape.{rows};
 ghost use Rattle.oci_schema_types.specs.Shapes.{members_in, shape_at};
 ghost use Rattle.oci_schemas.specs.Table.{shapes};
 
-use crate::cgroups::{linux_block_io_record, linux_cpu_record, linux_device_cgroup_record, linux_hugepage_limit_record, linux_memory_record, linux_pids_record, linux_resources_record, linux_throttle_device_record, linux_weight_device_record};
-use crate::cgroups_network::{linux_interface_priority_record, linux_network_record, linux_rdma_record};
-use crate::distribution::{error_info_record, error_response_record, repository_list_record, tag_list_record};
-use crate::features::{apparmor_record, cgroup_record, features_record, id_map_record, intel_rdt_record, linux_feature_record, memory_policy_record, mount_extensions_record, net_devices_record, seccomp_record, selinux_record};
+use crate::cgroups::{
+    linux_block_io_record, linux_cpu_record, linux_device_cgroup_record,
+    linux_hugepage_limit_record, linux_memory_record, linux_pids_record, linux_resources_record,
+    linux_throttle_device_record, linux_weight_device_record,
+};
+use crate::cgroups_network::{
+    linux_interface_priority_record, linux_network_record, linux_rdma_record,
+};
+use crate::distribution::{
+    error_info_record, error_response_record, repository_list_record, tag_list_record,
+};
+use crate::features::{
+    apparmor_record, cgroup_record, features_record, id_map_record, intel_rdt_record,
+    linux_feature_record, memory_policy_record, mount_extensions_record, net_devices_record,
+    seccomp_record, selinux_record,
+};
 use crate::image::{config_record, history_record, image_configuration_record, root_fs_record};
-use crate::image_descriptor::{descriptor_record};
-use crate::image_manifest::{artifact_manifest_record, image_index_record, image_manifest_record, oci_layout_record};
-use crate::image_platform::{platform_record};
-use crate::linux::{linux_record};
-use crate::linux_namespaces::{linux_device_record, linux_id_mapping_record, linux_namespace_record, linux_net_device_record, linux_time_offset_record};
-use crate::linux_policies::{linux_intel_rdt_record, linux_memory_policy_record, linux_personality_record, linux_seccomp_record, linux_seccomp_arg_record, linux_syscall_record};
-use crate::platforms::{solaris_record, solaris_anet_record, solaris_capped_cpu_record, solaris_capped_memory_record, vm_record, vm_hypervisor_record, vm_image_record, vm_kernel_record, zos_record, zos_namespace_record};
-use crate::platforms_windows::{windows_record, windows_cpu_resources_record, windows_device_record, windows_hyper_v_record, windows_memory_resources_record, windows_network_record, windows_resources_record, windows_storage_resources_record};
-use crate::process::{console_box_record, exec_cpu_affinity_record, linux_capabilities_record, linux_io_priority_record, posix_rlimit_record, process_record, scheduler_record, user_record};
-use crate::reference::{reference_record};
-use crate::runtime_records::{container_process_state_record, hook_record, hooks_record, mount_record, root_record, state_record};
-use crate::runtime_spec::{spec_record};
+use crate::image_descriptor::descriptor_record;
+use crate::image_manifest::{
+    artifact_manifest_record, image_index_record, image_manifest_record, oci_layout_record,
+};
+use crate::image_platform::platform_record;
+use crate::linux::linux_record;
+use crate::linux_namespaces::{
+    linux_device_record, linux_id_mapping_record, linux_namespace_record, linux_net_device_record,
+    linux_time_offset_record,
+};
+use crate::linux_seccomp::{
+    linux_intel_rdt_record, linux_memory_policy_record, linux_personality_record,
+    linux_seccomp_arg_record, linux_seccomp_record, linux_syscall_record,
+};
+use crate::platforms::{
+    solaris_anet_record, solaris_capped_cpu_record, solaris_capped_memory_record, solaris_record,
+    vm_hypervisor_record, vm_image_record, vm_kernel_record, vm_record, zos_namespace_record,
+    zos_record,
+};
+use crate::platforms_windows::{
+    windows_cpu_resources_record, windows_device_record, windows_hyper_v_record,
+    windows_memory_resources_record, windows_network_record, windows_record,
+    windows_resources_record, windows_storage_resources_record,
+};
+use crate::process::{
+    console_box_record, exec_cpu_affinity_record, linux_capabilities_record,
+    linux_io_priority_record, posix_rlimit_record, process_record, scheduler_record, user_record,
+};
+use crate::reference::reference_record;
+use crate::runtime_records::{
+    container_process_state_record, hook_record, hooks_record, mount_record, root_record,
+    state_record,
+};
+use crate::runtime_spec::spec_record;
 use oci_schema_types::{Record, Records};
 
 static NO_RECORD: Record = Record {

@@ -46,7 +46,7 @@ impl Reading {
     }
 }
 
-/// The place that refuses the text, or what else is told.
+/// The place that rejects the text, or what else is reported.
 fn refused(alloc: Global, fault: &OciSpecError) -> Result<String> {
     match fault {
         OciSpecError::SerDe(SerDeError::Schema(fault)) => {

@@ -4,7 +4,7 @@
 //! below it one line with what is read of it:
 //!
 //! - `= TEXT`, the compact text of the document;
-//! - `! RECORD.MEMBER`, the record and its member that refuse the text; nothing stands behind the point where the whole is refused.
+//! - `! RECORD.MEMBER`, the record and its member that reject the text; nothing follows the point if the whole is rejected.
 //!
 //! A text whose document is written as that of another one, as an empty list that is omitted, is no row. What begins with `#` is a
 //! remark and no row. A record more takes its file, a line of code below and a line of `stdout`. Before

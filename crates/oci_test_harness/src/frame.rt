@@ -1,11 +1,11 @@
-//! What a program needs for itself: its inputs, and words to ask with. A call of the library never answers here, so a run that
-//! gives up tells that the program's own part was refused memory or a file, and no more.
+//! What a test program needs for itself: its inputs and arguments. A call of the library never fails here, so a run that gives up
+//! reports that the program's own part was out of memory or could not open a file, and no more.
 
 use std::alloc::{AllocError, AllocFailed, Global};
 use std::process::ExitCode;
 use std::{env, io};
 
-/// The program's own part was refused. No error of the library is converted into this one.
+/// The program's own part failed. No error of the library is converted into this one.
 #[derive(Debug, Drop)]
 pub struct HarnessOutOfMemory;
 
@@ -72,7 +72,7 @@ pub fn asks_for(rt: &HostRuntime, half: &str) -> Result<bool, HarnessOutOfMemory
     }
 }
 
-/// The status of a program that did its work, or gave up and tells so.
+/// The status of a program that did its work, or gave up and reports so.
 pub fn exit(rt: &HostRuntime, done: Result<(), HarnessOutOfMemory>) -> ExitCode {
     match done {
         Ok(()) => ExitCode::SUCCESS,

@@ -21,7 +21,7 @@ pub struct Manner {
     pub bad_flush: bool,
     /// The write to the errors from which on each one fails.
     pub bad_tell: usize,
-    /// The fault; where there is none, what fails gives or takes no byte.
+    /// The error; without one, what fails gives or takes no byte.
     pub fault: Option<ErrorKind>,
 }
 
@@ -106,7 +106,7 @@ impl Read for Input<'_> {
     }
 }
 
-/// Keeps what it takes, in room that is made before.
+/// Keeps what it takes, in a buffer that is allocated before.
 #[derive(Drop)]
 pub struct Output {
     taken: Vec<u8>,
@@ -116,7 +116,7 @@ pub struct Output {
 }
 
 impl Output {
-    /// Has room for so many bytes.
+    /// Has a buffer of so many bytes.
     pub fn new(alloc: Global, room: usize) -> Result<Output, HarnessOutOfMemory> {
         Ok(Output {
             taken: Vec::with_capacity(alloc, room)?,
@@ -148,8 +148,8 @@ impl Output {
         self.taken.as_slice()
     }
 
-    /// Lets go of spaces and line feeds, which the texts of the samples have in their layout alone.
-    pub fn unlay(&mut self) {
+    /// Removes whitespace, so that pretty and compact output compare equal.
+    pub fn strip_layout(&mut self) {
         self.taken.retain(|b| *b != b' ' && *b != b'\n');
     }
 

@@ -14,14 +14,14 @@ use oci_spec::runtime::{
     ExecCPUAffinityBuilder, LinuxIdMapping, LinuxMemoryPolicy, LinuxMemoryPolicyBuilder,
     MemoryPolicyModeType, MountBuilder, ZOSNamespaceType,
 };
-use oci_test_harness::Desk;
+use oci_test_harness::Harness;
 use std::alloc::Global;
 
 /// The default of a record, and what its builder makes of no field: one equals the other.
 macro_rules! defaults {
-    ($desk:expr, $module:ident: $($record:ident $builder:ident),* $(,)?) => {{
-        let alloc = $desk.rt.alloc();
-        $($desk.same(
+    ($harness:expr, $module:ident: $($record:ident $builder:ident),* $(,)?) => {{
+        let alloc = $harness.rt.alloc();
+        $($harness.same(
             stringify!($record),
             oci_spec::$module::$record::try_default(alloc),
             oci_spec::$module::$builder::default().build(alloc),
@@ -29,9 +29,9 @@ macro_rules! defaults {
     }};
 }
 
-fn images(desk: &mut Desk<'_>) {
+fn images(harness: &mut Harness<'_>) {
     defaults!(
-        desk,
+        harness,
         image:
         RootFs RootFsBuilder,
         Config ConfigBuilder,
@@ -40,9 +40,9 @@ fn images(desk: &mut Desk<'_>) {
     );
 }
 
-fn resources(desk: &mut Desk<'_>) {
+fn resources(harness: &mut Harness<'_>) {
     defaults!(
-        desk,
+        harness,
         runtime:
         LinuxResources LinuxResourcesBuilder,
         LinuxMemory LinuxMemoryBuilder,
@@ -59,9 +59,9 @@ fn resources(desk: &mut Desk<'_>) {
     );
 }
 
-fn linux(desk: &mut Desk<'_>) {
+fn linux(harness: &mut Harness<'_>) {
     defaults!(
-        desk,
+        harness,
         runtime:
         Linux LinuxBuilder,
         LinuxIdMapping LinuxIdMappingBuilder,
@@ -77,9 +77,9 @@ fn linux(desk: &mut Desk<'_>) {
     );
 }
 
-fn process(desk: &mut Desk<'_>) {
+fn process(harness: &mut Harness<'_>) {
     defaults!(
-        desk,
+        harness,
         runtime:
         Process ProcessBuilder,
         Box BoxBuilder,
@@ -92,9 +92,9 @@ fn process(desk: &mut Desk<'_>) {
     );
 }
 
-fn platforms(desk: &mut Desk<'_>) {
+fn platforms(harness: &mut Harness<'_>) {
     defaults!(
-        desk,
+        harness,
         runtime:
         Solaris SolarisBuilder,
         SolarisAnet SolarisAnetBuilder,
@@ -109,9 +109,9 @@ fn platforms(desk: &mut Desk<'_>) {
     );
 }
 
-fn windows(desk: &mut Desk<'_>) {
+fn windows(harness: &mut Harness<'_>) {
     defaults!(
-        desk,
+        harness,
         runtime:
         Windows WindowsBuilder,
         WindowsDevice WindowsDeviceBuilder,
@@ -124,9 +124,9 @@ fn windows(desk: &mut Desk<'_>) {
     );
 }
 
-fn features(desk: &mut Desk<'_>) {
+fn features(harness: &mut Harness<'_>) {
     defaults!(
-        desk,
+        harness,
         runtime:
         Features FeaturesBuilder,
         LinuxFeature LinuxFeatureBuilder,
@@ -142,9 +142,9 @@ fn features(desk: &mut Desk<'_>) {
     );
 }
 
-fn containers(desk: &mut Desk<'_>) {
+fn containers(harness: &mut Harness<'_>) {
     defaults!(
-        desk,
+        harness,
         runtime:
         Spec SpecBuilder,
         Root RootBuilder,
@@ -232,22 +232,22 @@ fn policy(alloc: Global) -> Result<LinuxMemoryPolicy> {
 }
 
 /// The records whose builders have to be given fields; of those with a default that is compared too.
-fn required(desk: &mut Desk<'_>) {
-    let alloc = desk.rt.alloc();
-    desk.same("Platform", Platform::try_default(alloc), platform(alloc));
-    desk.same("ImageIndex", ImageIndex::try_default(alloc), index(alloc));
-    desk.same("Descriptor", descriptor(alloc), descriptor(alloc));
-    desk.same("ImageManifest", manifest(alloc), manifest(alloc));
-    desk.same("ArtifactManifest", artifact(alloc), artifact(alloc));
-    desk.same("OciLayout", layout(alloc), layout(alloc));
-    desk.same("ErrorInfo", error(alloc), error(alloc));
-    desk.same("ErrorResponse", reply(alloc), reply(alloc));
-    desk.same("RepositoryList", repositories(alloc), repositories(alloc));
-    desk.same("TagList", tags(alloc), tags(alloc));
-    desk.same("LinuxMemoryPolicy", policy(alloc), policy(alloc));
+fn required(harness: &mut Harness<'_>) {
+    let alloc = harness.rt.alloc();
+    harness.same("Platform", Platform::try_default(alloc), platform(alloc));
+    harness.same("ImageIndex", ImageIndex::try_default(alloc), index(alloc));
+    harness.same("Descriptor", descriptor(alloc), descriptor(alloc));
+    harness.same("ImageManifest", manifest(alloc), manifest(alloc));
+    harness.same("ArtifactManifest", artifact(alloc), artifact(alloc));
+    harness.same("OciLayout", layout(alloc), layout(alloc));
+    harness.same("ErrorInfo", error(alloc), error(alloc));
+    harness.same("ErrorResponse", reply(alloc), reply(alloc));
+    harness.same("RepositoryList", repositories(alloc), repositories(alloc));
+    harness.same("TagList", tags(alloc), tags(alloc));
+    harness.same("LinuxMemoryPolicy", policy(alloc), policy(alloc));
 }
 
-/// A text that is no list of processors.
+/// A text that is no CPU list.
 fn affinity(alloc: Global) -> Result<String> {
     let text = String::from_str(alloc, "x")?;
     let _built = ExecCPUAffinityBuilder::default()
@@ -271,19 +271,19 @@ fn namespace(alloc: Global) -> Result<String> {
 }
 
 /// Builders that refuse what they are given, and a name that is refused.
-fn refused(desk: &mut Desk<'_>) {
-    let alloc = desk.rt.alloc();
-    desk.answer(
+fn refused(harness: &mut Harness<'_>) {
+    let alloc = harness.rt.alloc();
+    harness.answer(
         "ExecCPUAffinityBuilder",
         &affinity(alloc),
         Err("Invalid execCPUAffinity format: x"),
     );
-    desk.answer(
+    harness.answer(
         "MountBuilder",
         &mount(alloc),
         Err("Mount.uidMappings and Mount.gidMappings must be specified together"),
     );
-    desk.answer(
+    harness.answer(
         "ZOSNamespaceType",
         &namespace(alloc),
         Err("unknown z/OS namespace x, could not convert"),
@@ -291,16 +291,16 @@ fn refused(desk: &mut Desk<'_>) {
 }
 
 /// All records that are made in code.
-pub fn all(desk: &mut Desk<'_>) {
-    images(desk);
-    resources(desk);
-    linux(desk);
-    process(desk);
-    platforms(desk);
-    windows(desk);
-    features(desk);
-    containers(desk);
-    required(desk);
-    refused(desk);
-    desk.end("records", "made in code");
+pub fn all(harness: &mut Harness<'_>) {
+    images(harness);
+    resources(harness);
+    linux(harness);
+    process(harness);
+    platforms(harness);
+    windows(harness);
+    features(harness);
+    containers(harness);
+    required(harness);
+    refused(harness);
+    harness.end("records", "made in code");
 }

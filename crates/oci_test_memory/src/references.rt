@@ -2,7 +2,7 @@
 
 use oci_spec::distribution::{ParseError, Reference};
 use oci_spec::runtime::is_cpu_list;
-use oci_test_harness::{Desk, HarnessOutOfMemory};
+use oci_test_harness::{Harness, HarnessOutOfMemory};
 use std::alloc::{AllocError, Global};
 
 const WHOLE: &str =
@@ -31,20 +31,20 @@ pub fn is_answered(alloc: Global, text: &str, expected: Option<ParseError>) -> b
 }
 
 /// Each beginning of a reference, the empty one and the whole among them.
-fn prefixes(desk: &mut Desk<'_>) -> Result<(), HarnessOutOfMemory> {
-    let alloc = desk.rt.alloc();
+fn prefixes(harness: &mut Harness<'_>) -> Result<(), HarnessOutOfMemory> {
+    let alloc = harness.rt.alloc();
     let mut text = String::new(alloc);
     let mut rest = WHOLE.chars();
     for (count, expected) in &BEGINNINGS {
         for _ in 0..*count {
             let kept = is_answered(alloc, text.as_str(), *expected);
-            desk.count("prefix of a reference", text.len(), kept);
+            harness.count("prefix of a reference", text.len(), kept);
             if let Some(next) = rest.next() {
                 text.push(next)?;
             }
         }
     }
-    desk.end("reference", "prefixes");
+    harness.end("reference", "prefixes");
     Ok(())
 }
 
@@ -67,24 +67,24 @@ fn inserted(alloc: Global, put: char, place: usize) -> Result<String, AllocError
     Ok(text)
 }
 
-/// A character that no reference has, at each place; one of them is a digit past ASCII, which no list of processors has.
-fn insertions(desk: &mut Desk<'_>) -> Result<(), HarnessOutOfMemory> {
-    let alloc = desk.rt.alloc();
+/// A character that no reference has, at each place; one of them is a digit beyond ASCII, which no CPU list has.
+fn insertions(harness: &mut Harness<'_>) -> Result<(), HarnessOutOfMemory> {
+    let alloc = harness.rt.alloc();
     for put in &PUT {
         for place in 0..=NAME.len() {
             let text = inserted(alloc, *put, place)?;
             let kept = is_answered(alloc, text.as_str(), FORMAT);
-            desk.count("insertion", place, kept);
+            harness.count("insertion", place, kept);
         }
     }
-    desk.end("reference", "insertions");
-    desk.count("list of processors", 0, !is_cpu_list("\u{663}"));
-    desk.end("list of processors", "digits past ASCII");
+    harness.end("reference", "insertions");
+    harness.count("list of processors", 0, !is_cpu_list("\u{663}"));
+    harness.end("list of processors", "digits past ASCII");
     Ok(())
 }
 
 /// All groups of this half.
-pub fn all(desk: &mut Desk<'_>) -> Result<(), HarnessOutOfMemory> {
-    prefixes(desk)?;
-    insertions(desk)
+pub fn all(harness: &mut Harness<'_>) -> Result<(), HarnessOutOfMemory> {
+    prefixes(harness)?;
+    insertions(harness)
 }

@@ -5,32 +5,32 @@ use oci_spec::runtime::{
     get_default_namespaces, get_default_readonly_paths, get_rootless_mounts,
 };
 use oci_spec::{OciSpecError, Result, distribution, image, runtime};
-use oci_test_harness::Desk;
+use oci_test_harness::Harness;
 use std::alloc::Global;
 
-fn lists(desk: &mut Desk<'_>) {
-    let alloc = desk.rt.alloc();
-    desk.same(
+fn lists(harness: &mut Harness<'_>) {
+    let alloc = harness.rt.alloc();
+    harness.same(
         "get_default_namespaces",
         get_default_namespaces(alloc),
         get_default_namespaces(alloc),
     );
-    desk.same(
+    harness.same(
         "get_default_maskedpaths",
         get_default_maskedpaths(alloc),
         get_default_maskedpaths(alloc),
     );
-    desk.same(
+    harness.same(
         "get_default_readonly_paths",
         get_default_readonly_paths(alloc),
         get_default_readonly_paths(alloc),
     );
-    desk.same(
+    harness.same(
         "get_default_mounts",
         get_default_mounts(alloc),
         get_default_mounts(alloc),
     );
-    desk.same(
+    harness.same(
         "get_rootless_mounts",
         get_rootless_mounts(alloc),
         get_rootless_mounts(alloc),
@@ -41,22 +41,22 @@ fn rule(alloc: Global) -> Result<runtime::LinuxDeviceCgroup> {
     cgroup_of(alloc, &LinuxDevice::try_default(alloc)?)
 }
 
-fn wholes(desk: &mut Desk<'_>) {
-    let alloc = desk.rt.alloc();
-    desk.same("cgroup_of", rule(alloc), rule(alloc));
-    desk.same(
+fn wholes(harness: &mut Harness<'_>) {
+    let alloc = harness.rt.alloc();
+    harness.same("cgroup_of", rule(alloc), rule(alloc));
+    harness.same(
         "Linux::rootless",
         Linux::rootless(alloc, 1000, 100),
         Linux::rootless(alloc, 1000, 100),
     );
-    desk.same(
+    harness.same(
         "Spec::rootless",
         Spec::rootless(alloc, 1000, 100),
         Spec::rootless(alloc, 1000, 100),
     );
-    desk.answer("version", &distribution::version(alloc), Ok("1.0.0"));
-    desk.answer("version", &image::version(alloc), Ok("1.0.1"));
-    desk.answer("version", &runtime::version(alloc), Ok("1.1.0"));
+    harness.answer("version", &distribution::version(alloc), Ok("1.0.0"));
+    harness.answer("version", &image::version(alloc), Ok("1.0.1"));
+    harness.answer("version", &runtime::version(alloc), Ok("1.1.0"));
 }
 
 /// A specification with the default root, or with none.
@@ -100,19 +100,19 @@ fn path(alloc: Global, spec: Spec) -> Result<String> {
 }
 
 /// All such calls.
-pub fn all(desk: &mut Desk<'_>) {
-    lists(desk);
-    wholes(desk);
-    let alloc = desk.rt.alloc();
-    desk.answer(
+pub fn all(harness: &mut Harness<'_>) {
+    lists(harness);
+    wholes(harness);
+    let alloc = harness.rt.alloc();
+    harness.answer(
         "canonicalize_rootfs",
         &made_canonical(alloc, true),
         Ok("/b/rootfs"),
     );
-    desk.answer(
+    harness.answer(
         "canonicalize_rootfs",
         &made_canonical(alloc, false),
         Err("no root path provided for canonicalization"),
     );
-    desk.end("specifications", "calls");
+    harness.end("specifications", "calls");
 }

@@ -1,11 +1,11 @@
-//! The calls on texts: digests, open names and references.
+//! The calls on texts: digests, extensible enums and references.
 
 use crate::references::is_answered;
 use oci_spec::distribution::{ParseError, Reference};
 use oci_spec::image::{Arch, Digest, DigestAlgorithm, MediaType, Os, Sha256Digest};
 use oci_spec::runtime::LinuxNamespaceType;
 use oci_spec::{OciSpecError, Result};
-use oci_test_harness::{Answer, Desk};
+use oci_test_harness::{Answer, Harness};
 use std::alloc::Global;
 use std::fmt::Display;
 
@@ -33,7 +33,7 @@ enum Call {
 
 const DIGITS: &str = "b5b2b2c507a0944348e0303114d8d93aaaa081732b86451d9bce1f432a537bc7";
 
-/// A call, its text, and the text that is taken again or told.
+/// A call, its text, and the text that is read again or reported.
 static CALLS: [(Call, &str, Answer<'_>); 30] = [
     (Call::Digest, "foo:bar", Ok("foo:bar")),
     (Call::Digest, "blah+", Err("missing ':' in digest")),
@@ -177,7 +177,7 @@ fn of_reference(alloc: Global, call: Call, text: &str) -> Result<String> {
     }
 }
 
-/// References that are refused, whatever request for memory is refused: a text that is not accepted takes none.
+/// References that are rejected, whichever allocation fails: a text that is not accepted allocates nothing.
 static REFUSED: [(&str, ParseError); 13] = [
     ("", ParseError::NameEmpty),
     ("foo_bar.com:80/x", ParseError::ReferenceInvalidFormat),
@@ -216,15 +216,15 @@ static REFUSED: [(&str, ParseError); 13] = [
 ];
 
 /// All calls on texts.
-pub fn all(desk: &mut Desk<'_>) {
-    let alloc = desk.rt.alloc();
+pub fn all(harness: &mut Harness<'_>) {
+    let alloc = harness.rt.alloc();
     for (call, text, expected) in &CALLS {
-        desk.answer(text, &of_digest(alloc, *call, text), *expected);
+        harness.answer(text, &of_digest(alloc, *call, text), *expected);
     }
-    desk.end("texts", "calls");
+    harness.end("texts", "calls");
     for (text, expected) in &REFUSED {
         let kept = is_answered(alloc, text, Some(*expected));
-        desk.count(text, 0, kept);
+        harness.count(text, 0, kept);
     }
-    desk.end("references", "refused");
+    harness.end("references", "refused");
 }

@@ -1,4 +1,4 @@
-//! Each call on a document or a file and each command that takes memory: answered as ever, or with `Memory`.
+//! Each call on a document or a file and each command that allocates: the baseline's result, or `Memory`.
 
 mod commands;
 mod documents;
@@ -7,24 +7,24 @@ mod images;
 
 use crate::rows::{Work, each};
 use oci_doc_run::Kind;
-use oci_test_harness::{Desk, HarnessOutOfMemory, Sample};
+use oci_test_harness::{Harness, HarnessOutOfMemory, Sample};
 
 /// All groups of this half.
-pub fn run(desk: &mut Desk<'_>) -> Result<(), HarnessOutOfMemory> {
-    each(desk, "samples.rows", &Work::Calls)?;
-    each(desk, "documents.rows", &Work::Calls)?;
-    each(desk, "texts.rows", &Work::Commands)?;
-    desk.end("texts", "commands");
-    files::all(desk)?;
-    desk.end_calls();
+pub fn run(harness: &mut Harness<'_>) -> Result<(), HarnessOutOfMemory> {
+    each(harness, "samples.rows", &Work::Calls)?;
+    each(harness, "documents.rows", &Work::Calls)?;
+    each(harness, "texts.rows", &Work::Commands)?;
+    harness.end("texts", "commands");
+    files::all(harness)?;
+    harness.end_calls();
     Ok(())
 }
 
 /// The groups of one document.
-pub fn document(desk: &mut Desk<'_>, sample: &Sample<'_>) -> Result<(), HarnessOutOfMemory> {
+pub fn document(harness: &mut Harness<'_>, sample: &Sample<'_>) -> Result<(), HarnessOutOfMemory> {
     if let Some(kind) = Kind::from_word(sample.kind) {
-        documents::all(desk, kind, sample);
-        images::all(desk, kind, sample);
+        documents::all(harness, kind, sample);
+        images::all(harness, kind, sample);
     }
-    commands::all(desk, sample)
+    commands::all(harness, sample)
 }

@@ -1,7 +1,7 @@
 //! The rows of the files of `data/`.
 
 use crate::{calls, vectors};
-use oci_test_harness::{Desk, HarnessOutOfMemory, Sample};
+use oci_test_harness::{Harness, HarnessOutOfMemory, Sample};
 use std::fs;
 
 /// What is done with a row.
@@ -17,19 +17,19 @@ pub enum Work {
 }
 
 /// Does this with each row of a file.
-pub fn each(desk: &mut Desk<'_>, path: &str, work: &Work) -> Result<(), HarnessOutOfMemory> {
-    let rows = fs::read_to_string(desk.rt, path)?;
+pub fn each(harness: &mut Harness<'_>, path: &str, work: &Work) -> Result<(), HarnessOutOfMemory> {
+    let rows = fs::read_to_string(harness.rt, path)?;
     for row in rows.as_str().trim().split("\n\n") {
-        of_row(desk, row, work)?;
+        of_row(harness, row, work)?;
     }
     Ok(())
 }
 
-fn of_row(desk: &mut Desk<'_>, row: &str, work: &Work) -> Result<(), HarnessOutOfMemory> {
+fn of_row(harness: &mut Harness<'_>, row: &str, work: &Work) -> Result<(), HarnessOutOfMemory> {
     match work {
-        Work::Bytes => vectors::document(desk, &Sample::of(row)?, true),
-        Work::Streams => vectors::document(desk, &Sample::of(row)?, false),
-        Work::Calls => calls::document(desk, &Sample::of(row)?),
-        Work::Commands => vectors::commands::answers(desk, row),
+        Work::Bytes => vectors::document(harness, &Sample::of(row)?, true),
+        Work::Streams => vectors::document(harness, &Sample::of(row)?, false),
+        Work::Calls => calls::document(harness, &Sample::of(row)?),
+        Work::Commands => vectors::commands::answers(harness, row),
     }
 }

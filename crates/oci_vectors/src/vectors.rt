@@ -6,28 +6,28 @@ mod edges;
 mod faults;
 
 use crate::rows::{Work, each};
-use oci_test_harness::{Desk, HarnessOutOfMemory, Sample, words};
+use oci_test_harness::{Harness, HarnessOutOfMemory, Sample, words};
 
 /// All groups of this half.
-pub fn run(desk: &mut Desk<'_>) -> Result<(), HarnessOutOfMemory> {
-    each(desk, "samples.rows", &Work::Bytes)?;
-    each(desk, "documents.rows", &Work::Streams)?;
-    edges::all(desk);
-    each(desk, "commands.rows", &Work::Commands)?;
-    desk.end("commands", "rows");
+pub fn run(harness: &mut Harness<'_>) -> Result<(), HarnessOutOfMemory> {
+    each(harness, "samples.rows", &Work::Bytes)?;
+    each(harness, "documents.rows", &Work::Streams)?;
+    edges::all(harness);
+    each(harness, "commands.rows", &Work::Commands)?;
+    harness.end("commands", "rows");
     Ok(())
 }
 
 /// The groups of one document; it is cut and changed only where that is asked for.
 pub fn document(
-    desk: &mut Desk<'_>,
+    harness: &mut Harness<'_>,
     sample: &Sample<'_>,
     is_changed: bool,
 ) -> Result<(), HarnessOutOfMemory> {
-    let normal = words(desk.rt.alloc(), &["norm", sample.kind])?;
+    let normal = words(harness.rt.alloc(), &["norm", sample.kind])?;
     if is_changed {
-        bytes::all(desk, sample, normal.as_slice());
+        bytes::all(harness, sample, normal.as_slice());
     }
-    faults::all(desk, sample, normal.as_slice());
+    faults::all(harness, sample, normal.as_slice());
     Ok(())
 }

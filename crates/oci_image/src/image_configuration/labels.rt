@@ -11,7 +11,7 @@ pub const LABEL_VERSION: &str = "version";
 impl ImageConfiguration {
     ghost use Rattle.std.specs.Prelude.{option_map};
     ghost use Rattle.std.specs.Option.{option_copied};
-    ghost use Rattle.oci_image.specs.ImageConfiguration.{labels_of, label_of, version_of};
+    ghost use Rattle.oci_image.specs.ImageConfigurationOwn.{labels_of, label_of, version_of};
 
     /// The labels of `config`, where both are there.
     pub fn labels_of_config(&self) -> Option<&BTreeMap<String, String>>

@@ -50,7 +50,7 @@ impl Linux {
     }
 }
 
-// the container's ID 0, which stands for this one of the host
+// the container's ID 0, mapped to this one of the host
 fn mapping_to(alloc: Global, host: u32) -> Result<Vec<LinuxIdMapping>>
     ensures ok { IfOk result (λ x. list_plain linux_id_mapping_plain x ≡ mapping_of host) }
     ensures err { IfErr result (λ e. e ≡ OciSpecError.Memory) }

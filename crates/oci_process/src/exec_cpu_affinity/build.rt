@@ -1,4 +1,4 @@
-//! What the builder of `ExecCPUAffinity` refuses.
+//! Which affinities the builder of `ExecCPUAffinity` rejects.
 ghost use Rattle.std.specs.Prelude.{◌≡◌, ◌++◌, ◌⊎◌, ℕ, List, Some, IfOk, IfErr, codes, string_bytes};
 ghost use Rattle.oci_text_base.specs.Refused.{Says};
 ghost use Rattle.oci_process_names.specs.Affinities.{AreLists, IsFirstOther};

@@ -1,4 +1,4 @@
-//! What the builder of `Mount` refuses.
+//! Which mounts the builder of `Mount` rejects.
 ghost use Rattle.std.specs.Prelude.{◌≡◌, None, IfOk, IfErr, OnOk, unwrap_or, option_map, []};
 ghost use Rattle.oci_text_base.specs.Refused.{Refuses};
 ghost use Rattle.oci_json_model.specs.Plain as plain;

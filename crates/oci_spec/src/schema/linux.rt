@@ -23,7 +23,7 @@ use oci_schemas::linux::linux;
 use oci_schemas::linux_namespaces::{
     linux_device, linux_id_mapping, linux_namespace, linux_net_device, linux_time_offset,
 };
-use oci_schemas::linux_policies::{
+use oci_schemas::linux_seccomp::{
     linux_intel_rdt, linux_memory_policy, linux_personality, linux_seccomp, linux_seccomp_arg,
     linux_syscall,
 };

@@ -12,7 +12,7 @@ mod rows;
 mod unwritable;
 mod writing;
 
-/// A call is refused by this fault of a stream.
+/// A call fails with this error of a stream.
 fn check_io<T>(rt: &impl Abort, found: &Result<T>, expected: ErrorKind) {
     match found {
         Err(OciSpecError::Io(fault)) => check_is(rt, &fault.kind(), &expected),

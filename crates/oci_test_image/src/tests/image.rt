@@ -1,4 +1,4 @@
-//! Image documents that are made in code, in files. What texts are read as stands in the rows of `oci_test_golden`, and what else these
+//! Image documents that are made in code, in files. What texts are read as is in the rows of `oci_test_golden`, and what else these
 //! documents do is run in `oci_vectors`.
 
 use super::check_text;

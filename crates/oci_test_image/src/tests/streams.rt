@@ -18,7 +18,7 @@ pub(super) struct Input<'a> {
 }
 
 impl<'a> Input<'a> {
-    /// Gives the bytes, as many at once as there is room for.
+    /// Gives the bytes, as many at once as the buffer holds.
     pub(super) fn new(bytes: &'a [u8]) -> Input<'a> {
         Input {
             bytes,

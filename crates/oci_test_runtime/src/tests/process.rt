@@ -1,4 +1,4 @@
-//! The default of a process, and lists of processors.
+//! The default of a process, and CPU lists.
 
 use super::{check_is, check_written};
 use oci_json_io::{to_string, to_writer};
@@ -67,7 +67,7 @@ fn said(error: &OciSpecError) -> &str {
     }
 }
 
-/// In code any text is kept, and a document with one that is no list of processors is not written.
+/// In code any text is kept, and a document with one that is no CPU list is not written.
 #[test]
 fn unwritable_affinity(rt: HostRuntime) {
     let alloc = rt.alloc();

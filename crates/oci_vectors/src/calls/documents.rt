@@ -9,7 +9,7 @@ use oci_spec::image::{
     ArtifactManifest, Descriptor, ImageConfiguration, ImageIndex, ImageManifest, OciLayout,
 };
 use oci_spec::runtime::{ContainerProcessState, Features, Spec, State};
-use oci_test_harness::{Desk, Sample};
+use oci_test_harness::{Harness, Sample};
 use std::alloc::Global;
 
 /// What is done with a document that is read from bytes, before it is written.
@@ -22,7 +22,7 @@ enum Way {
     Copied,
     /// It is written as its pretty text and read back from it.
     Pretty,
-    /// It is copied and written, and what comes of it is let go of: it is as before, whether or not that was refused.
+    /// It is copied and written, and the results are dropped: it is unchanged, whether or not that failed.
     Kept,
 }
 
@@ -80,10 +80,10 @@ fn of_kind(alloc: Global, kind: Kind, way: &Way, text: &[u8]) -> Result<String> 
 }
 
 /// All calls on one document.
-pub fn all(desk: &mut Desk<'_>, kind: Kind, sample: &Sample<'_>) {
+pub fn all(harness: &mut Harness<'_>, kind: Kind, sample: &Sample<'_>) {
     for (way, call) in &WAYS {
-        let answer = of_kind(desk.rt.alloc(), kind, way, sample.text.as_bytes());
-        desk.answer(call, &answer, Ok(sample.compact));
+        let answer = of_kind(harness.rt.alloc(), kind, way, sample.text.as_bytes());
+        harness.answer(call, &answer, Ok(sample.compact));
     }
-    desk.end(sample.kind, "calls of documents");
+    harness.end(sample.kind, "calls of documents");
 }

@@ -1,11 +1,11 @@
-//! The calls on files: a file is as before where memory is refused or a document is not writable.
+//! The calls on files: a file is unchanged if out of memory, or if a document is not serializable.
 
 use oci_json_io::{from_file, from_slice, to_file, to_file_pretty, to_string};
 use oci_json_model::OciRecord;
 use oci_spec::distribution::ErrorResponse;
 use oci_spec::runtime::{ExecCPUAffinity, Process, ProcessBuilder, Spec, SpecBuilder, State};
 use oci_spec::{OciSpecError, Result, SerDeError};
-use oci_test_harness::{Desk, HarnessOutOfMemory};
+use oci_test_harness::{Harness, HarnessOutOfMemory};
 use std::alloc::Global;
 use std::fs;
 
@@ -16,7 +16,7 @@ fn reply(alloc: Global) -> Result<ErrorResponse> {
     from_slice(alloc, REPLY.as_bytes())
 }
 
-/// A process with a text that is no list of processors.
+/// A process with a text that is no CPU list.
 fn unwritable_process(alloc: Global) -> Result<Process> {
     let text = String::from_str(alloc, "x")?;
     let mut affinity = ExecCPUAffinity::try_default(alloc)?;
@@ -41,7 +41,7 @@ enum Call {
     UnwritableSave,
 }
 
-/// A call, and the bytes of the file after it, where its document is writable.
+/// A call, and the bytes of the file after it, if its document is serializable.
 static CALLS: [(Call, &str, Option<&str>); 6] = [
     (Call::Compact, "to_file", Some(REPLY)),
     (
@@ -88,14 +88,19 @@ fn written(rt: &HostRuntime, call: &Call) -> Result<()> {
 }
 
 /// The file is as the answer says.
-fn is_kept(desk: &mut Desk<'_>, answer: &Result<()>, expected: Option<&str>, bytes: &[u8]) -> bool {
+fn is_kept(
+    harness: &mut Harness<'_>,
+    answer: &Result<()>,
+    expected: Option<&str>,
+    bytes: &[u8],
+) -> bool {
     match answer {
         Ok(()) => match expected {
             Some(text) => bytes == text.as_bytes(),
             None => false,
         },
         Err(OciSpecError::Memory) => {
-            desk.count_memory();
+            harness.count_memory();
             bytes == KEPT
         }
         Err(OciSpecError::SerDe(SerDeError::Schema(_))) => expected.is_none() && bytes == KEPT,
@@ -103,13 +108,13 @@ fn is_kept(desk: &mut Desk<'_>, answer: &Result<()>, expected: Option<&str>, byt
     }
 }
 
-fn writes(desk: &mut Desk<'_>) -> std::result::Result<(), HarnessOutOfMemory> {
+fn writes(harness: &mut Harness<'_>) -> std::result::Result<(), HarnessOutOfMemory> {
     for (call, name, expected) in &CALLS {
-        fs::write(desk.rt, PATH, KEPT)?;
-        let answer = written(desk.rt, call);
-        let bytes = fs::read(desk.rt, PATH)?;
-        let kept = is_kept(desk, &answer, *expected, bytes.as_slice());
-        desk.count(name, 0, kept);
+        fs::write(harness.rt, PATH, KEPT)?;
+        let answer = written(harness.rt, call);
+        let bytes = fs::read(harness.rt, PATH)?;
+        let kept = is_kept(harness, &answer, *expected, bytes.as_slice());
+        harness.count(name, 0, kept);
     }
     Ok(())
 }
@@ -132,15 +137,15 @@ fn loaded_state(rt: &HostRuntime) -> Result<State> {
 }
 
 /// All calls on files.
-pub fn all(desk: &mut Desk<'_>) -> std::result::Result<(), HarnessOutOfMemory> {
-    writes(desk)?;
-    let spec = Spec::try_default(desk.rt.alloc());
-    desk.same("save and load", loaded_spec(desk.rt), spec);
-    let state = State::try_default(desk.rt.alloc());
-    desk.same("save and load", loaded_state(desk.rt), state);
-    fs::write(desk.rt, PATH, REPLY)?;
-    desk.answer("from_file", &read(desk.rt), Ok(REPLY));
-    fs::remove_file(desk.rt, PATH)?;
-    desk.end("files", "calls");
+pub fn all(harness: &mut Harness<'_>) -> std::result::Result<(), HarnessOutOfMemory> {
+    writes(harness)?;
+    let spec = Spec::try_default(harness.rt.alloc());
+    harness.same("save and load", loaded_spec(harness.rt), spec);
+    let state = State::try_default(harness.rt.alloc());
+    harness.same("save and load", loaded_state(harness.rt), state);
+    fs::write(harness.rt, PATH, REPLY)?;
+    harness.answer("from_file", &read(harness.rt), Ok(REPLY));
+    fs::remove_file(harness.rt, PATH)?;
+    harness.end("files", "calls");
     Ok(())
 }

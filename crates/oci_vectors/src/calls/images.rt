@@ -4,7 +4,7 @@ use oci_doc_run::Kind;
 use oci_json_io::write_text;
 use oci_spec::image::{ArtifactManifest, ImageConfiguration, ImageIndex, ImageManifest, OciLayout};
 use oci_spec::{OciSpecError, Result};
-use oci_test_harness::{Desk, Input, Manner, Output, Sample};
+use oci_test_harness::{Harness, Input, Manner, Output, Sample};
 use std::alloc::Global;
 use std::fmt::Display;
 use std::io::Write;
@@ -102,16 +102,16 @@ fn of_kind(
 }
 
 /// All such calls on one document, if it has any.
-pub fn all(desk: &mut Desk<'_>, kind: Kind, sample: &Sample<'_>) {
+pub fn all(harness: &mut Harness<'_>, kind: Kind, sample: &Sample<'_>) {
     for (call, name, is_pretty) in &CALLS {
         if has_call(kind, call) {
-            desk.output.begin(Manner::AMPLE);
+            harness.output.begin(Manner::AMPLE);
             let input = Input::new(sample.text.as_bytes(), Manner::AMPLE);
-            let answer = of_kind(desk.rt.alloc(), kind, call, input, &mut desk.output);
-            desk.wrote(name, &answer, sample.compact, *is_pretty);
+            let answer = of_kind(harness.rt.alloc(), kind, call, input, &mut harness.output);
+            harness.wrote(name, &answer, sample.compact, *is_pretty);
         }
     }
     if has_call(kind, &Call::Text) {
-        desk.end(sample.kind, "calls of its own");
+        harness.end(sample.kind, "calls of its own");
     }
 }

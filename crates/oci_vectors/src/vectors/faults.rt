@@ -1,7 +1,7 @@
 //! A document over streams that give and take little, or fail.
 
 use crate::command::{ends_in, tells};
-use oci_test_harness::{Desk, Manner, Sample};
+use oci_test_harness::{Harness, Manner, Sample};
 use std::io::ErrorKind;
 
 /// Bytes that a reader gives at most before it fails.
@@ -20,51 +20,51 @@ const INTERRUPTED: Option<ErrorKind> = Some(ErrorKind::Interrupted);
 const FULL: Option<ErrorKind> = None;
 
 /// All groups of one document.
-pub fn all(desk: &mut Desk<'_>, sample: &Sample<'_>, words: &[String]) {
-    pieces(desk, sample, words, 1);
-    pieces(desk, sample, words, 7);
-    pieces(desk, sample, words, usize::MAX);
-    desk.end(sample.kind, "sizes of pieces");
-    reads(desk, sample.text.as_bytes(), words, BROKEN);
-    reads(desk, sample.text.as_bytes(), words, INTERRUPTED);
-    desk.end(sample.kind, "bad reads");
-    writes(desk, sample, words, BROKEN);
-    writes(desk, sample, words, INTERRUPTED);
-    writes(desk, sample, words, FULL);
-    flush(desk, sample, words, BROKEN);
-    flush(desk, sample, words, INTERRUPTED);
-    desk.end(sample.kind, "bad writes");
-    untold(desk, sample, words, BROKEN);
-    untold(desk, sample, words, INTERRUPTED);
-    desk.end(sample.kind, "untold");
+pub fn all(harness: &mut Harness<'_>, sample: &Sample<'_>, words: &[String]) {
+    pieces(harness, sample, words, 1);
+    pieces(harness, sample, words, 7);
+    pieces(harness, sample, words, usize::MAX);
+    harness.end(sample.kind, "sizes of pieces");
+    reads(harness, sample.text.as_bytes(), words, BROKEN);
+    reads(harness, sample.text.as_bytes(), words, INTERRUPTED);
+    harness.end(sample.kind, "bad reads");
+    writes(harness, sample, words, BROKEN);
+    writes(harness, sample, words, INTERRUPTED);
+    writes(harness, sample, words, FULL);
+    flush(harness, sample, words, BROKEN);
+    flush(harness, sample, words, INTERRUPTED);
+    harness.end(sample.kind, "bad writes");
+    untold(harness, sample, words, BROKEN);
+    untold(harness, sample, words, INTERRUPTED);
+    harness.end(sample.kind, "untold");
 }
 
 /// Counts a command that is done, and writes the document's compact text.
 fn done(
-    desk: &mut Desk<'_>,
+    harness: &mut Harness<'_>,
     case: &str,
     place: usize,
     sample: &Sample<'_>,
     words: &[String],
     manner: Manner,
 ) {
-    let kept = ends_in(desk, words, sample.text.as_bytes(), manner, 0)
-        && desk.has_written(sample.compact.as_bytes());
-    desk.count(case, place, kept);
+    let kept = ends_in(harness, words, sample.text.as_bytes(), manner, 0)
+        && harness.has_written(sample.compact.as_bytes());
+    harness.count(case, place, kept);
 }
 
 /// The same text is written, however little is given and taken at once.
-fn pieces(desk: &mut Desk<'_>, sample: &Sample<'_>, words: &[String], most: usize) {
+fn pieces(harness: &mut Harness<'_>, sample: &Sample<'_>, words: &[String], most: usize) {
     let manner = Manner {
         most_read: most,
         most_written: most,
         ..Manner::AMPLE
     };
-    done(desk, "pieces", most, sample, words, manner);
+    done(harness, "pieces", most, sample, words, manner);
 }
 
-/// A read that fails is told, and nothing is written; the last one is that which finds the end.
-fn reads(desk: &mut Desk<'_>, text: &[u8], words: &[String], fault: Option<ErrorKind>) {
+/// A read that fails is reported, and nothing is written; the last one is that which finds the end.
+fn reads(harness: &mut Harness<'_>, text: &[u8], words: &[String], fault: Option<ErrorKind>) {
     for before in 0..=text.len().div_ceil(READ) {
         let manner = Manner {
             most_read: READ,
@@ -72,12 +72,25 @@ fn reads(desk: &mut Desk<'_>, text: &[u8], words: &[String], fault: Option<Error
             fault,
             ..Manner::AMPLE
         };
-        tells(desk, "read", before, words, text, manner, "refused: Io\n");
+        tells(
+            harness,
+            "read",
+            before,
+            words,
+            text,
+            manner,
+            "refused: Io\n",
+        );
     }
 }
 
-/// A write that fails is told, and so is one that takes no byte; what was taken before is written.
-fn writes(desk: &mut Desk<'_>, sample: &Sample<'_>, words: &[String], fault: Option<ErrorKind>) {
+/// A write that fails is reported, and so is one that takes no byte; what was taken before is written.
+fn writes(
+    harness: &mut Harness<'_>,
+    sample: &Sample<'_>,
+    words: &[String],
+    fault: Option<ErrorKind>,
+) {
     for before in 0..sample.compact.len().div_ceil(WRITTEN) {
         let manner = Manner {
             most_written: WRITTEN,
@@ -85,43 +98,59 @@ fn writes(desk: &mut Desk<'_>, sample: &Sample<'_>, words: &[String], fault: Opt
             fault,
             ..Manner::AMPLE
         };
-        begins(desk, sample, words, manner, before.saturating_mul(WRITTEN));
+        begins(
+            harness,
+            sample,
+            words,
+            manner,
+            before.saturating_mul(WRITTEN),
+        );
     }
 }
 
-/// A flush that fails is told; all was written.
-fn flush(desk: &mut Desk<'_>, sample: &Sample<'_>, words: &[String], fault: Option<ErrorKind>) {
+/// A flush that fails is reported; all was written.
+fn flush(
+    harness: &mut Harness<'_>,
+    sample: &Sample<'_>,
+    words: &[String],
+    fault: Option<ErrorKind>,
+) {
     let manner = Manner {
         bad_flush: true,
         fault,
         ..Manner::AMPLE
     };
-    begins(desk, sample, words, manner, sample.compact.len());
+    begins(harness, sample, words, manner, sample.compact.len());
 }
 
-/// Counts a command whose fault is told, and of whose text so many bytes were written.
+/// Counts a command whose I/O error is reported, and of whose text so many bytes were written.
 fn begins(
-    desk: &mut Desk<'_>,
+    harness: &mut Harness<'_>,
     sample: &Sample<'_>,
     words: &[String],
     manner: Manner,
     count: usize,
 ) {
-    let is_refused = ends_in(desk, words, sample.text.as_bytes(), manner, 1);
+    let is_refused = ends_in(harness, words, sample.text.as_bytes(), manner, 1);
     let kept = match sample.compact.as_bytes().get(..count) {
-        Some(begun) => is_refused && desk.has_begun(begun),
+        Some(begun) => is_refused && harness.has_begun(begun),
         None => false,
     };
-    desk.count("written", count, kept);
+    harness.count("written", count, kept);
 }
 
-/// Errors that can't be told change neither the status nor what is written.
-fn untold(desk: &mut Desk<'_>, sample: &Sample<'_>, words: &[String], fault: Option<ErrorKind>) {
+/// Errors that cannot be reported change neither the status nor what is written.
+fn untold(
+    harness: &mut Harness<'_>,
+    sample: &Sample<'_>,
+    words: &[String],
+    fault: Option<ErrorKind>,
+) {
     let manner = Manner {
         bad_tell: 1,
         fault,
         ..Manner::AMPLE
     };
-    done(desk, "untold", 0, sample, words, manner);
-    tells(desk, "untold", 1, words, b"", manner, "");
+    done(harness, "untold", 0, sample, words, manner);
+    tells(harness, "untold", 1, words, b"", manner, "");
 }

@@ -87,7 +87,7 @@ fn writers(rt: HostRuntime) {
     }
 }
 
-/// The engine answers the fault, and a beginning of the text was written.
+/// The call returns the error, and a beginning of the text was written.
 fn check_begun(
     rt: &impl Abort,
     alloc: Global,

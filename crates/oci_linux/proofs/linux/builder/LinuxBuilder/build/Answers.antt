@@ -1,4 +1,4 @@
--- Where one of the defaults is refused, memory was wanted.
+-- Where one of the defaults fails, it fails with `Memory`.
 use Rattle.std.proofs.Common.{◌≡◌, Err}
 use Rattle.oci_text_base.specs.declared.error.OciSpecError.{OciSpecError}
 use Rattle.oci_text_base.specs.declared.error.OciSpecError.TheVariants.{Memory}

@@ -6,12 +6,12 @@ use oci_text_base::{OciSpecError, Result};
 
 /// Runs and counts the cases of one group after the other.
 #[derive(Drop)]
-pub struct Desk<'a> {
-    /// What stands for the outside world.
+pub struct Harness<'a> {
+    /// The outside world, simulated.
     pub rt: &'a HostRuntime,
     /// What the last command wrote.
     pub output: Output,
-    /// What it told.
+    /// What it reported.
     pub errors: Output,
     /// What a command wrote that was given this.
     pub again: Output,
@@ -19,10 +19,10 @@ pub struct Desk<'a> {
     memory: u64,
 }
 
-impl<'a> Desk<'a> {
-    /// Has room for what a command writes.
-    pub fn new(rt: &'a HostRuntime) -> std::result::Result<Desk<'a>, HarnessOutOfMemory> {
-        Ok(Desk {
+impl<'a> Harness<'a> {
+    /// Has a buffer for what a command writes.
+    pub fn new(rt: &'a HostRuntime) -> std::result::Result<Harness<'a>, HarnessOutOfMemory> {
+        Ok(Harness {
             rt,
             output: Output::new(rt.alloc(), 65536)?,
             errors: Output::new(rt.alloc(), 1024)?,
@@ -32,17 +32,17 @@ impl<'a> Desk<'a> {
         })
     }
 
-    /// The last command wrote this, and told nothing.
+    /// The last command wrote this, and reported nothing.
     pub fn has_written(&self, text: &[u8]) -> bool {
         self.output.is_done(text) && self.errors.is_untouched()
     }
 
-    /// The last command wrote nothing, and told this.
+    /// The last command wrote nothing, and reported this.
     pub fn has_told(&self, line: &str) -> bool {
         self.output.is_untouched() && self.errors.taken() == line.as_bytes()
     }
 
-    /// The last command wrote this and told nothing, or wrote nothing and told this.
+    /// The last command wrote this and reported nothing, or wrote nothing and reported this.
     pub fn has_answered(&self, text: &[u8], line: &str) -> bool {
         if line.is_empty() {
             self.has_written(text)
@@ -82,10 +82,10 @@ impl<'a> Desk<'a> {
         let _ = println!(self.rt; "answers of Memory: {count}");
     }
 
-    /// The last command wrote this, spaces and line feeds not looked at where it is a pretty text, and told nothing.
+    /// The last command wrote this, whitespace ignored in pretty text, and reported nothing.
     pub fn has_done(&mut self, text: &str, is_pretty: bool) -> bool {
         if is_pretty {
-            self.output.unlay();
+            self.output.strip_layout();
         }
         self.has_written(text.as_bytes())
     }
@@ -100,7 +100,7 @@ impl<'a> Desk<'a> {
     /// with `Memory`.
     pub fn wrote(&mut self, call: &str, answer: &Result<()>, text: &str, is_pretty: bool) {
         if is_pretty {
-            self.output.unlay();
+            self.output.strip_layout();
         }
         let kept = match answer {
             Ok(()) => self.output.taken() == text.as_bytes(),

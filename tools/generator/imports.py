@@ -1,0 +1,44 @@
+"""Imports of a record's source files."""
+from generator.records import snake
+from generator.text import called_in, used, uses
+
+JOINS = [f"try_join{n}" for n in range(2, 6)]
+# functions of `oci_json_members`: those that are called with types, and the others
+KIND_CALLS = ["copy_optional_as", "optional_as", "optional_as_owned", "write_optional_as"]
+MEMBER_CALLS = ["defaulted", "defaulted_owned", "nullable", "nullable_owned", "unless_empty", "unless_empty_owned", "write_nullable",
+                "write_unless_empty", "equal_optional_values"]
+# functions of `oci_json_model`
+MODEL_CALLS = ["copy_optional", "optional", "optional_either", "required", "write_optional", "write_required", "optional_owned",
+               "required_owned", "optional_either_owned"]
+TAKES = ["taken"] + [f"taken_{n}" for n in range(5, 11)]
+# kinds of members that are in another crate than `oci_json_members`
+KIND_CRATES = {"Caps": "oci_process_names", "CpuTexts": "oci_process_names"}
+
+
+def model_calls(body):
+    """What a body takes from `oci_json_model`."""
+    return ["OciMember"] * (".copy(alloc)" in body) + called_in(MODEL_CALLS, body) + used(JOINS + TAKES, body)
+
+
+def imports(r, body, schema):
+    """The imports of a file of the record's, whose code names what it takes from the crates below."""
+    held = " ".join(m.type.rust for m in r.members)
+    crates = {"oci_json_model": schema, "oci_text_base": used(["OciSpecError", "Result", "UninitializedFieldError"], body)}
+    crates["oci_json_members"] = used(KIND_CALLS, body) + called_in(MEMBER_CALLS, body)
+    crates["oci_text"] = used(["Digest"], body) + used(["Arch", "ErrorCode", "MediaType", "Os"], held)
+    crates["oci_process_names"] = used(["Capability"], held)
+    for kind in used(sorted({m.type.kind for m in r.members if m.type.kind}), body):
+        crates[KIND_CRATES.get(kind, "oci_json_members")].append(kind)
+    local = []
+    parts = [(name, r.book.names[name]) for name in r.enums()] + r.parts()
+    for name, crate in parts:
+        if crate == r.book.crate:
+            local.append(f"use crate::{snake(name)}::{name};\n")
+        else:
+            crates.setdefault(crate, []).append(name)
+    for path, items in r.book.takes.items():
+        if path.startswith("crate::"):
+            local.append(uses(path, used(items, body)))
+        else:
+            crates.setdefault(path, []).extend(used(items, body))
+    return "".join(sorted(local)) + "".join(uses(c, crates[c]) for c in sorted(crates))

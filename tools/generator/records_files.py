@@ -1,0 +1,62 @@
+"""All files of records, by their paths in the repository."""
+import os
+
+from generator.accessors import fields_source
+from generator.builders import builder_source
+from generator.calls import SHAPES, calls_source
+from generator.output import module_list
+from generator.proofs import read_answers, write_answers
+from generator.shapes import shape_spec, well
+from generator.source import source
+from generator.specs import builder_spec, spec
+from generator.text import marked
+
+TOOL = "gen_records"
+
+
+def files(r):
+    """The files of one record, by their paths in its crate."""
+    out = {f"src/{r.word}.rt": source(r), f"specs/{r.name}.antt": spec(r)}
+    if r.above:
+        out[f"../{r.above}/src/{r.word}_builder.rt"] = builder_source(r)
+    elif "builder" in r.long:
+        out[f"src/{r.word}/builder.rt"] = builder_source(r)
+    if "calls" in r.long:
+        out[f"src/{r.word}/calls.rt"] = calls_source(r)
+    if "fields" in r.long:
+        out[f"src/{r.word}/fields.rt"] = fields_source(r)
+    if r.required:
+        out[f"specs/{r.name}Builder.antt"] = builder_spec(r)
+    answers = f"proofs/{r.word}/{r.name}OciRecord"
+    if len(r.members) > 8 or r.write_answers:
+        out[f"{answers}/to_value/Answers.antt"] = write_answers(r)
+    if r.read_answers:
+        out[f"{answers}/from_value/Answers.antt"] = read_answers(r)
+    return {os.path.normpath(f"crates/{r.book.crate}/{path}"): text for path, text in out.items()}
+
+
+def crate_files(book, root):
+    """The files of all records of a book, and the list of its crate's specifications."""
+    out = {path: text for r in book.records for path, text in files(r).items()}
+    specs = f"crates/{book.crate}/specs"
+    out[f"{specs}/Lib.antt"] = module_list(root, specs, out)
+    return marked(out, TOOL, book.source())
+
+
+def shape_files(books, root):
+    """The shapes of all records, the list of them, and the proofs that each is well formed."""
+    specs = f"crates/{SHAPES}/specs"
+    out = {}
+    for book in books:
+        out.update(marked({f"{specs}/{r.name}.antt": shape_spec(r) for r in book.records}, TOOL, book.source()))
+    all_of_them = {f"{specs}/Lib.antt": module_list(root, specs, out),
+                   f"crates/{SHAPES}/proofs/Well.antt": well(books, os.path.join(root, specs))}
+    return out | marked(all_of_them, TOOL, "tools/records")
+
+
+def all_files(books, root):
+    """All files of all books, by their paths in the repository at `root`."""
+    out = shape_files(books, root)
+    for book in books:
+        out.update(crate_files(book, root))
+    return out
