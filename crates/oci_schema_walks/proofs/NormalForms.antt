@@ -16,8 +16,8 @@ use Rattle.oci_json_model.specs.Value.{value, capability_texts, each_value, each
 use Rattle.oci_json_model.specs.Writable.{Writable, AreWritable}
 use Rattle.oci_schema_walks.specs.Allows.{each_allowed, each_member_allowed, items_allowed, members_allowed, member_allowed, either_allowed, set_in, some_is}
 use Rattle.oci_schema_walks.specs.Normalized.{is_kept, accepts, rows_accept, array_items, each_normalized, each_member_normalized, chosen, unless_absent, unless_no_items, normalized_member, normalized, normalized_rows}
-use Rattle.oci_schema_walks.proofs.Decides.{both, allowed, some_tells}
-use Rattle.oci_schema_walks.proofs.Texts.{same_told}
+use Rattle.oci_schema_walks.proofs.Decides.{both, allowed, some_decides}
+use Rattle.oci_schema_walks.proofs.Texts.{same_decided}
 use Rattle.oci_schema_walks.proofs.NormalParts.{object_kept}
 
 -- ---- values that are written as they were read
@@ -65,7 +65,7 @@ set_told [] ds [] h = refl
 set_told [] ds (b ∷ bs) h = absurd h
 set_told (name ∷ table) ds [] h = absurd h
 set_told (name ∷ table) ds (b ∷ bs) h =
-    let e = same_told (some_is ds name) b (some_tells ds name) h.0 in
+    let e = same_decided (some_is ds name) b (some_decides ds name) h.0 in
     let f = set_told table ds bs h.1 in
     cc
 

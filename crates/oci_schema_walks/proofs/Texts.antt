@@ -9,8 +9,9 @@ use Rattle.oci_text_base.specs.CpuList.{IsCpuList}
 use Rattle.oci_text_base.specs.Digest.{IsDigestText, digest_refusal}
 use Rattle.oci_text_base.specs.Names.{is_listed}
 use Rattle.oci_text.proofs.Refusals.{digest_refused}
-use Rattle.oci_process_names.proofs.CpuLists.{lists}
-use Rattle.oci_schema_walks.specs.Allows.{is_digest_text, is_cpu_text, any_up_to, is_spelled, is_capability}
+use Rattle.oci_process_names.specs.CpuScan.{is_cpu_text}
+use Rattle.oci_process_names.proofs.CpuLists.{cpu_list_decides}
+use Rattle.oci_schema_walks.specs.Allows.{is_digest_text, any_up_to, is_spelled, is_capability}
 
 -- two computations that decide one thing are one
 pub same_decided : {P : Type 0} (a b : Bool) → (a ≡ true) ↔ P → (b ≡ true) ↔ P → a ≡ b
@@ -35,10 +36,6 @@ pub digest_same : (t : List ℕ) (b : Bool) → IsTrue b ↔ IsDigestText t → 
 digest_same t b h = same_decided b (is_digest_text t) h (digest_decides t)
 
 -- ---- CPU lists
-
-pub cpu_list_decides : (t : List ℕ) → (is_cpu_text t ≡ true) ↔ IsCpuList t
-unfolding is_cpu_text
-cpu_list_decides t = lists t
 
 pub cpu_list_same : (t : List ℕ) (b : Bool) → IsTrue b ↔ IsCpuList t → b ≡ is_cpu_text t
 cpu_list_same t b h = same_decided b (is_cpu_text t) h (cpu_list_decides t)

@@ -11,7 +11,7 @@ use Rattle.oci_text_base.specs.Names.{is_listed}
 use Rattle.oci_json_model.specs.Means.{as_whole, is_object, get_second}
 use Rattle.oci_json_model.specs.Shape.{Presence, required, defaulted, optional, nullable, unless_empty, Shape, text, truth, whole, named, open_name, digest_text, cpu_text, cap_set, list, key_set, detail, free_map, rows, Rows, no_rows, row}
 use Rattle.oci_json_model.specs.Shape as shape
-use Rattle.oci_process_names.proofs.CpuLists.{lists}
+use Rattle.oci_process_names.specs.CpuScan.{is_cpu_text}
 use Rattle.oci_schema_types.specs.Shapes.{schema_shape, presence_of, alias_of}
 use Rattle.oci_schema_types.specs.declared.record.Member.{Member}
 
@@ -19,14 +19,6 @@ use Rattle.oci_schema_types.specs.declared.record.Member.{Member}
 
 unfoldable pub is_digest_text : List ℕ → Bool
 is_digest_text t = not (is_some (digest_refusal t))
-
--- the test that a law is of
-abbrev pub test_of : {P : List ℕ → Type 0} {f : List ℕ → Bool} → ((t : List ℕ) → (f t ≡ true) ↔ P t) → List ℕ → Bool
-test_of {P} {f} law = f
-
--- the scan of CPU lists: its start has a name in its own crate alone, so it is named by its law
-unfoldable pub is_cpu_text : List ℕ → Bool
-is_cpu_text = test_of lists
 
 -- for one of these numbers, or 0
 abbrev pub any_up_to : (ℕ → Bool) → ℕ → Bool

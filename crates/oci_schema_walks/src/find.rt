@@ -5,7 +5,7 @@ ghost use Rattle.oci_schema_types.specs.Shapes.{scalar_shape, part_shape, schema
 ghost use Rattle.oci_schema_walks.specs.Places.{under_name as under};
 ghost use Rattle.oci_schema_walks.specs.Violations.{reported, violations as all_violations, each_violations, each_member_violations, rows_violations, known_violations, member_violations, expectation_of, value_kind, a_value, no_alias};
 
-use crate::member::lets_null;
+use crate::member::is_null_absent;
 use crate::place::{under_index, under_name};
 use crate::scalar::scalar_allows;
 use crate::violation::expected_kind;
@@ -219,7 +219,7 @@ fn add_found<T: Records>(
     match there {
         None => add_missing(records, member, place.as_str(), found, alloc),
         Some(value) => {
-            if value.is_null() && lets_null(&member.presence) {
+            if value.is_null() && is_null_absent(&member.presence) {
                 return Ok(());
             }
             add_violations(records, &member.schema, value, place.as_str(), found, alloc)

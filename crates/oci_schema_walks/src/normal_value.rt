@@ -28,7 +28,7 @@ use std::alloc::Global;
 
 /// The normal form of a value: what the document that it decodes to is written as. `SerDe(Schema)` if it decodes to none, or to
 /// one that is not serializable. No document is built, strings are moved and not copied, and a part that is known to be its own
-/// normal form is returned as it is. The error names the innermost record and its first rejected member, in schema order.
+/// normal form is returned unchanged. The error names the innermost record and its first rejected member, in schema order.
 #[cycle(normalizes)]
 pub fn normal_value<T: Records>(
     records: &T,
