@@ -9,7 +9,7 @@ use Rattle.oci_json_model.specs.Means.{Means}
 use Rattle.oci_json_model.specs.Value.{value}
 use Rattle.oci_json_model.specs.Writable.{Writable}
 use Rattle.oci_json_io.specs.Engines.{MeansBytes, ReadsAs, IsNotNormalized}
-use Rattle.oci_schema_walks.specs.Conformed.{IsNotConformed}
+use Rattle.oci_schema_walks.specs.Normalized.{HasNoNormalForm}
 
 pub bytes_mean : (s : Shape) (input : Option (List ℕ)) (d : Data) (p : Plain) → IfSome input (λ bytes. ReadsAs bytes d) → Means s d p → IfSome input (λ bytes. MeansBytes s bytes p)
 bytes_mean s None d p read means = read
@@ -22,7 +22,7 @@ normal_of s input d (Ok v) read made = (made.0, bytes_mean s input d made.0 read
 normal_of s input d (Err e) read made = made
 
 -- bytes that were read as a value which has no normal form
-pub not_normalized : (s : Shape) (input : Option (List ℕ)) (d : Data) → IfSome input (λ bytes. ReadsAs bytes d) → IsNotConformed s d → IfSome input (IsNotNormalized s)
+pub not_normalized : (s : Shape) (input : Option (List ℕ)) (d : Data) → IfSome input (λ bytes. ReadsAs bytes d) → HasNoNormalForm s d → IfSome input (IsNotNormalized s)
 not_normalized s None d read told = read
 not_normalized s (Some bytes) d read (inl refused) = inl (d, read, refused)
 not_normalized s (Some bytes) d read (inr means) = inr (means.0, (d, read, means.1), means.2)

@@ -3,7 +3,7 @@ ghost use Rattle.oci_json_model.specs.WellFormed.{WellFormed};
 ghost use Rattle.oci_schema_types.specs.Shapes.{schema_shape};
 ghost use Rattle.oci_schema.specs.Normalizes.{Normalizes, WritesPretty};
 
-use crate::normalize::normal_value_from_reader;
+use crate::compact::normal_value_from_reader;
 use oci_json_io::write_text;
 use oci_schema_types::{Records, Schema};
 use oci_text_base::Result;
