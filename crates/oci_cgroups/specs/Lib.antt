@@ -12,3 +12,4 @@ pub mod LinuxWeightDevice
 pub use Rattle.oci_cgroups_network.specs.LinuxInterfacePriority
 pub use Rattle.oci_cgroups_network.specs.LinuxNetwork
 pub use Rattle.oci_cgroups_network.specs.LinuxRdma
+pub use Rattle.oci_json_model.specs.Types

@@ -189,7 +189,7 @@ impl Features {
         self
     }
 
-    /// What the runtime tells of itself beyond the specification, by keys.
+    /// What the runtime reports about itself beyond the specification, by key.
     pub fn annotations(&self) -> &Option<BTreeMap<String, String>>
         ensures { result.now ≡ self.now.annotations }
     {
@@ -413,7 +413,7 @@ impl FeaturesBuilder {
         }
     }
 
-    /// Sets `annotations`: what the runtime tells of itself beyond the specification, by keys.
+    /// Sets `annotations`: what the runtime reports about itself beyond the specification, by key.
     pub fn annotations(self, annotations: BTreeMap<String, String>) -> Self
         ensures { result ≡ record self { annotations = Some annotations } }
     {

@@ -23,6 +23,12 @@ pub use Rattle.oci_json_model.specs.Built
 pub use Rattle.oci_json_model.specs.Plain
 pub use Rattle.oci_json_model.specs.Types
 pub use Rattle.oci_json_model.specs.Value
+pub use Rattle.oci_shapes.specs.ArtifactManifest as ArtifactManifestShape
+pub use Rattle.oci_shapes.specs.ImageConfiguration as ImageConfigurationShape
+pub use Rattle.oci_shapes.specs.ImageIndex as ImageIndexShape
+pub use Rattle.oci_shapes.specs.ImageManifest as ImageManifestShape
+pub use Rattle.oci_shapes.specs.OciLayout as OciLayoutShape
+pub use Rattle.oci_text.specs.Algorithms
 pub use Rattle.oci_text.specs.Arch
 pub use Rattle.oci_text.specs.MediaType
 pub use Rattle.oci_text.specs.Os

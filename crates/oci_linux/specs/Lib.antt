@@ -2,6 +2,16 @@
 pub mod DefaultResources
 pub mod Linux
 pub mod Rootless
+pub use Rattle.oci_cgroups.specs.LinuxDeviceCgroup
+pub use Rattle.oci_cgroups.specs.LinuxResources
+pub use Rattle.oci_json_model.specs.Built
+pub use Rattle.oci_json_model.specs.Plain
+pub use Rattle.oci_json_model.specs.Types
+pub use Rattle.oci_linux_names.specs.LinuxDeviceType
+pub use Rattle.oci_linux_names.specs.LinuxNamespaceType
+pub use Rattle.oci_linux_names.specs.LinuxPersonalityDomain
+pub use Rattle.oci_linux_names.specs.LinuxSeccompAction
+pub use Rattle.oci_linux_names.specs.LinuxSeccompOperator
 pub use Rattle.oci_linux_namespaces.specs.LinuxDevice
 pub use Rattle.oci_linux_namespaces.specs.LinuxIdMapping
 pub use Rattle.oci_linux_namespaces.specs.LinuxNamespace

@@ -63,7 +63,7 @@ impl LinuxPersonality {
         self
     }
 
-    /// Further flags, of which the specification has none yet.
+    /// Further flags; the specification defines none yet.
     pub fn flags(&self) -> &Option<Vec<String>>
         ensures { result.now ≡ self.now.flags }
     {
@@ -148,7 +148,7 @@ impl LinuxPersonalityBuilder {
         }
     }
 
-    /// Sets `flags`: further flags, of which the specification has none yet.
+    /// Sets `flags`: further flags; the specification defines none yet.
     pub fn flags(self, flags: Vec<String>) -> Self
         ensures { result ≡ record self { flags = Some flags } }
     {

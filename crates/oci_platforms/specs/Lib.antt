@@ -9,6 +9,7 @@ pub mod VMImage
 pub mod VMKernel
 pub mod ZOS
 pub mod ZOSNamespace
+pub use Rattle.oci_json_model.specs.Types
 pub use Rattle.oci_platforms_windows.specs.Windows
 pub use Rattle.oci_platforms_windows.specs.WindowsCPUResources
 pub use Rattle.oci_platforms_windows.specs.WindowsDevice
@@ -17,4 +18,6 @@ pub use Rattle.oci_platforms_windows.specs.WindowsMemoryResources
 pub use Rattle.oci_platforms_windows.specs.WindowsNetwork
 pub use Rattle.oci_platforms_windows.specs.WindowsResources
 pub use Rattle.oci_platforms_windows.specs.WindowsStorageResources
+pub use Rattle.oci_runtime_names.specs.ZOSNamespaceType
 pub use Rattle.oci_text_base.specs.Names
+pub use Rattle.oci_text_base.specs.Refused

@@ -9,6 +9,8 @@ pub mod ProcessDefaults
 pub mod RefusedAffinities
 pub mod Scheduler
 pub mod User
+pub use Rattle.oci_json_model.specs.Plain
+pub use Rattle.oci_json_model.specs.Types
 pub use Rattle.oci_process_names.specs.Affinities
 pub use Rattle.oci_process_names.specs.Capability
 pub use Rattle.oci_process_names.specs.CapabilitySets
@@ -16,3 +18,5 @@ pub use Rattle.oci_process_names.specs.IOPriorityClass
 pub use Rattle.oci_process_names.specs.LinuxSchedulerFlag
 pub use Rattle.oci_process_names.specs.LinuxSchedulerPolicy
 pub use Rattle.oci_process_names.specs.PosixRlimitType
+pub use Rattle.oci_text_base.specs.CpuList
+pub use Rattle.oci_text_base.specs.Refused

@@ -1,10 +1,10 @@
--- The scan of a list of processors ends well exactly on such a list.
+-- The scan of a CPU list ends well exactly on such a list.
 use Rattle.std.proofs.Common.{◌≡◌, ℕ, ◌↔◌, true, List, [], ◌∷◌, ◌++◌, refl, sym, ap, ◌∙◌, subst, inl, inr, append_assoc}
 use Rattle.std.specs.Prelude.{◌==◌}
 use Rattle.std.specs.Char.{is_ascii_digit}
 use Rattle.std.specs.List.{fold}
 use Rattle.std.proofs.lemmas.Bool.{eqb-true}
-use Rattle.oci_process_names.specs.CpuScan.{next_place, ends_list}
+use Rattle.oci_process_names.specs.CpuScan.{next_place, ends_list, is_cpu_text}
 use Rattle.oci_process_names.specs.declared.cpu_list.Place.{Place}
 use Rattle.oci_process_names.specs.declared.cpu_list.Place.TheVariants.{BeforeLow, InLow, BeforeHigh, InHigh, NoList}
 use Rattle.oci_text_base.specs.Classes.{dash, IsSomeOf, IsMark, one, more}
@@ -110,3 +110,7 @@ lists t = (
   whole (fold next_place BeforeLow t) t (run_describes next_place Says keeps [] t BeforeLow (λ item k. one item k)),
   (λ j. run_joined next_place (Is BeforeLow) Ends (IsMark 44) IsCpuItem over_item (run_mark next_place 44 Ends (Is BeforeLow) ends_comma) t j BeforeLow refl),
 )
+
+pub cpu_list_decides : (t : List ℕ) → (is_cpu_text t ≡ true) ↔ IsCpuList t
+unfolding is_cpu_text
+cpu_list_decides t = lists t

@@ -1,6 +1,7 @@
--- One pass over a list of processors (Linux, cpuset(7), "List format").
-use Rattle.std.specs.Prelude.{ℕ, ◌==◌, Bool, true, false, if◌then◌else◌}
+-- One pass over a CPU list (Linux, cpuset(7), "List format").
+use Rattle.std.specs.Prelude.{ℕ, ◌==◌, List, Bool, true, false, if◌then◌else◌}
 use Rattle.std.specs.Char.{is_ascii_digit}
+use Rattle.std.specs.List.{fold}
 use Rattle.oci_text_base.specs.Classes.{dash}
 use Rattle.oci_process_names.specs.declared.cpu_list.Place.{Place}
 use Rattle.oci_process_names.specs.declared.cpu_list.Place.TheVariants.{BeforeLow, InLow, BeforeHigh, InHigh, NoList}
@@ -20,3 +21,7 @@ ends_list InLow = true
 ends_list BeforeHigh = false
 ends_list InHigh = true
 ends_list NoList = false
+
+-- whether a text is a CPU list, as a computation
+unfoldable pub is_cpu_text : List ℕ → Bool
+is_cpu_text t = ends_list (fold next_place BeforeLow t)

@@ -10,7 +10,7 @@ pub const VERSION_MAJOR: u32 = 1;
 /// The minor version: compatible additions increment it.
 pub const VERSION_MINOR: u32 = 1;
 
-/// Mended faults count up this number.
+/// Bug fixes count up this number.
 pub const VERSION_PATCH: u32 = 0;
 
 /// What marks a version in the making: nothing.

@@ -1,4 +1,4 @@
--- What is accepted means something writable.
+-- What is accepted decodes to something serializable.
 use Rattle.std.proofs.Common.{◌≡◌, refl, sym, ap, ◌∙◌, subst, Bool, true, false, not, ◌||◌, Option, Some, None, is_some, true≢false, inl, inr, Result, Ok, Err}
 use Rattle.std.specs.Prelude.{⊤, IfOk, IfErr}
 use Rattle.serde_json.specs.Data.{Data, null, boolean, number, string, array, object, Items, no_items, item, Members, no_members, member}
@@ -21,9 +21,9 @@ use Rattle.oci_json_model.specs.Value.{value, free_members}
 use Rattle.oci_json_model.specs.WellFormed.{WellFormed, AreWellFormed, MemberIsWellFormed}
 use Rattle.oci_json_model.specs.Writable.{Writable, AreWritable}
 use Rattle.oci_schema_walks.specs.Allows.{allows, each_allowed, each_member_allowed, items_allowed, members_allowed, member_allowed, either_allowed}
-use Rattle.oci_schema_walks.specs.Conformed.{IsSound, IsNotConformed, is_kept, accepts, rows_accept, conformed}
+use Rattle.oci_schema_walks.specs.Normalized.{IsSound, HasNoNormalForm, is_kept, accepts, rows_accept, normalized}
 use Rattle.oci_schema_walks.proofs.Decides.{first_of, later_of, meant, allowed}
-use Rattle.oci_schema_walks.proofs.Conforms.{told, members_kept}
+use Rattle.oci_schema_walks.proofs.NormalForms.{told, members_kept}
 
 -- ---- which shapes members have
 
@@ -49,11 +49,11 @@ of_member unless_empty s w = sound s (only_list s (WellFormed s) w)
 
 -- ---- parts
 
--- where it is accepted, something is meant and writable
+-- what is accepted decodes to something serializable
 abbrev Yes : (Data → Bool) → (Data → Plain → Type 0) → (Plain → Type 0) → Type 0
 Yes f M W = (d : Data) → f d ≡ true → (p : Plain) × M d p × W p
 
--- a default is writable
+-- a default value is serializable
 abbrev pub IfDefault : (Plain → Type 0) → Presence → Type 0
 IfDefault W (defaulted p) = W p
 IfDefault W _ = ⊤
@@ -115,7 +115,7 @@ module _ (f : Data → Bool) (M : Data → Plain → Type 0) (W : Plain → Type
 abbrev Written : Shape → Data → Type 0
 Written s d = (p : Plain) × Means s d p × Writable s p
 
--- of a shape that all plain trees are writable of
+-- of a shape that any plain tree is serializable by
 simple : (s : Shape) (d : Data) → ((p : Plain) → Writable s p) → allows s d ≡ true → Written s d
 simple s d always e = let m = meant s d e in (m.0, m.1, always m.0)
 
@@ -176,10 +176,10 @@ mutual
       let xs = accepted_rows rs w.1 d (later_of (either_allowed presence (accepts s) (get name d) (get_second second d)) _ e) in
       (slot x.0 xs.0, (x.1, xs.1), (x.2, xs.2))
 
--- ---- what the public call says
+-- ---- what the public function's contract says
 
 -- of a normal form
-answers : (s : Shape) (d c : Data) → WellFormed s → (accepts s d ≡ true) × (c ≡ conformed s d) → (p : Plain) × Means s d p × Writable s p × (c ≡ value s p)
+answers : (s : Shape) (d c : Data) → WellFormed s → (accepts s d ≡ true) × (c ≡ normalized s d) → (p : Plain) × Means s d p × Writable s p × (c ≡ value s p)
 answers s d c w h =
     let m = accepted s (sound s w) d h.0 in
     (m.0, m.1, m.2, h.1 ∙ (told s d m.0 m.1 m.2).1)
@@ -188,19 +188,19 @@ nothing_meant : (s : Shape) (d : Data) → allows s d ≡ false → IsRefused s 
 unfolding IsRefused
 nothing_meant s d e p m = absurd (true≢false (sym (allowed s d p m) ∙ e))
 
-pub answers_all : {E : Type 0} (r : Result Value E) (s : Shape) (d : Data) → WellFormed s → IfOk r (λ v. (accepts s d ≡ true) × (view v ≡ conformed s d))
+pub answers_all : {E : Type 0} (r : Result Value E) (s : Shape) (d : Data) → WellFormed s → IfOk r (λ v. (accepts s d ≡ true) × (view v ≡ normalized s d))
     → IfOk r (λ v. (p : Plain) × Means s d p × Writable s p × (view v ≡ value s p))
 answers_all (Ok v) s d w h = answers s d (view v) w h
 answers_all (Err e) s d w h = tt
 
 -- and where there is none
-refuses : (s : Shape) (d : Data) → accepts s d ≡ false → IsNotConformed s d
+refuses : (s : Shape) (d : Data) → accepts s d ≡ false → HasNoNormalForm s d
 refuses s d e = here (allows s d) refl
   where
-    here : (b : Bool) → allows s d ≡ b → IsNotConformed s d
+    here : (b : Bool) → allows s d ≡ b → HasNoNormalForm s d
     here true is = let m = meant s d is in inr (m.0, m.1, λ w. true≢false (sym (told s d m.0 m.1 w).0 ∙ e))
     here false is = inl (nothing_meant s d is)
 
-pub refuses_all : {T : Type 0} (r : Result T OciSpecError) (s : Shape) (d : Data) → IfErr r (λ e. IsSchema e → accepts s d ≡ false) → IfErr r (λ e. IsSchema e → IsNotConformed s d)
+pub refuses_all : {T : Type 0} (r : Result T OciSpecError) (s : Shape) (d : Data) → IfErr r (λ e. IsSchema e → accepts s d ≡ false) → IfErr r (λ e. IsSchema e → HasNoNormalForm s d)
 refuses_all (Ok v) s d h = tt
 refuses_all (Err e) s d h = λ is. refuses s d (h is)

@@ -11,10 +11,10 @@ use Rattle.oci_json_model.specs.Plain.{Plain, Plains, no_plains, Entries, no_ent
 use Rattle.oci_json_model.specs.Shape as shape
 use Rattle.oci_json_model.specs.Shape.{Presence, required, defaulted, optional, nullable, unless_empty, Shape, text, truth, whole, named, open_name, digest_text, cpu_text, cap_set, list, key_set, detail, free_map, rows, Rows, no_rows, row}
 use Rattle.oci_json_model.specs.Means.{Means, MeansRows, MeansEither, MeansMember, EachMeans, EachEntryMeans, IsThere, IsThereOr, is_object, get_second, unless_null, as_whole, opened, member_names, free_values, AreObjects, IsCapability, AreCapabilities, SomeIs, IsSetOf}
+use Rattle.oci_process_names.specs.CpuScan.{is_cpu_text}
+use Rattle.oci_process_names.proofs.CpuLists.{cpu_list_decides}
 use Rattle.oci_schema_walks.specs.Allows.{allows, rows_allow, each_allowed, items_allowed, each_member_allowed, members_allowed, text_allowed, names_capability, is_in_range, are_free, member_allowed, either_allowed, is_digest_text, is_spelled, is_capability, item_is, some_is, set_in}
-use Rattle.oci_schema_walks.specs.Processors.{is_list_of_processors}
-use Rattle.oci_schema_walks.proofs.Processors.{processors_tell}
-use Rattle.oci_schema_walks.proofs.Texts.{digest_tells, capability_tells, spelled_tells}
+use Rattle.oci_schema_walks.proofs.Texts.{digest_decides, capability_decides, spelled_decides}
 
 pub both : (a b : Bool) → a ≡ true → b ≡ true → (a && b) ≡ true
 both a b e h = rw (e, h)
@@ -61,10 +61,10 @@ given_whole low high (Some z) e = (z, refl, in_order low z (first_of (int_le low
 
 -- ---- sets of capabilities
 
-item_tells : (d : Data) (name : List ℕ) → (item_is d name ≡ true) ↔ IsCapability d name
-item_tells d name = (
-  (λ e. let t = given_text (λ u. is_spelled u name) (as_str d) e in (t.0, t.1, (spelled_tells t.0 name).0 t.2)),
-  (λ m. ap (text_allowed (λ u. is_spelled u name)) m.1 ∙ (spelled_tells m.0 name).1 m.2),
+item_decides : (d : Data) (name : List ℕ) → (item_is d name ≡ true) ↔ IsCapability d name
+item_decides d name = (
+  (λ e. let t = given_text (λ u. is_spelled u name) (as_str d) e in (t.0, t.1, (spelled_decides t.0 name).0 t.2)),
+  (λ m. ap (text_allowed (λ u. is_spelled u name)) m.1 ∙ (spelled_decides m.0 name).1 m.2),
 )
 
 either_of : (a b : Bool) (P Q : Type 0) → (a ≡ true) ↔ P → (b ≡ true) ↔ Q → ((a || b) ≡ true) ↔ (P ⊎ Q)
@@ -78,25 +78,25 @@ either_of false b P Q h k = ((λ e. inr (k.0 e)), from)
 never : {P : Type 0} → (P → ⊥) → (false ≡ true) ↔ P
 never f = ((λ e. absurd (true≢false (sym e))), (λ m. absurd (f m)))
 
-pub some_tells : (ds : Items) (name : List ℕ) → (some_is ds name ≡ true) ↔ SomeIs ds name
-some_tells no_items name = never (λ m. m)
-some_tells (item d ds) name = either_of (item_is d name) (some_is ds name) (IsCapability d name) (SomeIs ds name) (item_tells d name) (some_tells ds name)
+pub some_decides : (ds : Items) (name : List ℕ) → (some_is ds name ≡ true) ↔ SomeIs ds name
+some_decides no_items name = never (λ m. m)
+some_decides (item d ds) name = either_of (item_is d name) (some_is ds name) (IsCapability d name) (SomeIs ds name) (item_decides d name) (some_decides ds name)
 
 set_of_items : (table : List (List ℕ)) (ds : Items) → IsSetOf table ds (set_in table ds)
 set_of_items [] ds = tt
-set_of_items (name ∷ table) ds = (some_tells ds name, set_of_items table ds)
+set_of_items (name ∷ table) ds = (some_decides ds name, set_of_items table ds)
 
 are_capabilities : (table : List (List ℕ)) (ds : Items) → each_allowed (names_capability table) ds ≡ true → AreCapabilities table ds
 are_capabilities table no_items e = tt
 are_capabilities table (item d ds) e =
     let t = given_text (is_capability table) (as_str d) (first_of (names_capability table d) _ e) in
-    let named = (capability_tells table t.0).0 t.2 in
+    let named = (capability_decides table t.0).0 t.2 in
     ((named.0, named.1, (t.0, t.1, named.2)), are_capabilities table ds (later_of (names_capability table d) _ e))
 
 capabilities_back : (table : List (List ℕ)) (ds : Items) → AreCapabilities table ds → each_allowed (names_capability table) ds ≡ true
 capabilities_back table no_items m = refl
 capabilities_back table (item d ds) m =
-    both (names_capability table d) _ (ap (text_allowed (is_capability table)) m.0.2.1 ∙ (capability_tells table m.0.2.0).1 (m.0.0, m.0.1, m.0.2.2)) (capabilities_back table ds m.1)
+    both (names_capability table d) _ (ap (text_allowed (is_capability table)) m.0.2.1 ∙ (capability_decides table m.0.2.0).1 (m.0.0, m.0.1, m.0.2.2)) (capabilities_back table ds m.1)
 
 capabilities_yes : (table : List (List ℕ)) (o : Option Items) (d : Data) → as_array d ≡ o → items_allowed (names_capability table) o ≡ true → Meant (cap_set table) d
 capabilities_yes table None d is e = absurd (true≢false (sym e))
@@ -181,7 +181,7 @@ member_yes nullable f M sure (Some d) e = null_yes f M sure d e
 member_yes unless_empty f M sure None e = (empty, refl)
 member_yes unless_empty f M sure (Some d) e = null_yes f M sure d e
 
-either_yes : (presence : Presence) (f : Data → Bool) (M : Data → Plain → Type 0) → Yes f M → (found second : Option Data) → either_allowed presence f found second ≡ true → (x : Slot) × MeansEither presence M found second x
+either_yes : (presence : Presence) (f : Data → Bool) (M : Data → Plain → Type 0) → Yes f M → (found alias : Option Data) → either_allowed presence f found alias ≡ true → (x : Slot) × MeansEither presence M found alias x
 either_yes presence f M sure found None e = member_yes presence f M sure found e
 either_yes presence f M sure None (Some d) e = member_yes presence f M sure (Some d) e
 either_yes presence f M sure (Some c) (Some d) e = absurd (true≢false (sym e))
@@ -193,8 +193,8 @@ mutual
   meant (whole low high) d e = let z = given_whole low high (as_whole d) e in (plain.whole z.0, (z.0, z.1, refl, z.2, z.3))
   meant (named table) d e = let t = given_text (is_listed table) (as_str d) e in (plain.variant t.0, (t.0, t.1, refl, t.2))
   meant (open_name table) d e = let t = given (as_str d) e in (opened table t.0, (t.0, t.1, refl))
-  meant digest_text d e = let t = given_text is_digest_text (as_str d) e in (plain.text t.0, (t.0, t.1, refl, (digest_tells t.0).0 t.2))
-  meant cpu_text d e = let t = given_text is_list_of_processors (as_str d) e in (plain.text t.0, (t.0, t.1, refl, (processors_tell t.0).0 t.2))
+  meant digest_text d e = let t = given_text is_digest_text (as_str d) e in (plain.text t.0, (t.0, t.1, refl, (digest_decides t.0).0 t.2))
+  meant cpu_text d e = let t = given_text is_cpu_text (as_str d) e in (plain.text t.0, (t.0, t.1, refl, (cpu_list_decides t.0).0 t.2))
   meant (cap_set table) d e = capabilities_yes table (as_array d) d refl e
   meant (list s) d e = items_yes s (λ x. meant s x) (as_array d) d refl e
   meant (shape.map s) d e = members_yes s (λ x. meant s x) (as_object d) d refl e
@@ -205,9 +205,9 @@ mutual
 
   meant_rows : (rs : Rows) (d : Data) → rows_allow rs d ≡ true → (xs : Slots) × MeansRows rs d xs
   meant_rows no_rows d e = (no_slots, tt)
-  meant_rows (row name second presence s rs) d e =
-      let x = either_yes presence (allows s) (Means s) (λ y. meant s y) (get name d) (get_second second d) (first_of _ _ e) in
-      let xs = meant_rows rs d (later_of (either_allowed presence (allows s) (get name d) (get_second second d)) _ e) in
+  meant_rows (row name alias presence s rs) d e =
+      let x = either_yes presence (allows s) (Means s) (λ y. meant s y) (get name d) (get_second alias d) (first_of _ _ e) in
+      let xs = meant_rows rs d (later_of (either_allowed presence (allows s) (get name d) (get_second alias d)) _ e) in
       (slot x.0 xs.0, (x.1, xs.1))
 
 -- ---- where something is meant, it is allowed
@@ -251,7 +251,7 @@ member_back nullable f M back (Some d) x m = null_back f M back d x m
 member_back unless_empty f M back None x m = refl
 member_back unless_empty f M back (Some d) x m = null_back f M back d x m
 
-either_back : (presence : Presence) (f : Data → Bool) (M : Data → Plain → Type 0) → Back f M → (found second : Option Data) (x : Slot) → MeansEither presence M found second x → either_allowed presence f found second ≡ true
+either_back : (presence : Presence) (f : Data → Bool) (M : Data → Plain → Type 0) → Back f M → (found alias : Option Data) (x : Slot) → MeansEither presence M found alias x → either_allowed presence f found alias ≡ true
 either_back presence f M back found None x m = member_back presence f M back found x m
 either_back presence f M back None (Some d) x m = member_back presence f M back (Some d) x m
 either_back presence f M back (Some c) (Some d) x m = absurd m
@@ -263,8 +263,8 @@ mutual
   allowed (whole low high) d p m = ap (is_in_range low high) m.1 ∙ both _ _ (held _ m.3.le) (held _ m.4.le)
   allowed (named table) d p m = ap (text_allowed (is_listed table)) m.1 ∙ m.3
   allowed (open_name table) d p m = ap is_some m.1
-  allowed digest_text d p m = ap (text_allowed is_digest_text) m.1 ∙ (digest_tells m.0).1 m.3
-  allowed cpu_text d p m = ap (text_allowed is_list_of_processors) m.1 ∙ (processors_tell m.0).1 m.3
+  allowed digest_text d p m = ap (text_allowed is_digest_text) m.1 ∙ (digest_decides m.0).1 m.3
+  allowed cpu_text d p m = ap (text_allowed is_cpu_text) m.1 ∙ (cpu_list_decides m.0).1 m.3
   allowed (cap_set table) d p m = ap (items_allowed (names_capability table)) m.2 ∙ capabilities_back table m.0 m.4
   allowed (list s) d p m = ap (items_allowed (allows s)) m.2 ∙ each_back (allows s) (Means s) (λ x q. allowed s x q) m.0 m.1 m.4
   allowed (shape.map s) d p m = ap (members_allowed (allows s)) m.2 ∙ each_member_back (allows s) (Means s) (λ x q. allowed s x q) m.0 m.1 m.4
@@ -275,8 +275,8 @@ mutual
 
   allowed_rows : (rs : Rows) (d : Data) (xs : Slots) → MeansRows rs d xs → rows_allow rs d ≡ true
   allowed_rows no_rows d xs m = refl
-  allowed_rows (row name second presence s rs) d no_slots m = absurd m
-  allowed_rows (row name second presence s rs) d (slot x xs) m = both _ _ (either_back presence (allows s) (Means s) (λ y q. allowed s y q) (get name d) (get_second second d) x m.0) (allowed_rows rs d xs m.1)
+  allowed_rows (row name alias presence s rs) d no_slots m = absurd m
+  allowed_rows (row name alias presence s rs) d (slot x xs) m = both _ _ (either_back presence (allows s) (Means s) (λ y q. allowed s y q) (get name d) (get_second alias d) x m.0) (allowed_rows rs d xs m.1)
 
 pub decides : (s : Shape) (d : Data) (b : Bool) → b ≡ allows s d → (b ≡ true) ↔ Meant s d
 decides s d b e = ((λ h. meant s d (sym e ∙ h)), (λ m. e ∙ allowed s d m.0 m.1))

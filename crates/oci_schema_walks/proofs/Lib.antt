@@ -1,21 +1,19 @@
 pub mod Accepted
-pub mod Conforms
 pub mod Decides
+pub mod DefaultValues
 pub mod Empty
+pub mod Filled
 pub mod Given
+pub mod GivenSmaller
 pub mod Listed
 pub mod Listing
-pub mod Meant
 pub mod Moved
+pub mod NormalForms
 pub mod NormalMembers
 pub mod NormalParts
 pub mod Parts
 pub mod Pointers
-pub mod Processors
 pub mod Replacing
-pub mod Stands
-mod Steps
-pub mod Tables
+pub mod Sizes
 pub mod Texts
-pub mod Wants
 pub mod Ways

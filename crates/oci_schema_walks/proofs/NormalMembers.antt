@@ -1,4 +1,5 @@
--- An object whose members are each listed and written as they stand, and which has all that is always written, is its own normal form.
+-- An object is its own normal form if each of its entries is a member of the record with a value that is its own normal form, and each member
+-- that is always written is there.
 use Rattle.std.proofs.Common.{◌≡◌, refl, sym, ap, ◌∙◌, subst, ℕ, List, ◌∷◌, Bool, true, false, true≢false, Option, Some, None, is_some, bytes_eq, Ordering, Less, Equal, Greater, nat_cmp, is_eq, inl, inr}
 use Rattle.std.specs.Prelude.{◌⊎◌, not, unwrap_or}
 use Rattle.std.specs.Cmp.Lexicographic.{slice_cmp}
@@ -16,12 +17,12 @@ use Rattle.oci_json_model.specs.Value.{value, with_member}
 use Rattle.oci_json.specs.Readable.{IsBefore, IsInOrder}
 use Rattle.oci_json.proofs.Trees.{before_rest, put_in_order}
 use Rattle.oci_schema_walks.specs.Allows.{member_allowed, either_allowed}
-use Rattle.oci_schema_walks.specs.Conformed.{accepts, rows_accept, chosen, conformed, conformed_member, conformed_rows}
-use Rattle.oci_schema_walks.specs.Normal.{AreNormalMembers, is_always_written, IsNormalMember, IsOfRow, AreOfRows, HasAll}
+use Rattle.oci_schema_walks.specs.Normalized.{accepts, rows_accept, chosen, normalized, normalized_member, normalized_rows}
+use Rattle.oci_schema_walks.specs.Normal.{AreNormalMembers, is_always_written, IsNormalMember, IsNormalEntry, AreNormalEntries, HasAll}
 use Rattle.oci_schema_walks.proofs.Decides.{both, first_of, later_of, refuted}
 use Rattle.oci_schema_walks.proofs.Listing.{or_right, listed_first, later_listed, rest_once}
 
--- ---- members in order are told by what stands under each name
+-- ---- objects with their names in order are equal where they are equal at each name
 
 same_name : (q k : List ℕ) → slice_cmp nat_cmp q k ≡ Equal → q ≡ k
 same_name q k is = (bytes_eq-Decides q k).0 (sym (is_eq-slice_cmp q k) ∙ ap is_eq is)
@@ -63,14 +64,14 @@ same_members (member k d ms) (member l e ns) a b h = here (slice_cmp nat_cmp k l
         let one : d ≡ e = ap (λ o. unwrap_or o d) held in
         cc
 
--- ---- members that are picked row by row
+-- ---- members that are picked in the order of the schema
 
 module _ (ms : Members) where
   abbrev picked : Rows → Members → Members
   picked no_rows made = made
   picked (row name second presence s rs) made = picked rs (with_member name (get_member name ms) made)
 
-  -- what is made has a name as the members do
+  -- the built object has a name as the members do
   abbrev Agrees : Members → List ℕ → Type 0
   Agrees made q = get_member q made ≡ get_member q ms
 
@@ -108,7 +109,7 @@ module _ (ms : Members) where
   still_agrees no_rows made q h = h
   still_agrees (row name second presence s rs) made q h = still_agrees rs _ q (other_agrees name q (get_member name ms) made refl h)
 
-  picked_agrees : (rs : Rows) (q : List ℕ) (d : Data) → IsOfRow rs q d → (made : Members) → IsPart made → Agrees (picked rs made) q
+  picked_agrees : (rs : Rows) (q : List ℕ) (d : Data) → IsNormalEntry rs q d → (made : Members) → IsPart made → Agrees (picked rs made) q
   picked_agrees no_rows q d h made part = absurd h
   picked_agrees (row name second presence s rs) q d (inl h) made part =
       still_agrees rs _ q (subst (Agrees (with_member name (get_member name ms) made)) (sym h.0) (itself_agrees name (get_member name ms) made refl (part name)))
@@ -122,13 +123,13 @@ module _ (ms : Members) where
   picked_in_order no_rows made h = h
   picked_in_order (row name second presence s rs) made h = picked_in_order rs _ (one_in_order name (get_member name ms) made h)
 
-  -- ---- rows by which nothing changes
+  -- ---- members by which nothing changes
 
-  -- what stands under a row's name is one of its values
+  -- what is found under a member's name is one of its values
   abbrev AreTold : Rows → Type 0
-  AreTold rs = (q : List ℕ) (d : Data) → is_listed (names rs) q ≡ true → get_member q ms ≡ Some d → IsOfRow rs q d
+  AreTold rs = (q : List ℕ) (d : Data) → is_listed (names rs) q ≡ true → get_member q ms ≡ Some d → IsNormalEntry rs q d
 
-  row_listed : (rs : Rows) (q : List ℕ) (d : Data) → IsOfRow rs q d → is_listed (names rs) q ≡ true
+  row_listed : (rs : Rows) (q : List ℕ) (d : Data) → IsNormalEntry rs q d → is_listed (names rs) q ≡ true
   row_listed no_rows q d h = absurd h
   row_listed (row name second presence s rs) q d (inl h) =
       subst (λ x. is_listed (name ∷ with_second second (names rs)) x ≡ true) (sym h.0) (listed_first name (with_second second (names rs)))
@@ -142,14 +143,14 @@ module _ (ms : Members) where
     later_told : AreTold (row name second presence s rs) → AreTold rs
     later_told told q d is found = here (told q d (or_right (bytes_eq q name) _ (later_listed second (names rs) q is)) found)
       where
-        here : IsOfRow (row name second presence s rs) q d → IsOfRow rs q d
+        here : IsNormalEntry (row name second presence s rs) q d → IsNormalEntry rs q d
         here (inl h) = absurd (true≢false (sym (later_listed second (names rs) q is) ∙ ap (is_listed (with_second second (names rs))) h.0 ∙ unlisted_later))
         here (inr h) = h
 
     first_told : AreTold (row name second presence s rs) → (d : Data) → get_member name ms ≡ Some d → IsNormalMember presence s d
     first_told told d found = here (told name d (listed_first name (with_second second (names rs))) found)
       where
-        here : IsOfRow (row name second presence s rs) name d → IsNormalMember presence s d
+        here : IsNormalEntry (row name second presence s rs) name d → IsNormalMember presence s d
         here (inl h) = h.1
         here (inr h) = absurd (true≢false (sym (later_listed second (names rs) name (row_listed rs name d h)) ∙ unlisted_later))
 
@@ -161,7 +162,7 @@ module _ (ms : Members) where
       apart : is_listed (names rs) t ≡ false
       apart = refuted _ (first_of (not (is_listed (names rs) t)) _ (later_of (not (is_listed (t ∷ names rs) name)) _ once))
 
-      of_row : (d : Data) → IsOfRow (row name (Some t) presence s rs) t d → ⊥
+      of_row : (d : Data) → IsNormalEntry (row name (Some t) presence s rs) t d → ⊥
       of_row d (inl h) =
           true≢false (sym (listed_first t (names rs)) ∙ ap (is_listed (t ∷ names rs)) h.0 ∙ refuted _ (first_of (not (is_listed (t ∷ names rs) name)) _ once))
       of_row d (inr h) = true≢false (sym (row_listed rs t d h) ∙ apart)
@@ -171,7 +172,7 @@ module _ (ms : Members) where
       here (Some d) e = absurd (of_row d (told t d (or_right (bytes_eq t name) _ (listed_first t (names rs))) e))
 
   member_told : (presence : Presence) (s : Shape) (found : Option Data) → (is_always_written presence ≡ true → is_some found ≡ true) → ((d : Data) → found ≡ Some d → IsNormalMember presence s d)
-      → (member_allowed presence (accepts s) found ≡ true) × (conformed_member presence (value s) (conformed s) found ≡ found)
+      → (member_allowed presence (accepts s) found ≡ true) × (normalized_member presence (value s) (normalized s) found ≡ found)
   member_told presence s (Some d) all told = told d refl
   member_told required s None all told = absurd (true≢false (sym (all refl)))
   member_told (defaulted p) s None all told = absurd (true≢false (sym (all refl)))
@@ -180,40 +181,40 @@ module _ (ms : Members) where
   member_told unless_empty s None all told = (refl, refl)
 
   either_told : (presence : Presence) (s : Shape) (found second : Option Data) → second ≡ None
-      → (member_allowed presence (accepts s) found ≡ true) × (conformed_member presence (value s) (conformed s) found ≡ found)
-      → (either_allowed presence (accepts s) found second ≡ true) × (conformed_member presence (value s) (conformed s) (chosen found second) ≡ found)
+      → (member_allowed presence (accepts s) found ≡ true) × (normalized_member presence (value s) (normalized s) found ≡ found)
+      → (either_allowed presence (accepts s) found second ≡ true) × (normalized_member presence (value s) (normalized s) (chosen found second) ≡ found)
   either_told presence s found None e h = h
   either_told presence s found (Some d) e h = cc
 
   rows_told : (rs : Rows) → no_text_twice (names rs) ≡ true → AreTold rs → HasAll rs ms
-      → (rows_accept rs (object ms) ≡ true) × ((made : Members) → conformed_rows rs (object ms) made ≡ picked rs made)
+      → (rows_accept rs (object ms) ≡ true) × ((made : Members) → normalized_rows rs (object ms) made ≡ picked rs made)
   rows_told no_rows once told all = (refl, λ made. refl)
   rows_told (row name second presence s rs) once told all =
       let one = either_told presence s (get_member name ms) (get_second second (object ms)) (no_second name second presence s rs once told)
       (member_told presence s (get_member name ms) all.0 (first_told name second presence s rs once told)) in
       let more = rows_told rs (rest_once name second (names rs) once) (later_told name second presence s rs once told) all.1 in
-      (both _ _ one.0 more.0, λ made. ap (λ o. conformed_rows rs (object ms) (with_member name o made)) one.1 ∙ more.1 (with_member name (get_member name ms) made))
+      (both _ _ one.0 more.0, λ made. ap (λ o. normalized_rows rs (object ms) (with_member name o made)) one.1 ∙ more.1 (with_member name (get_member name ms) made))
 
--- what stands under a name is one of its row's values
-found_of_row : (rs : Rows) (ms : Members) (q : List ℕ) (d : Data) → AreOfRows rs ms → get_member q ms ≡ Some d → IsOfRow rs q d
+-- what is found under a name is a value of its member
+found_of_row : (rs : Rows) (ms : Members) (q : List ℕ) (d : Data) → AreNormalEntries rs ms → get_member q ms ≡ Some d → IsNormalEntry rs q d
 found_of_row rs no_members q d h found = cc
 found_of_row rs (member k e ms) q d h found = here (slice_cmp nat_cmp q k) refl found (found_of_row rs ms q d h.1)
   where
-    here : (o : Ordering) → slice_cmp nat_cmp q k ≡ o → match_ordering o (get_member q ms) (Some e) (get_member q ms) ≡ Some d → (get_member q ms ≡ Some d → IsOfRow rs q d) → IsOfRow rs q d
+    here : (o : Ordering) → slice_cmp nat_cmp q k ≡ o → match_ordering o (get_member q ms) (Some e) (get_member q ms) ≡ Some d → (get_member q ms ≡ Some d → IsNormalEntry rs q d) → IsNormalEntry rs q d
     here Less is there later = later there
     here Equal is there later =
         let same : e ≡ d = ap (λ o. unwrap_or o e) there in
-        subst (IsOfRow rs q) same (subst (λ x. IsOfRow rs x e) (sym (same_name q k is)) h.0)
+        subst (IsNormalEntry rs q) same (subst (λ x. IsNormalEntry rs x e) (sym (same_name q k is)) h.0)
     here Greater is there later = later there
 
-pub members_normal : (rs : Rows) (ms : Members) → no_text_twice (names rs) ≡ true → IsInOrder ms → AreOfRows rs ms → HasAll rs ms → AreNormalMembers rs ms
+pub members_normal : (rs : Rows) (ms : Members) → no_text_twice (names rs) ≡ true → IsInOrder ms → AreNormalEntries rs ms → HasAll rs ms → AreNormalMembers rs ms
 members_normal rs ms once order listed all =
     let told = rows_told ms rs once (λ q d is found. found_of_row rs ms q d listed found) all in
     let part = picked_part ms rs no_members (λ q. inl refl) in
     let agree : (q : List ℕ) → get_member q (picked ms rs no_members) ≡ get_member q ms = (λ q. agrees_at rs ms q listed (get_member q ms) refl (part q)) in
     (told.0, told.1 no_members ∙ same_members (picked ms rs no_members) ms (picked_in_order ms rs no_members tt) order agree)
   where
-    agrees_at : (rs : Rows) (ms : Members) (q : List ℕ) → AreOfRows rs ms → (o : Option Data) → get_member q ms ≡ o
+    agrees_at : (rs : Rows) (ms : Members) (q : List ℕ) → AreNormalEntries rs ms → (o : Option Data) → get_member q ms ≡ o
         → (get_member q (picked ms rs no_members) ≡ None) ⊎ Agrees ms (picked ms rs no_members) q → Agrees ms (picked ms rs no_members) q
     agrees_at rs ms q listed o is (inr h) = h
     agrees_at rs ms q listed None is (inl h) = h ∙ sym is

@@ -16,14 +16,14 @@ use Rattle.serde_json.specs.declared.value.Value.{Value}
 use Rattle.serde_json.proofs.Views.{Entry, view-lookup}
 use Rattle.oci_json_model.specs.Means.{is_object, member_names}
 use Rattle.oci_json_model.specs.Shape as shape
-use Rattle.oci_json_model.specs.Shape.{Shape, Rows, key_set, detail}
+use Rattle.oci_json_model.specs.Shape.{Shape, key_set, detail}
 use Rattle.oci_json_model.specs.Value.{with_text, sorted, empty_objects, is_empty_array}
 use Rattle.oci_json.specs.Readable.{IsBefore, IsInOrder}
 use Rattle.oci_json.proofs.ReadAgain.{compact_read}
 use Rattle.oci_schema_walks.specs.Allows.{allows, each_member_allowed}
 use Rattle.oci_schema_walks.proofs.Decides.{both}
-use Rattle.oci_schema_walks.specs.Conformed.{is_kept}
-use Rattle.oci_schema_walks.specs.Normal.{IsNormal, AreNormalMembers, AreEmptyObjects}
+use Rattle.oci_schema_walks.specs.Normalized.{is_kept}
+use Rattle.oci_schema_walks.specs.Normal.{IsNormal, AreNormal, HoldNormal, AreEmptyObjects}
 use Rattle.oci_schema_walks.specs.Plain.{IsPlain, ArePlain, HoldPlain}
 
 pub object_kept : (d : Data) (ms : Members) → as_object d ≡ Some ms → d ≡ object ms
@@ -34,7 +34,15 @@ object_kept (string s) t e = cc
 object_kept (array ds) t e = cc
 object_kept (object ms) t e = cc
 
--- ---- lists, and what stands under a name
+pub array_kept : (d : Data) (ds : Items) → Some ds ≡ as_array d → d ≡ array ds
+array_kept null t e = cc
+array_kept (boolean b) t e = cc
+array_kept (number n) t e = cc
+array_kept (string s) t e = cc
+array_kept (array ds) t e = cc
+array_kept (object ms) t e = cc
+
+-- ---- arrays, and whether an object has a member
 
 pub no_items_told : (d : Data) (vs : List Value) → Some (items_view vs) ≡ as_array d → (length vs == 0) ≡ is_empty_array d
 no_items_told null vs e = cc
@@ -106,12 +114,15 @@ detail_normal s d is there h =
     let allowed : allows detail d ≡ true = both _ _ (ap not there) (ap not h.2) in
     rw is (both _ _ allowed (ap is_kept back ∙ ap not h.2), ap (λ o. unwrap_or o null) back)
 
--- ---- records
+-- ---- arrays and maps
 
-pub record_normal : (s : Shape) (rs : Rows) (d : Data) (ms : Members) → s ≡ shape.rows rs → Some ms ≡ as_object d → AreNormalMembers rs ms → IsNormal s d
-record_normal s rs d ms is there h = let seen : d ≡ object ms = object_kept d ms (sym there) in rw (is, seen) (h.0, ap object h.1)
+pub list_normal : (s t : Shape) (d : Data) (ds : Items) → s ≡ shape.list t → Some ds ≡ as_array d → AreNormal t ds → IsNormal s d
+list_normal s t d ds is there h = let seen : d ≡ array ds = array_kept d ds there in rw (is, seen) (h.0, ap array h.1)
 
--- ---- values that are read again from their text
+pub map_normal : (s t : Shape) (d : Data) (ms : Members) → s ≡ shape.map t → Some ms ≡ as_object d → HoldNormal t ms → IsNormal s d
+map_normal s t d ms is there h = let seen : d ≡ object ms = object_kept d ms (sym there) in rw (is, seen) (h.0, ap object h.1)
+
+-- ---- values that are parsed again from their text
 
 pub item_plain : (n : ℕ) (d : Data) (ds : Items) → IsPlain n d → ArePlain n ds → ArePlain n (item d ds)
 item_plain n d ds h t = search (rules, h, t)

@@ -1,50 +1,32 @@
--- Parts of values, and of records that are taken apart.
-use Rattle.std.proofs.Common.{◌≡◌, refl, sym, ap, ◌∙◌, Bool, true, false, ◌&&◌, List, [], ◌∷◌, ◌++◌, length, Some, None, is_some, nat_cmp, string_bytes, string_cmp, arith, Result, Ok, Err, Greater, Less}
-use Rattle.std.specs.Prelude.{IfOk, IfErr, not}
+-- Values whose parts are normalized one by one.
+use Rattle.std.proofs.Common.{◌≡◌, refl, sym, ap, ◌∙◌, Bool, true, false, ◌&&◌, List, [], ◌∷◌, ◌++◌, length, nat_cmp, string_bytes, string_cmp, arith, Result, Ok, Err, Greater, Less}
+use Rattle.std.specs.Prelude.{IfOk}
 use Rattle.std.specs.Cmp.Lexicographic.{slice_cmp}
-use Rattle.std.specs.Borrow.{Bor}
 use Rattle.std.specs.List.{AllByRecursion}
 use Rattle.std.specs.List.Sorted.{IsStrictlySortedBy}
 use Rattle.std.specs.Map.{keys_of}
 use Rattle.std.specs.BTreeMap.{insert_entry}
 use Rattle.std.specs.Ordering.{ordering_reverse}
 use Rattle.std.proofs.lemmas.Cmp.{nat_list_cmp_total}
-use Rattle.serde_json.specs.Data.{Data, null, boolean, number, string, array, object, Items, no_items, item, member, put}
-use Rattle.serde_json.specs.Find.{as_array, as_object}
+use Rattle.serde_json.specs.Data.{Data, Items, no_items, item, member, put}
 use Rattle.serde_json.specs.View.{view, items_view, members_view}
 use Rattle.serde_json.specs.declared.value.Value.{Value}
 use Rattle.serde_json.proofs.Views.{Entry}
 use Rattle.oci_json_model.specs.Means.{Means}
 use Rattle.oci_json_model.specs.Plain.{Plain}
 use Rattle.oci_json_model.specs.Refused.{IsRefused}
-use Rattle.oci_text_base.specs.Refused.{IsSchema}
-use Rattle.oci_text_base.specs.declared.error.OciSpecError.{OciSpecError}
-use Rattle.oci_json_model.specs.Shape as shape
-use Rattle.oci_json_model.specs.Shape.{Shape, Rows, detail}
+use Rattle.oci_json_model.specs.Shape.{Shape, detail}
 use Rattle.oci_json_model.specs.Value.{value}
 use Rattle.oci_json_model.specs.Writable.{Writable}
 use Rattle.oci_json_model.proofs.Writers.{inserted}
-use Rattle.oci_schema_walks.specs.Allows.{allows, each_allowed, items_allowed, members_allowed}
-use Rattle.oci_schema_walks.specs.Conformed.{accepts, rows_accept, conformed, each_conformed, each_member_conformed}
-use Rattle.oci_schema_types.specs.Shapes.{shape_of, scalar_shape}
-use Rattle.oci_schema_types.specs.declared.scalar.Scalar.{Scalar}
-use Rattle.oci_schema_walks.specs.declared.form.Form.{Form}
-use Rattle.oci_schema_walks.specs.declared.form.Form.TheVariants as form
+use Rattle.oci_schema_walks.specs.Allows.{allows, each_allowed}
+use Rattle.oci_schema_walks.specs.Normalized.{accepts, normalized, each_normalized, each_member_normalized}
 use Rattle.oci_schema_walks.proofs.Decides.{meant}
-use Rattle.oci_schema_walks.proofs.Tables.{shape_leaf, shape_list, shape_map}
-use Rattle.oci_schema_walks.proofs.Conforms.{told}
+use Rattle.oci_schema_walks.proofs.NormalForms.{told}
 
 -- ---- lists and maps, part by part
 
-pub array_kept : (d : Data) (ds : Items) → Some ds ≡ as_array d → d ≡ array ds
-array_kept null t e = cc
-array_kept (boolean b) t e = cc
-array_kept (number n) t e = cc
-array_kept (string s) t e = cc
-array_kept (array ds) t e = cc
-array_kept (object ms) t e = cc
-
--- the one list before the other
+-- the items of the one before those of the other
 abbrev pub joined : Items → Items → Items
 joined no_items es = es
 joined (item d ds) es = item d (joined ds es)
@@ -60,25 +42,21 @@ joined_more (w ∷ vs) v es = ap (item (view w)) (joined_more vs v es)
 module _ (f : Data → Bool) (g : Data → Data) where
   -- one item more
   pub items_more : (all : Items) (before left made more : List Value) (v w : Value) → before ≡ v ∷ left → more ≡ made ++ w ∷ [] → (f (view v) ≡ true) × (view w ≡ g (view v))
-      → each_allowed f all ≡ each_allowed f (items_view before) → each_conformed g all ≡ joined (items_view made) (each_conformed g (items_view before))
-      → (each_allowed f all ≡ each_allowed f (items_view left)) × (each_conformed g all ≡ joined (items_view more) (each_conformed g (items_view left)))
+      → each_allowed f all ≡ each_allowed f (items_view before) → each_normalized g all ≡ joined (items_view made) (each_normalized g (items_view before))
+      → (each_allowed f all ≡ each_allowed f (items_view left)) × (each_normalized g all ≡ joined (items_view more) (each_normalized g (items_view left)))
   items_more all before left made more v w cut add h a m = (
     a ∙ ap (λ vs. each_allowed f (items_view vs)) cut ∙ ap (λ b. b && each_allowed f (items_view left)) h.0,
-    m ∙ ap (λ vs. joined (items_view made) (each_conformed g (items_view vs))) cut
-        ∙ ap (λ d. joined (items_view made) (item d (each_conformed g (items_view left)))) (sym h.1) ∙ sym (joined_more made w (each_conformed g (items_view left)))
-        ∙ ap (λ vs. joined (items_view vs) (each_conformed g (items_view left))) (sym add),
+    m ∙ ap (λ vs. joined (items_view made) (each_normalized g (items_view vs))) cut
+        ∙ ap (λ d. joined (items_view made) (item d (each_normalized g (items_view left)))) (sym h.1) ∙ sym (joined_more made w (each_normalized g (items_view left)))
+        ∙ ap (λ vs. joined (items_view vs) (each_normalized g (items_view left))) (sym add),
   )
-
-  -- a refused item
-  pub item_refused : (all : Items) (before left : List Value) (v : Value) → before ≡ v ∷ left → f (view v) ≡ false → each_allowed f all ≡ each_allowed f (items_view before) → each_allowed f all ≡ false
-  item_refused all before left v cut e a = a ∙ ap (λ vs. each_allowed f (items_view vs)) cut ∙ ap (λ b. b && each_allowed f (items_view left)) e
 
   -- no item more
   pub items_all : (all : Items) (before made : List Value) → before ≡ [] → each_allowed f all ≡ each_allowed f (items_view before)
-      → each_conformed g all ≡ joined (items_view made) (each_conformed g (items_view before)) → (each_allowed f all ≡ true) × (items_view made ≡ each_conformed g all)
+      → each_normalized g all ≡ joined (items_view made) (each_normalized g (items_view before)) → (each_allowed f all ≡ true) × (items_view made ≡ each_normalized g all)
   items_all all before made none a m = (
     a ∙ ap (λ vs. each_allowed f (items_view vs)) none,
-    sym (m ∙ ap (λ vs. joined (items_view made) (each_conformed g (items_view vs))) none ∙ joined_end (items_view made)),
+    sym (m ∙ ap (λ vs. joined (items_view made) (each_normalized g (items_view vs))) none ∙ joined_end (items_view made)),
   )
 
 pub none_left : (vs : List Value) → length vs ≡ 0 → vs ≡ []
@@ -91,7 +69,7 @@ below_last first (x ∷ done) e more h = below_last first done e more h.1
 
 -- a name that is above those before it goes last
 pub put_last : (f : Data → Data) (done : List Entry) (e : Entry) (more : List Entry) → IsStrictlySortedBy string_cmp (keys_of (done ++ e ∷ more))
-    → put (string_bytes e.0) (f (view e.1)) (each_member_conformed f (members_view done)) ≡ each_member_conformed f (members_view (done ++ e ∷ []))
+    → put (string_bytes e.0) (f (view e.1)) (each_member_normalized f (members_view done)) ≡ each_member_normalized f (members_view (done ++ e ∷ []))
 unfolding IsStrictlySortedBy
 put_last f [] e more h = refl
 put_last f (first ∷ done) e more h =
@@ -101,7 +79,7 @@ put_last f (first ∷ done) e more h =
 
 -- one member more is put last
 pub members_more : (g : Data → Data) (done left made more : List Entry) (e : Entry) (v : Value) → IsStrictlySortedBy string_cmp (keys_of (done ++ e ∷ left)) → view v ≡ g (view e.1)
-    → more ≡ insert_entry string_cmp made e.0 v → members_view made ≡ each_member_conformed g (members_view done) → members_view more ≡ each_member_conformed g (members_view (done ++ e ∷ []))
+    → more ≡ insert_entry string_cmp made e.0 v → members_view made ≡ each_member_normalized g (members_view done) → members_view more ≡ each_member_normalized g (members_view (done ++ e ∷ []))
 members_more g done left made more e v sorted seen put_in h =
     inserted made more e.0 v (string_bytes e.0) (g (view e.1)) put_in refl seen ∙ ap (put (string_bytes e.0) (g (view e.1))) h ∙ put_last g done e left sorted
 
@@ -121,36 +99,6 @@ not_accepted d refused = rw (not_allowed detail d refused) refl
 
 -- what was read and written is the normal form, at the end of a call
 pub written_told : {E : Type 0} (r : Result Value E) (s : Shape) (d : Data) (p : Plain) → Means s d p → Writable s p → IfOk r (λ v. view v ≡ value s p)
-    → IfOk r (λ v. (accepts s d ≡ true) × (view v ≡ conformed s d))
+    → IfOk r (λ v. (accepts s d ≡ true) × (view v ≡ normalized s d))
 written_told (Ok v) s d p m w e = let t = told s d p m w in (t.0, e ∙ sym t.1)
 written_told (Err x) s d p m w e = tt
-
--- ---- values that are taken apart
-
-pub leaf_is : (f : Form) (l : Scalar) → f ≡ form.Leaf l → shape_of f ≡ scalar_shape l
-leaf_is f l is = ap shape_of is ∙ shape_leaf l
-
-pub list_is : (f : Form) (inner : Bor Form) → f ≡ form.List inner → shape_of f ≡ shape.list (shape_of inner.now)
-list_is f inner is = ap shape_of is ∙ shape_list inner
-
-pub map_is : (f : Form) (inner : Bor Form) → f ≡ form.Map inner → shape_of f ≡ shape.map (shape_of inner.now)
-map_is f inner is = ap shape_of is ∙ shape_map inner
-
--- of a shape and a value that are known
-pub told_at : {E : Type 0} (r : Result Value E) (s t : Shape) (d c : Data) → s ≡ t → d ≡ c → IfOk r (λ v. (accepts t c ≡ true) × (view v ≡ conformed t c))
-    → IfOk r (λ v. (accepts s d ≡ true) × (view v ≡ conformed s d))
-told_at (Ok v) s t d c is seen h = rw (is, seen) h
-told_at (Err e) s t d c is seen h = tt
-
-pub refused_at : {T : Type 0} (r : Result T OciSpecError) (s t : Shape) (d c : Data) → s ≡ t → d ≡ c → IfErr r (λ e. IsSchema e → accepts t c ≡ false) → IfErr r (λ e. IsSchema e → accepts s d ≡ false)
-refused_at (Ok v) s t d c is seen h = tt
-refused_at (Err e) s t d c is seen h = λ k. rw (is, seen) (h k)
-
-pub no_list : (s t : Shape) (d : Data) → s ≡ shape.list t → None ≡ as_array d → accepts s d ≡ false
-no_list s t d is none = ap (λ x. accepts x d) is ∙ ap (items_allowed (accepts t)) (sym none)
-
-pub no_map : (s t : Shape) (d : Data) → s ≡ shape.map t → None ≡ as_object d → accepts s d ≡ false
-no_map s t d is none = ap (λ x. accepts x d) is ∙ ap (members_allowed (accepts t)) (sym none)
-
-pub no_record : (s : Shape) (rs : Rows) (d : Data) → s ≡ shape.rows rs → None ≡ as_object d → accepts s d ≡ false
-no_record s rs d is none = ap (λ x. accepts x d) is ∙ ap (λ o. is_some o && rows_accept rs d) (sym none)

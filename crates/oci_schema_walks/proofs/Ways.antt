@@ -1,4 +1,4 @@
--- The place of each fault leads to what is told of it.
+-- The pointer of each violation leads to what is reported of it.
 use Rattle.std.proofs.Common.{◌≡◌, inl, inr, ℕ, suc, ◌+◌, List, [], ◌∷◌, ◌++◌, Bool, true, false, cond, Option, Some, None, is_some, Ordering, Less, Equal, Greater, nat_cmp, refl, sym, ap, ◌∙◌, subst, arith}
 use Rattle.std.specs.List.{All}
 use Rattle.std.specs.Ordering.{match_ordering}
@@ -12,7 +12,7 @@ use Rattle.oci_json_model.specs.Shape as shape
 use Rattle.oci_json_model.specs.Shape.{Presence, required, defaulted, optional, nullable, unless_empty, Shape, text, truth, whole, named, open_name, digest_text, cpu_text, cap_set, list, key_set, detail, free_map, rows, Rows, no_rows, row}
 use Rattle.oci_schema_walks.specs.Allows.{allows}
 use Rattle.oci_schema_walks.specs.Places.{under_name, under_index}
-use Rattle.oci_schema_walks.specs.Faults.{Told, kind_of, is_of_kind, an_object, other_value, a_member, no_second, unless, each_faults, items_faults, each_member_faults, members_faults, member_faults, either_faults, row_faults, faults, rows_faults}
+use Rattle.oci_schema_walks.specs.Violations.{Report, kind_of, is_of_kind, an_object, a_value, a_member, no_alias, unless, each_violations, items_violations, each_member_violations, members_violations, member_violations, either_violations, row_violations, violations, rows_violations}
 use Rattle.oci_schema_walks.specs.Leads.{Step, to_member, to_item, spelled, Have, HasMember, HasItem, Goes, LeadsTo, IsPlaceIn, HoldsAt, IsSo}
 
 -- ---- ways
@@ -41,7 +41,7 @@ member_step root d c at name leads has = one_step root d c at (to_member name) l
 item_step : (root d c : Data) (at : List ℕ) (i : ℕ) → LeadsTo root at d → HasItem d i c → LeadsTo root (under_index at i) c
 item_step root d c at i leads has = one_step root d c at (to_item i) leads (c, has, refl)
 
--- ---- what stands under a name is a member
+-- ---- what is found under a name is a member
 
 have_by : (name k : List ℕ) (d c : Data) (ms : Members) (o : Ordering) → slice_cmp nat_cmp name k ≡ o → (get_member name ms ≡ Some c → Have ms name c)
     → match_ordering o (get_member name ms) (Some d) (get_member name ms) ≡ Some c → Have (member k d ms) name c
@@ -64,106 +64,106 @@ has name (object ms) c e = (ms, refl, have name ms c e)
 -- ---- each part at its place
 
 abbrev Listing : Type 0
-Listing = List ℕ → Data → List Told
+Listing = List ℕ → Data → List Report
 
--- what is listed of a part that a place leads to, is so
-abbrev Tells : Listing → Type 0
-Tells f = (root : Data) (at : List ℕ) (d : Data) → LeadsTo root at d → All (IsSo root) (f at d)
+-- what is reported of a part that a place leads to, is so
+abbrev Holds : Listing → Type 0
+Holds f = (root : Data) (at : List ℕ) (d : Data) → LeadsTo root at d → All (IsSo root) (f at d)
 
-one : (root : Data) (x : Told) → IsSo root x → All (IsSo root) (x ∷ [])
+one : (root : Data) (x : Report) → IsSo root x → All (IsSo root) (x ∷ [])
 one root x so = All-cons (IsSo root) x [] so (All-nil (IsSo root))
 
-refused : (root : Data) (at : List ℕ) (d : Data) (s : Shape) → LeadsTo root at d → is_of_kind (kind_of s) d ≡ false → All (IsSo root) ((at, other_value (kind_of s)) ∷ [])
-refused root at d s leads e = one root (at, other_value (kind_of s)) (d, leads, e)
+rejected : (root : Data) (at : List ℕ) (d : Data) (s : Shape) → LeadsTo root at d → is_of_kind (kind_of s) d ≡ false → All (IsSo root) ((at, a_value (kind_of s)) ∷ [])
+rejected root at d s leads e = one root (at, a_value (kind_of s)) (d, leads, e)
 
 unless_so : (root : Data) (at : List ℕ) (d : Data) (s : Shape) (b : Bool) → is_of_kind (kind_of s) d ≡ b → LeadsTo root at d → All (IsSo root) (unless b at s)
 unless_so root at d s true e leads = All-nil (IsSo root)
-unless_so root at d s false e leads = refused root at d s leads e
+unless_so root at d s false e leads = rejected root at d s leads e
 
-each_so : (f : Listing) → Tells f → (root : Data) (at : List ℕ) (d : Data) (all : Items) → LeadsTo root at d → as_array d ≡ Some all → (i : ℕ) (ds : Items)
-    → ((j : ℕ) (c : Data) → get_item j ds ≡ Some c → get_item (i + j) all ≡ Some c) → All (IsSo root) (each_faults f at i ds)
-each_so f tells root at d all leads is i no_items within = All-nil (IsSo root)
-each_so f tells root at d all leads is i (item c ds) within =
+each_so : (f : Listing) → Holds f → (root : Data) (at : List ℕ) (d : Data) (all : Items) → LeadsTo root at d → as_array d ≡ Some all → (i : ℕ) (ds : Items)
+    → ((j : ℕ) (c : Data) → get_item j ds ≡ Some c → get_item (i + j) all ≡ Some c) → All (IsSo root) (each_violations f at i ds)
+each_so f holds root at d all leads is i no_items within = All-nil (IsSo root)
+each_so f holds root at d all leads is i (item c ds) within =
     let same : i + 0 ≡ i = omega arith in
     let first : get_item i all ≡ Some c = ap (λ n. get_item n all) (sym same) ∙ within 0 c refl in
-    All-append (IsSo root) (f (under_index at i) c) (each_faults f at (i + 1) ds)
-    (tells root (under_index at i) c (item_step root d c at i leads (all, is, first)))
-    (each_so f tells root at d all leads is (i + 1) ds (λ j b e. shifted i j all b (within (suc j) b e)))
+    All-append (IsSo root) (f (under_index at i) c) (each_violations f at (i + 1) ds)
+    (holds root (under_index at i) c (item_step root d c at i leads (all, is, first)))
+    (each_so f holds root at d all leads is (i + 1) ds (λ j b e. shifted i j all b (within (suc j) b e)))
   where
     shifted : (i j : ℕ) (all : Items) (b : Data) → get_item (i + suc j) all ≡ Some b → get_item ((i + 1) + j) all ≡ Some b
     shifted i j all b e = let moved : (i + 1) + j ≡ i + suc j = omega arith in ap (λ n. get_item n all) moved ∙ e
 
-items_so : (s : Shape) (f : Listing) → Tells f → (root : Data) (at : List ℕ) (d : Data) → LeadsTo root at d → (o : Option Items) → as_array d ≡ o → (o ≡ None → is_of_kind (kind_of s) d ≡ false)
-    → All (IsSo root) (items_faults s f at o)
-items_so s f tells root at d leads None is none = refused root at d s leads (none refl)
-items_so s f tells root at d leads (Some ds) is none = each_so f tells root at d ds leads is 0 ds (λ j c e. from_first j c e)
+items_so : (s : Shape) (f : Listing) → Holds f → (root : Data) (at : List ℕ) (d : Data) → LeadsTo root at d → (o : Option Items) → as_array d ≡ o → (o ≡ None → is_of_kind (kind_of s) d ≡ false)
+    → All (IsSo root) (items_violations s f at o)
+items_so s f holds root at d leads None is none = rejected root at d s leads (none refl)
+items_so s f holds root at d leads (Some ds) is none = each_so f holds root at d ds leads is 0 ds (λ j c e. from_first j c e)
   where
     from_first : (j : ℕ) (c : Data) → get_item j ds ≡ Some c → get_item (0 + j) ds ≡ Some c
     from_first j c e = let same : 0 + j ≡ j = omega arith in ap (λ n. get_item n ds) same ∙ e
 
-each_member_so : (f : Listing) → Tells f → (root : Data) (at : List ℕ) (d : Data) (all : Members) → LeadsTo root at d → as_object d ≡ Some all → (ms : Members)
-    → ((name : List ℕ) (c : Data) → Have ms name c → Have all name c) → All (IsSo root) (each_member_faults f at ms)
-each_member_so f tells root at d all leads is no_members within = All-nil (IsSo root)
-each_member_so f tells root at d all leads is (member k c ms) within =
-    All-append (IsSo root) (f (under_name at k) c) (each_member_faults f at ms)
-    (tells root (under_name at k) c (member_step root d c at k leads (all, is, within k c (inl (refl, refl)))))
-    (each_member_so f tells root at d all leads is ms (λ name b h. within name b (inr h)))
+each_member_so : (f : Listing) → Holds f → (root : Data) (at : List ℕ) (d : Data) (all : Members) → LeadsTo root at d → as_object d ≡ Some all → (ms : Members)
+    → ((name : List ℕ) (c : Data) → Have ms name c → Have all name c) → All (IsSo root) (each_member_violations f at ms)
+each_member_so f holds root at d all leads is no_members within = All-nil (IsSo root)
+each_member_so f holds root at d all leads is (member k c ms) within =
+    All-append (IsSo root) (f (under_name at k) c) (each_member_violations f at ms)
+    (holds root (under_name at k) c (member_step root d c at k leads (all, is, within k c (inl (refl, refl)))))
+    (each_member_so f holds root at d all leads is ms (λ name b h. within name b (inr h)))
 
-members_so : (s : Shape) (f : Listing) → Tells f → (root : Data) (at : List ℕ) (d : Data) → LeadsTo root at d → (o : Option Members) → as_object d ≡ o → (o ≡ None → is_of_kind (kind_of s) d ≡ false)
-    → All (IsSo root) (members_faults s f at o)
-members_so s f tells root at d leads None is none = refused root at d s leads (none refl)
-members_so s f tells root at d leads (Some ms) is none = each_member_so f tells root at d ms leads is ms (λ name c h. h)
+members_so : (s : Shape) (f : Listing) → Holds f → (root : Data) (at : List ℕ) (d : Data) → LeadsTo root at d → (o : Option Members) → as_object d ≡ o → (o ≡ None → is_of_kind (kind_of s) d ≡ false)
+    → All (IsSo root) (members_violations s f at o)
+members_so s f holds root at d leads None is none = rejected root at d s leads (none refl)
+members_so s f holds root at d leads (Some ms) is none = each_member_so f holds root at d ms leads is ms (λ name c h. h)
 
--- ---- listed members
+-- ---- members of records
 
-null_so : (root : Data) (b : Bool) (xs : List Told) → All (IsSo root) xs → All (IsSo root) (cond b [] xs)
+null_so : (root : Data) (b : Bool) (xs : List Report) → All (IsSo root) xs → All (IsSo root) (cond b [] xs)
 null_so root true xs so = All-nil (IsSo root)
 null_so root false xs so = so
 
--- by where what was found stands, and by what is so where nothing was
-member_so : (presence : Presence) (s : Shape) (f : Listing) → Tells f → (root : Data) (at : List ℕ) (found : Option Data)
-    → ((c : Data) → found ≡ Some c → LeadsTo root at c) → (found ≡ None → HoldsAt root at (a_member (kind_of s))) → All (IsSo root) (member_faults presence s f at found)
-member_so required s f tells root at None leads none = one root (at, a_member (kind_of s)) (none refl)
-member_so required s f tells root at (Some c) leads none = tells root at c (leads c refl)
-member_so (defaulted p) s f tells root at None leads none = All-nil (IsSo root)
-member_so (defaulted p) s f tells root at (Some c) leads none = tells root at c (leads c refl)
-member_so optional s f tells root at None leads none = All-nil (IsSo root)
-member_so optional s f tells root at (Some c) leads none = null_so root (is_some (as_null c)) (f at c) (tells root at c (leads c refl))
-member_so nullable s f tells root at None leads none = All-nil (IsSo root)
-member_so nullable s f tells root at (Some c) leads none = null_so root (is_some (as_null c)) (f at c) (tells root at c (leads c refl))
-member_so unless_empty s f tells root at None leads none = All-nil (IsSo root)
-member_so unless_empty s f tells root at (Some c) leads none = null_so root (is_some (as_null c)) (f at c) (tells root at c (leads c refl))
+-- by the place of what was found, and by what is so where nothing was
+member_so : (presence : Presence) (s : Shape) (f : Listing) → Holds f → (root : Data) (at : List ℕ) (found : Option Data)
+    → ((c : Data) → found ≡ Some c → LeadsTo root at c) → (found ≡ None → HoldsAt root at (a_member (kind_of s))) → All (IsSo root) (member_violations presence s f at found)
+member_so required s f holds root at None leads none = one root (at, a_member (kind_of s)) (none refl)
+member_so required s f holds root at (Some c) leads none = holds root at c (leads c refl)
+member_so (defaulted p) s f holds root at None leads none = All-nil (IsSo root)
+member_so (defaulted p) s f holds root at (Some c) leads none = holds root at c (leads c refl)
+member_so optional s f holds root at None leads none = All-nil (IsSo root)
+member_so optional s f holds root at (Some c) leads none = null_so root (is_some (as_null c)) (f at c) (holds root at c (leads c refl))
+member_so nullable s f holds root at None leads none = All-nil (IsSo root)
+member_so nullable s f holds root at (Some c) leads none = null_so root (is_some (as_null c)) (f at c) (holds root at c (leads c refl))
+member_so unless_empty s f holds root at None leads none = All-nil (IsSo root)
+member_so unless_empty s f holds root at (Some c) leads none = null_so root (is_some (as_null c)) (f at c) (holds root at c (leads c refl))
 
 place_in : (root d : Data) (at name : List ℕ) → LeadsTo root at d → is_object d ≡ true → IsPlaceIn root (under_name at name) name d
 place_in root d at name leads is = (at, refl, leads, is)
 
 -- of a member with one name
-named_so : (presence : Presence) (s : Shape) (f : Listing) → Tells f → (root : Data) (at : List ℕ) (d : Data) → LeadsTo root at d → is_object d ≡ true → (name : List ℕ)
-    → All (IsSo root) (member_faults presence s f (under_name at name) (get name d))
-named_so presence s f tells root at d leads is name =
-    member_so presence s f tells root (under_name at name) (get name d) (λ c e. member_step root d c at name leads (has name d c e)) (λ e. (name, d, place_in root d at name leads is, e))
+named_so : (presence : Presence) (s : Shape) (f : Listing) → Holds f → (root : Data) (at : List ℕ) (d : Data) → LeadsTo root at d → is_object d ≡ true → (name : List ℕ)
+    → All (IsSo root) (member_violations presence s f (under_name at name) (get name d))
+named_so presence s f holds root at d leads is name =
+    member_so presence s f holds root (under_name at name) (get name d) (λ c e. member_step root d c at name leads (has name d c e)) (λ e. (name, d, place_in root d at name leads is, e))
 
-either_so : (presence : Presence) (s : Shape) (f : Listing) → Tells f → (root : Data) (at : List ℕ) (d : Data) → LeadsTo root at d → is_object d ≡ true → (name second : List ℕ)
-    → (found other : Option Data) → get name d ≡ found → get second d ≡ other → All (IsSo root) (either_faults presence s f at name second found other)
-either_so presence s f tells root at d leads is name second found None e h =
-    subst (λ o. All (IsSo root) (member_faults presence s f (under_name at name) o)) e (named_so presence s f tells root at d leads is name)
-either_so presence s f tells root at d leads is name second None (Some c) e h =
-    subst (λ o. All (IsSo root) (member_faults presence s f (under_name at second) o)) h (named_so presence s f tells root at d leads is second)
-either_so presence s f tells root at d leads is name second (Some b) (Some c) e h =
-    one root (under_name at name, no_second second) (name, d, place_in root d at name leads is, ap is_some e, ap is_some h)
+either_so : (presence : Presence) (s : Shape) (f : Listing) → Holds f → (root : Data) (at : List ℕ) (d : Data) → LeadsTo root at d → is_object d ≡ true → (name alias : List ℕ)
+    → (found other : Option Data) → get name d ≡ found → get alias d ≡ other → All (IsSo root) (either_violations presence s f at name alias found other)
+either_so presence s f holds root at d leads is name alias found None e h =
+    subst (λ o. All (IsSo root) (member_violations presence s f (under_name at name) o)) e (named_so presence s f holds root at d leads is name)
+either_so presence s f holds root at d leads is name alias None (Some c) e h =
+    subst (λ o. All (IsSo root) (member_violations presence s f (under_name at alias) o)) h (named_so presence s f holds root at d leads is alias)
+either_so presence s f holds root at d leads is name alias (Some b) (Some c) e h =
+    one root (under_name at name, no_alias alias) (name, d, place_in root d at name leads is, ap is_some e, ap is_some h)
 
-row_so : (presence : Presence) (s : Shape) (f : Listing) → Tells f → (root : Data) (at : List ℕ) (d : Data) → LeadsTo root at d → is_object d ≡ true → (name : List ℕ) (second : Option (List ℕ))
-    → All (IsSo root) (row_faults presence s f at name second d)
-row_so presence s f tells root at d leads is name None = named_so presence s f tells root at d leads is name
-row_so presence s f tells root at d leads is name (Some second) = either_so presence s f tells root at d leads is name second (get name d) (get second d) refl refl
+row_so : (presence : Presence) (s : Shape) (f : Listing) → Holds f → (root : Data) (at : List ℕ) (d : Data) → LeadsTo root at d → is_object d ≡ true → (name : List ℕ) (alias : Option (List ℕ))
+    → All (IsSo root) (row_violations presence s f at name alias d)
+row_so presence s f holds root at d leads is name None = named_so presence s f holds root at d leads is name
+row_so presence s f holds root at d leads is name (Some alias) = either_so presence s f holds root at d leads is name alias (get name d) (get alias d) refl refl
 
-record_so : (root : Data) (at : List ℕ) (d : Data) (rs : Rows) (b : Bool) → is_object d ≡ b → LeadsTo root at d → (is_object d ≡ true → All (IsSo root) (rows_faults rs at d))
-    → All (IsSo root) (cond b (rows_faults rs at d) ((at, other_value an_object) ∷ []))
+record_so : (root : Data) (at : List ℕ) (d : Data) (rs : Rows) (b : Bool) → is_object d ≡ b → LeadsTo root at d → (is_object d ≡ true → All (IsSo root) (rows_violations rs at d))
+    → All (IsSo root) (cond b (rows_violations rs at d) ((at, a_value an_object) ∷ []))
 record_so root at d rs true e leads so = so e
-record_so root at d rs false e leads so = refused root at d (rows rs) leads e
+record_so root at d rs false e leads so = rejected root at d (rows rs) leads e
 
 mutual
-  shape_so : (s : Shape) (root : Data) (at : List ℕ) (d : Data) → LeadsTo root at d → All (IsSo root) (faults s at d)
+  shape_so : (s : Shape) (root : Data) (at : List ℕ) (d : Data) → LeadsTo root at d → All (IsSo root) (violations s at d)
   shape_so text root at d leads = unless_so root at d text (allows text d) refl leads
   shape_so truth root at d leads = unless_so root at d truth (allows truth d) refl leads
   shape_so (whole low high) root at d leads = unless_so root at d (whole low high) (allows (whole low high) d) refl leads
@@ -173,19 +173,19 @@ mutual
   shape_so cpu_text root at d leads = unless_so root at d cpu_text (allows cpu_text d) refl leads
   shape_so (cap_set table) root at d leads = unless_so root at d (cap_set table) (allows (cap_set table) d) refl leads
   shape_so (list s) root at d leads =
-      items_so (list s) (faults s) (λ r p x w. shape_so s r p x w) root at d leads (as_array d) refl (λ e. ap is_some e)
+      items_so (list s) (violations s) (λ r p x w. shape_so s r p x w) root at d leads (as_array d) refl (λ e. ap is_some e)
   shape_so (shape.map s) root at d leads =
-      members_so (shape.map s) (faults s) (λ r p x w. shape_so s r p x w) root at d leads (as_object d) refl (λ e. ap is_some e)
+      members_so (shape.map s) (violations s) (λ r p x w. shape_so s r p x w) root at d leads (as_object d) refl (λ e. ap is_some e)
   shape_so key_set root at d leads = unless_so root at d key_set (allows key_set d) refl leads
   shape_so detail root at d leads = unless_so root at d detail (allows detail d) refl leads
   shape_so free_map root at d leads = unless_so root at d free_map (allows free_map d) refl leads
   shape_so (rows rs) root at d leads = record_so root at d rs (is_object d) refl leads (λ is. rows_so rs root at d leads is)
 
-  rows_so : (rs : Rows) (root : Data) (at : List ℕ) (d : Data) → LeadsTo root at d → is_object d ≡ true → All (IsSo root) (rows_faults rs at d)
+  rows_so : (rs : Rows) (root : Data) (at : List ℕ) (d : Data) → LeadsTo root at d → is_object d ≡ true → All (IsSo root) (rows_violations rs at d)
   rows_so no_rows root at d leads is = All-nil (IsSo root)
-  rows_so (row name second presence s rs) root at d leads is =
-      All-append (IsSo root) (row_faults presence s (faults s) at name second d) (rows_faults rs at d)
-      (row_so presence s (faults s) (λ r p x w. shape_so s r p x w) root at d leads is name second) (rows_so rs root at d leads is)
+  rows_so (row name alias presence s rs) root at d leads is =
+      All-append (IsSo root) (row_violations presence s (violations s) at name alias d) (rows_violations rs at d)
+      (row_so presence s (violations s) (λ r p x w. shape_so s r p x w) root at d leads is name alias) (rows_so rs root at d leads is)
 
-pub each_is_so : (s : Shape) (d : Data) → All (IsSo d) (faults s [] d)
+pub each_is_so : (s : Shape) (d : Data) → All (IsSo d) (violations s [] d)
 each_is_so s d = shape_so s d [] d (to_itself d)

@@ -1,5 +1,5 @@
 -- Whether a shape allows a value, as a computation.
-use Rattle.std.specs.Prelude.{ℕ, zero, suc, ℤ, List, ◌++◌, length, Bool, true, false, not, ◌&&◌, ◌||◌, int_le, bytes_eq, Option, Some, None, is_some}
+use Rattle.std.specs.Prelude.{◌≡◌, ◌↔◌, ℕ, zero, suc, ℤ, List, ◌++◌, length, Bool, true, false, not, ◌&&◌, ◌||◌, int_le, bytes_eq, Option, Some, None, is_some}
 use Rattle.std.specs.List.{list_any}
 use Rattle.std.specs.Prelude as std
 use Rattle.serde_json.specs.Data.{Data, Items, no_items, item, Members, no_members, member}
@@ -11,11 +11,11 @@ use Rattle.oci_text_base.specs.Names.{is_listed}
 use Rattle.oci_json_model.specs.Means.{as_whole, is_object, get_second}
 use Rattle.oci_json_model.specs.Shape.{Presence, required, defaulted, optional, nullable, unless_empty, Shape, text, truth, whole, named, open_name, digest_text, cpu_text, cap_set, list, key_set, detail, free_map, rows, Rows, no_rows, row}
 use Rattle.oci_json_model.specs.Shape as shape
-use Rattle.oci_schema_walks.specs.Processors.{is_list_of_processors}
-use Rattle.oci_schema_types.specs.Shapes.{shape_of, presence_of, alias_of}
-use Rattle.oci_schema_types.specs.declared.record.Member.{Row}
+use Rattle.oci_process_names.specs.CpuScan.{is_cpu_text}
+use Rattle.oci_schema_types.specs.Shapes.{schema_shape, presence_of, alias_of}
+use Rattle.oci_schema_types.specs.declared.record.Member.{Member}
 
--- ---- texts
+-- ---- strings
 
 unfoldable pub is_digest_text : List ℕ → Bool
 is_digest_text t = not (is_some (digest_refusal t))
@@ -61,7 +61,7 @@ abbrev pub members_allowed : (Data → Bool) → Option Members → Bool
 members_allowed f None = false
 members_allowed f (Some ms) = each_member_allowed f ms
 
--- an object that holds no numbers but 64-bit whole ones
+-- an object whose numbers are 64-bit integers
 abbrev pub are_free : Option Members → Bool
 are_free None = false
 are_free (Some ms) = not (members_have_float ms)
@@ -83,7 +83,7 @@ member_allowed nullable f (Some d) = unless_null f d
 member_allowed unless_empty f None = true
 member_allowed unless_empty f (Some d) = unless_null f d
 
--- by what stands under either name, and not where both stand
+-- by what is found under the name or the alias, and not where both are
 abbrev pub either_allowed : Presence → (Data → Bool) → Option Data → Option Data → Bool
 either_allowed presence f found None = member_allowed presence f found
 either_allowed presence f None (Some d) = member_allowed presence f (Some d)
@@ -97,7 +97,7 @@ abbrev mutual
   allows (named table) d = text_allowed (is_listed table) (as_str d)
   allows (open_name table) d = is_some (as_str d)
   allows digest_text d = text_allowed is_digest_text (as_str d)
-  allows cpu_text d = text_allowed is_list_of_processors (as_str d)
+  allows cpu_text d = text_allowed is_cpu_text (as_str d)
   allows (cap_set table) d = items_allowed (names_capability table) (as_array d)
   allows (list s) d = items_allowed (allows s) (as_array d)
   allows (shape.map s) d = members_allowed (allows s) (as_object d)
@@ -108,11 +108,11 @@ abbrev mutual
 
   pub rows_allow : Rows → Data → Bool
   rows_allow no_rows d = true
-  rows_allow (row name second presence s rs) d = either_allowed presence (allows s) (get name d) (get_second second d) && rows_allow rs d
+  rows_allow (row name alias presence s rs) d = either_allowed presence (allows s) (get name d) (get_second alias d) && rows_allow rs d
 
--- a listed member of a table
-abbrev pub row_allows : Row → Data → Bool
-row_allows r d = either_allowed (presence_of r.presence) (allows (shape_of r.form.now)) (get r.name.now d) (get_second (alias_of r.second) d)
+-- a member of a record, over a table with these shapes
+abbrev pub known_allowed : (ℕ → Shape) → Member → Data → Bool
+known_allowed f m d = either_allowed (presence_of m.presence) (allows (schema_shape f m.schema)) (get m.name.now d) (get_second (alias_of m.alias) d)
 
 -- ---- sets of capabilities
 

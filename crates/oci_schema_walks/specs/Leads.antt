@@ -1,11 +1,11 @@
--- Where the places of faults lead.
+-- Where the pointers of violations lead.
 use Rattle.std.specs.Prelude.{◌≡◌, ◌≤◌, ◌^◌, ◌⊎◌, ⊤, ℕ, List, [], ◌∷◌, true, false, Some, None, is_some}
 use Rattle.serde_json.specs.Data.{Data, null, boolean, number, string, array, object, Items, no_items, item, Members, no_members, member}
 use Rattle.serde_json.specs.Events.{items_len}
 use Rattle.serde_json.specs.Find.{as_array, as_object, get, get_item}
 use Rattle.oci_json_model.specs.Means.{is_object}
 use Rattle.oci_schema_walks.specs.Places.{under_name, under_index}
-use Rattle.oci_schema_walks.specs.Faults.{Want, is_of_kind, other_value, a_member, no_second, Told}
+use Rattle.oci_schema_walks.specs.Violations.{Expectation, is_of_kind, a_value, a_member, no_alias, Report}
 
 -- one step into a value: to the member of this name, or to the item at this index
 pub data Step : Type 0 where
@@ -39,24 +39,24 @@ Goes (to_item i ∷ way) d part = (c : Data) × HasItem d i c × Goes way c part
 abbrev pub LeadsTo : Data → List ℕ → Data → Type 0
 LeadsTo d at part = (way : List Step) × (spelled [] way ≡ at) × Goes way d part
 
--- the place is that of a member of this name, in an object that stands in the value
+-- the place is that of a member of this name, in an object that is a part of the value
 abbrev pub IsPlaceIn : Data → List ℕ → List ℕ → Data → Type 0
 IsPlaceIn d at name outer = (holder : List ℕ) × (under_name holder name ≡ at) × LeadsTo d holder outer × (is_object outer ≡ true)
 
--- what is told of a place holds there
-abbrev pub HoldsAt : Data → List ℕ → Want → Type 0
--- a part stands there that is not what is wanted
-HoldsAt d at (other_value k) = (part : Data) × LeadsTo d at part × (is_of_kind k part ≡ false)
--- no member stands there
+-- what is reported of a place is so
+abbrev pub HoldsAt : Data → List ℕ → Expectation → Type 0
+-- there is a part, and it is not of the expected kind
+HoldsAt d at (a_value k) = (part : Data) × LeadsTo d at part × (is_of_kind k part ≡ false)
+-- there is no member
 HoldsAt d at (a_member k) = (name : List ℕ) × (outer : Data) × IsPlaceIn d at name outer × (get name outer ≡ None)
--- a member stands there, and one of the second name beside it
-HoldsAt d at (no_second second) =
-    (name : List ℕ) × (outer : Data) × IsPlaceIn d at name outer × (is_some (get name outer) ≡ true) × (is_some (get second outer) ≡ true)
+-- there is a member, and one of the alias beside it
+HoldsAt d at (no_alias alias) =
+    (name : List ℕ) × (outer : Data) × IsPlaceIn d at name outer × (is_some (get name outer) ≡ true) × (is_some (get alias outer) ≡ true)
 
-abbrev pub IsSo : Data → Told → Type 0
+abbrev pub IsSo : Data → Report → Type 0
 IsSo d x = HoldsAt d x.0 x.1
 
--- no name stands twice in an object, and each item has an index of 64 bits
+-- no object has a name twice, and each item has an index of 64 bits
 abbrev mutual
   pub IsOrderly : Data → Type 0
   IsOrderly null = ⊤

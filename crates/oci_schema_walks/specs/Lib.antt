@@ -1,9 +1,8 @@
 pub mod Allows
-pub mod Conformed
-pub mod Faults
 pub mod Given
 pub mod Leads
 pub mod Normal
+pub mod Normalized
 pub mod Places
 pub mod Plain
-pub mod Processors
+pub mod Violations

@@ -1,206 +1,247 @@
-//! All that a form refuses in a value.
+//! All violations of a schema by a value.
 ghost use Rattle.std.specs.Prelude.{◌≡◌, ◌∷◌, ◌++◌, [], None, map, option_map, OnOk};
 ghost use Rattle.serde_json.specs.View.{view, items_view, members_view};
-ghost use Rattle.oci_schema_walks.specs.Faults.{told, faults as all_faults, each_faults, each_member_faults, rows_faults, listed_faults, member_faults, want_of, kind_of, other_value, no_second};
+ghost use Rattle.oci_schema_types.specs.Shapes.{scalar_shape, part_shape, schema_shape, presence_of, members_in};
 ghost use Rattle.oci_schema_walks.specs.Places.{under_name as under};
-ghost use Rattle.oci_schema_types.specs.Shapes.{shape_of, scalar_shape, presence_of, rows_of};
+ghost use Rattle.oci_schema_walks.specs.Violations.{reported, violations as all_violations, each_violations, each_member_violations, rows_violations, known_violations, member_violations, expectation_of, value_kind, a_value, no_alias};
 
-use crate::leaf::scalar_allows;
-use crate::member::lets_null;
+use crate::member::is_null_absent;
 use crate::place::{under_index, under_name};
-use crate::{Expected, Fault, Form, Scalar, Presence, Row, Wanted};
+use crate::scalar::scalar_allows;
+use crate::violation::expected_kind;
+use crate::{Expected, Kind, Violation};
+use oci_schema_types::{Member, Part, Presence, Records, Scalar, Schema};
 use serde_json::{Map, Value};
 use std::alloc::{AllocError, Global};
 
-fn push(at: &str, wanted: Wanted, found: &mut Vec<Fault>, alloc: Global) -> Result<(), AllocError>
-    ensures { OnOk result (map told found.new.items ≡ map told found.old.items ++ (at.now, want_of wanted) ∷ []) }
+fn push(
+    at: &str,
+    expected: Expected,
+    found: &mut Vec<Violation>,
+    alloc: Global,
+) -> Result<(), AllocError>
+    ensures { OnOk result (map reported found.new.items ≡ map reported found.old.items ++ (at.now, expectation_of expected) ∷ []) }
 {
     let pointer = String::from_str(alloc, at)?;
-    found.push(Fault { pointer, wanted })?;
+    found.push(Violation { pointer, expected })?;
     Ok(())
 }
 
-/// Lists that such a value was wanted, in place of the one that stands there.
-fn refuse(
-    form: &Form<'_>,
-    at: &str,
-    found: &mut Vec<Fault>,
-    alloc: Global,
-) -> Result<(), AllocError>
-    ensures { OnOk result (map told found.new.items ≡ map told found.old.items ++ (at.now, other_value (kind_of (shape_of form.now))) ∷ []) }
+/// Adds that a value of this kind is expected at this place.
+fn reject(kind: Kind, at: &str, found: &mut Vec<Violation>, alloc: Global) -> Result<(), AllocError>
+    ensures { OnOk result (map reported found.new.items ≡ map reported found.old.items ++ (at.now, a_value (value_kind kind)) ∷ []) }
 {
-    push(at, Wanted::Value(form.expected()), found, alloc)
+    push(at, Expected::Value(kind), found, alloc)
 }
 
-fn add_leaf(
-    leaf: &Scalar,
+fn add_scalar(
+    scalar: &Scalar,
     value: &Value,
     at: &str,
-    found: &mut Vec<Fault>,
+    found: &mut Vec<Violation>,
     alloc: Global,
 ) -> Result<(), AllocError>
-    ensures { OnOk result (map told found.new.items ≡ map told found.old.items ++ all_faults (scalar_shape leaf.now) at.now (view value.now)) }
+    ensures { OnOk result (map reported found.new.items ≡ map reported found.old.items ++ all_violations (scalar_shape scalar.now) at.now (view value.now)) }
 {
-    if scalar_allows(leaf, value) {
+    if scalar_allows(scalar, value) {
         return Ok(());
     }
-    push(at, Wanted::Value(Expected::Scalar(*leaf)), found, alloc)
+    reject(Kind::Scalar(*scalar), at, found, alloc)
 }
 
-/// Adds all that the form refuses in the value which stands at this place, in the order of the table.
-#[cycle(faults)]
-pub fn add_faults(
-    form: &Form<'_>,
+/// Adds all violations of the schema by the value at this place, in the order of the schema's members.
+#[cycle(violations)]
+pub fn add_violations<T: Records>(
+    records: &T,
+    schema: &Schema,
     value: &Value,
     at: &str,
-    found: &mut Vec<Fault>,
+    found: &mut Vec<Violation>,
     alloc: Global,
 ) -> Result<(), AllocError>
-    ensures { OnOk result (map told found.new.items ≡ map told found.old.items ++ all_faults (shape_of form.now) at.now (view value.now)) }
+    ensures { OnOk result (map reported found.new.items ≡ map reported found.old.items ++ all_violations (schema_shape (T.shape_at records.now) schema.now) at.now (view value.now)) }
 {
-    match form {
-        Form::Scalar(leaf) => add_leaf(leaf, value, at, found, alloc),
-        Form::List(inner) => match value.as_array() {
-            Some(items) => add_items(inner, items, at, found, alloc),
-            None => refuse(form, at, found, alloc),
+    match schema {
+        Schema::One(part) => add_part(records, part, value, at, found, alloc),
+        Schema::List(part) => match value.as_array() {
+            Some(items) => add_items(records, part, items, at, found, alloc),
+            None => reject(Kind::Array, at, found, alloc),
         },
-        Form::Map(inner) => match value.as_object() {
-            Some(members) => add_members(inner, members, at, found, alloc),
-            None => refuse(form, at, found, alloc),
+        Schema::Map(part) => match value.as_object() {
+            Some(entries) => add_entries(records, part, entries, at, found, alloc),
+            None => reject(Kind::Object, at, found, alloc),
         },
-        Form::Record(_, rows) => {
-            if value.is_object() {
-                add_rows(rows, value, at, found, alloc)
-            } else {
-                refuse(form, at, found, alloc)
-            }
-        }
     }
 }
 
-#[cycle(faults)]
-fn add_items(
-    form: &Form<'_>,
-    items: &Vec<Value>,
+#[cycle(violations)]
+fn add_part<T: Records>(
+    records: &T,
+    part: &Part,
+    value: &Value,
     at: &str,
-    found: &mut Vec<Fault>,
+    found: &mut Vec<Violation>,
     alloc: Global,
 ) -> Result<(), AllocError>
-    ensures { OnOk result (map told found.new.items ≡ map told found.old.items ++ each_faults (all_faults (shape_of form.now)) at.now 0 (items_view items.now.items)) }
+    ensures { OnOk result (map reported found.new.items ≡ map reported found.old.items ++ all_violations (part_shape (T.shape_at records.now) part.now) at.now (view value.now)) }
+{
+    match part {
+        Part::Scalar(scalar) => add_scalar(scalar, value, at, found, alloc),
+        Part::Record(place) => add_record(records, *place, value, at, found, alloc),
+    }
+}
+
+#[cycle(violations)]
+fn add_record<T: Records>(
+    records: &T,
+    place: usize,
+    value: &Value,
+    at: &str,
+    found: &mut Vec<Violation>,
+    alloc: Global,
+) -> Result<(), AllocError>
+    ensures { OnOk result (map reported found.new.items ≡ map reported found.old.items ++ all_violations (T.shape_at records.now place) at.now (view value.now)) }
+{
+    let record = records.record(place);
+    if value.is_object() {
+        add_members(records, record.members, value, at, found, alloc)
+    } else {
+        reject(Kind::Object, at, found, alloc)
+    }
+}
+
+#[cycle(violations)]
+fn add_items<T: Records>(
+    records: &T,
+    part: &Part,
+    items: &Vec<Value>,
+    at: &str,
+    found: &mut Vec<Violation>,
+    alloc: Global,
+) -> Result<(), AllocError>
+    ensures { OnOk result (map reported found.new.items ≡ map reported found.old.items ++ each_violations (all_violations (part_shape (T.shape_at records.now) part.now)) at.now 0 (items_view items.now.items)) }
 {
     for (index, item) in items.iter().enumerate() {
         let place = under_index(alloc, at, index)?;
-        add_faults(form, item, place.as_str(), found, alloc)?;
+        add_part(records, part, item, place.as_str(), found, alloc)?;
     }
     Ok(())
 }
 
-#[cycle(faults)]
-fn add_members(
-    form: &Form<'_>,
-    members: &Map<String, Value>,
+#[cycle(violations)]
+fn add_entries<T: Records>(
+    records: &T,
+    part: &Part,
+    entries: &Map<String, Value>,
     at: &str,
-    found: &mut Vec<Fault>,
+    found: &mut Vec<Violation>,
     alloc: Global,
 ) -> Result<(), AllocError>
-    ensures { OnOk result (map told found.new.items ≡ map told found.old.items ++ each_member_faults (all_faults (shape_of form.now)) at.now (members_view members.now.entries)) }
+    ensures { OnOk result (map reported found.new.items ≡ map reported found.old.items ++ each_member_violations (all_violations (part_shape (T.shape_at records.now) part.now)) at.now (members_view entries.now.entries)) }
 {
-    for (name, member) in members.iter() {
+    for (name, entry) in entries.iter() {
         let place = under_name(alloc, at, name.as_str())?;
-        add_faults(form, member, place.as_str(), found, alloc)?;
+        add_part(records, part, entry, place.as_str(), found, alloc)?;
     }
     Ok(())
 }
 
-#[cycle(faults)]
-fn add_rows(
-    rows: &[Row<'_>],
+#[cycle(violations)]
+fn add_members<T: Records>(
+    records: &T,
+    members: &[Member],
     value: &Value,
     at: &str,
-    found: &mut Vec<Fault>,
+    found: &mut Vec<Violation>,
     alloc: Global,
 ) -> Result<(), AllocError>
-    ensures { OnOk result (map told found.new.items ≡ map told found.old.items ++ rows_faults (rows_of rows.now) at.now (view value.now)) }
+    ensures { OnOk result (map reported found.new.items ≡ map reported found.old.items ++ rows_violations (members_in (T.shape_at records.now) members.now) at.now (view value.now)) }
 {
-    for row in rows {
-        add_row(row, value, at, found, alloc)?;
+    for member in members {
+        add_member(records, member, value, at, found, alloc)?;
     }
     Ok(())
 }
 
-#[cycle(faults)]
-fn add_row(
-    row: &Row<'_>,
+#[cycle(violations)]
+fn add_member<T: Records>(
+    records: &T,
+    member: &Member,
     value: &Value,
     at: &str,
-    found: &mut Vec<Fault>,
+    found: &mut Vec<Violation>,
     alloc: Global,
 ) -> Result<(), AllocError>
-    ensures { OnOk result (map told found.new.items ≡ map told found.old.items ++ listed_faults row.now at.now (view value.now)) }
+    ensures { OnOk result (map reported found.new.items ≡ map reported found.old.items ++ known_violations (T.shape_at records.now) member.now at.now (view value.now)) }
 {
-    let there = value.get(row.name);
-    let Some(second) = row.second else {
-        return add_member(row, row.name, there, at, found, alloc);
+    let there = value.get(member.name);
+    let Some(alias) = member.alias else {
+        return add_found(records, member, member.name, there, at, found, alloc);
     };
-    let other = value.get(second);
+    let other = value.get(alias);
     if other.is_none() {
-        add_member(row, row.name, there, at, found, alloc)
+        add_found(records, member, member.name, there, at, found, alloc)
     } else if there.is_none() {
-        add_member(row, second, other, at, found, alloc)
+        add_found(records, member, alias, other, at, found, alloc)
     } else {
-        add_second(row, second, at, found, alloc)
+        add_alias(member, alias, at, found, alloc)
     }
 }
 
-/// Lists that a member stands under both of its names.
-fn add_second(
-    row: &Row<'_>,
-    second: &'static str,
+/// Adds that a member is there under its name and its alias.
+fn add_alias(
+    member: &Member,
+    alias: &'static str,
     at: &str,
-    found: &mut Vec<Fault>,
+    found: &mut Vec<Violation>,
     alloc: Global,
 ) -> Result<(), AllocError>
-    ensures { OnOk result (map told found.new.items ≡ map told found.old.items ++ (under at.now row.now.name.now, no_second second.now) ∷ []) }
+    ensures { OnOk result (map reported found.new.items ≡ map reported found.old.items ++ (under at.now member.now.name.now, no_alias alias.now) ∷ []) }
 {
-    let place = under_name(alloc, at, row.name)?;
-    push(place.as_str(), Wanted::NoSecond(second), found, alloc)
+    let place = under_name(alloc, at, member.name)?;
+    push(place.as_str(), Expected::NoAlias(alias), found, alloc)
 }
 
-/// What is refused in a member at this name of it.
-#[cycle(faults)]
-fn add_member(
-    row: &Row<'_>,
+/// Adds the violations by what is found under this name of the member.
+#[cycle(violations)]
+fn add_found<T: Records>(
+    records: &T,
+    member: &Member,
     name: &'static str,
     there: Option<&Value>,
     at: &str,
-    found: &mut Vec<Fault>,
+    found: &mut Vec<Violation>,
     alloc: Global,
 ) -> Result<(), AllocError>
-    ensures { OnOk result (map told found.new.items ≡ map told found.old.items ++ member_faults (presence_of row.now.presence) (shape_of row.now.form.now) (all_faults (shape_of row.now.form.now)) (under at.now name.now) (option_map (λ v. view v.now) there.entry)) }
+    ensures { OnOk result (map reported found.new.items ≡ map reported found.old.items ++ member_violations (presence_of member.now.presence) (schema_shape (T.shape_at records.now) member.now.schema) (all_violations (schema_shape (T.shape_at records.now) member.now.schema)) (under at.now name.now) (option_map (λ v. view v.now) there.entry)) }
 {
     let place = under_name(alloc, at, name)?;
     match there {
-        None => add_absent(row, place.as_str(), found, alloc),
+        None => add_missing(records, member, place.as_str(), found, alloc),
         Some(value) => {
-            if value.is_null() && lets_null(&row.presence) {
+            if value.is_null() && is_null_absent(&member.presence) {
                 return Ok(());
             }
-            add_faults(row.form, value, place.as_str(), found, alloc)
+            add_violations(records, &member.schema, value, place.as_str(), found, alloc)
         }
     }
 }
 
-/// What is refused where a member is absent.
-fn add_absent(
-    row: &Row<'_>,
+/// Adds the violation where a member is missing, if it is required.
+fn add_missing<T: Records>(
+    records: &T,
+    member: &Member,
     at: &str,
-    found: &mut Vec<Fault>,
+    found: &mut Vec<Violation>,
     alloc: Global,
 ) -> Result<(), AllocError>
-    ensures { OnOk result (map told found.new.items ≡ map told found.old.items ++ member_faults (presence_of row.now.presence) (shape_of row.now.form.now) (all_faults (shape_of row.now.form.now)) at.now None) }
+    ensures { OnOk result (map reported found.new.items ≡ map reported found.old.items ++ member_violations (presence_of member.now.presence) (schema_shape (T.shape_at records.now) member.now.schema) (all_violations (schema_shape (T.shape_at records.now) member.now.schema)) at.now None) }
 {
-    match row.presence {
-        Presence::Required => push(at, Wanted::Member(row.form.expected()), found, alloc),
+    match member.presence {
+        Presence::Required => {
+            let kind = expected_kind(records, &member.schema);
+            push(at, Expected::Member(kind), found, alloc)
+        }
         _ => Ok(()),
     }
 }

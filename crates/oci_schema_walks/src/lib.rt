@@ -1,18 +1,18 @@
-//! A record's table as a value: the shape that a form stands for, and what is done by walks through it: whether a form allows a
-//! value, all that it refuses in it, and the value's normal form.
+//! Walks through a JSON value by a schema and its table of records: whether the value is valid, its violations, and its normal form.
 #![tactic(auto)]
 
 mod absent;
 pub mod check;
-pub mod conform;
-pub mod fault;
 pub mod find;
-pub mod kept;
+mod kept;
 pub mod laws;
-pub mod leaf;
 mod member;
 mod normal;
+pub mod normal_value;
 pub mod place;
-pub mod plain;
+mod plain;
+pub mod scalar;
+pub mod violation;
 
-pub use fault::{Expected, Fault, Wanted};
+pub use check::is_valid;
+pub use violation::{Expected, Kind, Violation};

@@ -1,4 +1,4 @@
-//! What is given for a member, and what is written for it.
+//! The value of a member as it is found, and as it is written.
 ghost use Rattle.std.specs.Prelude.{◌≡◌, option_map, option_and_then, IfErr, OnOk};
 ghost use Rattle.serde_json.specs.View.{view, members_view};
 ghost use Rattle.oci_text_base.specs.Refused.{IsSchema, IsMemoryOrSchema};
@@ -8,25 +8,25 @@ ghost use Rattle.oci_json_model.specs.Value.{with_member, member_value};
 ghost use Rattle.oci_schema_types.specs.Shapes.{presence_of};
 ghost use Rattle.oci_schema_walks.specs.Given.{may_be_null, given as what_is_given, written as what_is_written};
 
-use crate::Presence;
 use crate::normal::unless_no_items;
+use oci_schema_types::Presence;
 use oci_text_base::Result;
 use serde_json::{Map, Value};
 use std::alloc::Global;
 
-/// What stands, unless it is null that counts as nothing.
+/// The found value; none if it is null and null counts as absent.
 pub fn given(presence: &Presence, found: Option<Value>) -> Option<Value>
     ensures { option_map view result ≡ what_is_given (presence_of presence.now) (option_map view found) }
 {
-    if lets_null(presence) {
+    if is_null_absent(presence) {
         unless_null(found)
     } else {
         found
     }
 }
 
-/// Whether null counts as nothing.
-pub fn lets_null(presence: &Presence) -> bool
+/// Whether null counts as absent.
+pub fn is_null_absent(presence: &Presence) -> bool
     ensures { result ≡ may_be_null (presence_of presence.now) }
 {
     match presence {
@@ -35,7 +35,7 @@ pub fn lets_null(presence: &Presence) -> bool
     }
 }
 
-/// What stands, unless it is null.
+/// The found value, unless it is null.
 fn unless_null(found: Option<Value>) -> Option<Value>
     ensures { option_map view result ≡ option_and_then without_null (option_map view found) }
 {
@@ -45,7 +45,7 @@ fn unless_null(found: Option<Value>) -> Option<Value>
     }
 }
 
-/// What is written for a member that is this.
+/// What is written for a member with this value; none if it is omitted.
 pub fn written(presence: &Presence, member: Value) -> Option<Value>
     ensures { option_map view result ≡ what_is_written (presence_of presence.now) (view member) }
 {
@@ -55,7 +55,7 @@ pub fn written(presence: &Presence, member: Value) -> Option<Value>
     }
 }
 
-/// What is written for a member that is none.
+/// What is written for a member with no value.
 pub fn written_for_none(presence: &Presence) -> Option<Value>
     ensures { (v : _) → option_map view result ≡ member_value (presence_of presence.now) v empty }
 {
@@ -65,7 +65,7 @@ pub fn written_for_none(presence: &Presence) -> Option<Value>
     }
 }
 
-/// Puts a member under a name, if there is one.
+/// Puts a member of this name into the object, if it has a value.
 #[tactic(auto, using(oci_json_model::proofs::Writers::inserted))]
 pub fn put_member(
     members: &mut Map<String, Value>,

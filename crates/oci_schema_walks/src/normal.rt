@@ -1,4 +1,4 @@
-//! The normal form of a value with no listed parts.
+//! The normal form of a scalar.
 ghost use Rattle.std.specs.Prelude.{◌≡◌, true, false, IfOk, IfErr, IfSome, option_map};
 ghost use Rattle.serde_json.specs.Data.{number};
 ghost use Rattle.serde_json.specs.Find.{of_integer};
@@ -7,32 +7,31 @@ ghost use Rattle.oci_text_base.specs.Refused.{IsSchema, IsMemoryOrSchema};
 ghost use Rattle.oci_process_names.specs.Capability.{capability_table};
 ghost use Rattle.oci_json_model.specs.Shape.{cap_set, key_set, detail};
 ghost use Rattle.oci_json_model.specs.Means.{as_whole};
-ghost use Rattle.oci_schema_walks.specs.Conformed.{accepts, conformed, unless_no_items as without_empty};
+ghost use Rattle.oci_schema_walks.specs.Normalized.{accepts, normalized, unless_no_items as without_empty};
 ghost use Rattle.oci_schema_types.specs.Shapes.{scalar_shape};
 
-use crate::Scalar;
 use crate::kept::has_no_items;
-use crate::leaf::scalar_allows;
+use crate::scalar::scalar_allows;
 use oci_json_members::{Detail, Keys, OciKind};
 use oci_json_model::fault::refused;
 use oci_process_names::Caps;
+use oci_schema_types::Scalar;
 use oci_text_base::Result;
 use serde_json::Value;
 use std::alloc::Global;
 
-/// The normal form of a value with no listed parts; `SerDe(Schema)` where the leaf does not allow the value, and where a
-/// detail nests deeper than a text may.
-pub fn conform_leaf(leaf: &Scalar, value: Value, alloc: Global) -> Result<Value>
-    ensures ok { IfOk result (λ v. (accepts (scalar_shape leaf.now) (view value) ≡ true) × (view v ≡ conformed (scalar_shape leaf.now) (view value))) }
-    ensures err { IfErr result (λ e. IsSchema e → accepts (scalar_shape leaf.now) (view value) ≡ false) }
+/// The normal form of a scalar; `SerDe(Schema)` if the schema rejects the value, or if a detail nests deeper than a JSON text may.
+pub fn normal_scalar(scalar: &Scalar, value: Value, alloc: Global) -> Result<Value>
+    ensures ok { IfOk result (λ v. (accepts (scalar_shape scalar.now) (view value) ≡ true) × (view v ≡ normalized (scalar_shape scalar.now) (view value))) }
+    ensures err { IfErr result (λ e. IsSchema e → accepts (scalar_shape scalar.now) (view value) ≡ false) }
     ensures kind { IfErr result IsMemoryOrSchema }
 {
-    match leaf {
-        Scalar::Capabilities => conform_capabilities(&value, alloc),
-        Scalar::Keys => conform_keys(value, alloc),
-        Scalar::Detail => conform_detail(&value, alloc),
+    match scalar {
+        Scalar::Capabilities => normal_capabilities(&value, alloc),
+        Scalar::Keys => normal_keys(value, alloc),
+        Scalar::Detail => normal_detail(&value, alloc),
         Scalar::Integer(_, _) => {
-            if scalar_allows(leaf, &value) {
+            if scalar_allows(scalar, &value) {
                 Ok(normal_number(value))
             } else {
                 Err(refused("", ""))
@@ -47,7 +46,7 @@ pub fn conform_leaf(leaf: &Scalar, value: Value, alloc: Global) -> Result<Value>
         | Scalar::Digest
         | Scalar::CpuList
         | Scalar::FreeValues => {
-            if scalar_allows(leaf, &value) {
+            if scalar_allows(scalar, &value) {
                 Ok(value)
             } else {
                 Err(refused("", ""))
@@ -56,7 +55,7 @@ pub fn conform_leaf(leaf: &Scalar, value: Value, alloc: Global) -> Result<Value>
     }
 }
 
-/// A whole number as it is written.
+/// An integer as it is written.
 fn normal_number(value: Value) -> Value
     ensures { IfSome (as_whole (view value)) (λ z. view result ≡ number (of_integer z)) }
 {
@@ -69,8 +68,8 @@ fn normal_number(value: Value) -> Value
     }
 }
 
-fn conform_capabilities(value: &Value, alloc: Global) -> Result<Value>
-    ensures ok { IfOk result (λ v. (accepts (cap_set capability_table) (view value.now) ≡ true) × (view v ≡ conformed (cap_set capability_table) (view value.now))) }
+fn normal_capabilities(value: &Value, alloc: Global) -> Result<Value>
+    ensures ok { IfOk result (λ v. (accepts (cap_set capability_table) (view value.now) ≡ true) × (view v ≡ normalized (cap_set capability_table) (view value.now))) }
     ensures err { IfErr result (λ e. IsSchema e → accepts (cap_set capability_table) (view value.now) ≡ false) }
     ensures kind { IfErr result IsMemoryOrSchema }
 {
@@ -78,8 +77,8 @@ fn conform_capabilities(value: &Value, alloc: Global) -> Result<Value>
     Caps::write(&set, alloc)
 }
 
-fn conform_keys(value: Value, alloc: Global) -> Result<Value>
-    ensures ok { IfOk result (λ v. (accepts key_set (view value) ≡ true) × (view v ≡ conformed key_set (view value))) }
+fn normal_keys(value: Value, alloc: Global) -> Result<Value>
+    ensures ok { IfOk result (λ v. (accepts key_set (view value) ≡ true) × (view v ≡ normalized key_set (view value))) }
     ensures err { IfErr result (λ e. IsSchema e → accepts key_set (view value) ≡ false) }
     ensures kind { IfErr result IsMemoryOrSchema }
 {
@@ -87,8 +86,8 @@ fn conform_keys(value: Value, alloc: Global) -> Result<Value>
     Keys::write(&names, alloc)
 }
 
-fn conform_detail(value: &Value, alloc: Global) -> Result<Value>
-    ensures ok { IfOk result (λ v. (accepts detail (view value.now) ≡ true) × (view v ≡ conformed detail (view value.now))) }
+fn normal_detail(value: &Value, alloc: Global) -> Result<Value>
+    ensures ok { IfOk result (λ v. (accepts detail (view value.now) ≡ true) × (view v ≡ normalized detail (view value.now))) }
     ensures err { IfErr result (λ e. IsSchema e → accepts detail (view value.now) ≡ false) }
     ensures kind { IfErr result IsMemoryOrSchema }
 {
@@ -96,7 +95,7 @@ fn conform_detail(value: &Value, alloc: Global) -> Result<Value>
     Detail::write(&text, alloc)
 }
 
-/// The value, unless it is a list with no items.
+/// The value, unless it is an array with no items.
 pub fn unless_no_items(value: Value) -> Option<Value>
     ensures { option_map view result ≡ without_empty (view value) }
 {

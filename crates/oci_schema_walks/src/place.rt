@@ -20,7 +20,7 @@ pub fn under_index(alloc: Global, at: &str, index: usize) -> Result<String, Allo
     format!(in alloc; "{at}/{index}")
 }
 
-/// The text, with another in place of each such mark.
+/// The string, with another in place of each such character.
 fn replaced(alloc: Global, text: &str, mark: char, by: &str) -> Result<String, AllocError>
     requires { mark < 128 }
     ensures { IfOk result (λ t. string_bytes t ≡ places.replaced mark by.now text.now) }

@@ -1,4 +1,4 @@
-//! Whether a value is read again from its own compact text.
+//! Whether a value is parsed again from its own compact text.
 ghost use Rattle.std.specs.Prelude.{◌≡◌, IsTrue, false};
 ghost use Rattle.serde_json.specs.Find.{is_float};
 ghost use Rattle.serde_json.specs.View.{number_view, view, items_view, members_view};
@@ -7,7 +7,7 @@ ghost use Rattle.oci_schema_walks.specs.Plain.{IsPlain, ArePlain, HoldPlain};
 
 use serde_json::{Map, Number, Value};
 
-/// Whether the value holds 64-bit whole numbers alone and nests at most so deep.
+/// Whether each number in the value is a 64-bit integer, and it nests at most so deep.
 #[cycle(plain)]
 pub fn is_plain(value: &Value, room: usize) -> bool
     ensures { IsTrue result → IsPlain room (view value.now) }
@@ -45,7 +45,7 @@ fn hold_plain(members: &Map<String, Value>, room: usize) -> bool
     true
 }
 
-/// Whether a number is a 64-bit whole one.
+/// Whether a number is a 64-bit integer.
 fn is_held(number: &Number) -> bool
     ensures held { IsTrue result → IsHeld (number_view number.now) }
     ensures whole { IsTrue result → is_float (number_view number.now) ≡ false }

@@ -111,6 +111,7 @@ pub use Rattle.oci_process.specs.LinuxIOPriority
 pub use Rattle.oci_process.specs.PosixRlimit
 pub use Rattle.oci_process.specs.Process
 pub use Rattle.oci_process.specs.ProcessDefaults
+pub use Rattle.oci_process.specs.RefusedAffinities
 pub use Rattle.oci_process.specs.Scheduler
 pub use Rattle.oci_process.specs.User
 pub use Rattle.oci_process_names.specs.Affinities
@@ -154,6 +155,89 @@ pub use Rattle.oci_schema_types.specs.Shapes
 pub use Rattle.oci_schema_walks.specs.Normalized
 pub use Rattle.oci_schema_walks.specs.Violations
 pub use Rattle.oci_schemas.specs.Table
+pub use Rattle.oci_shapes.specs.Apparmor as ApparmorShape
+pub use Rattle.oci_shapes.specs.ArtifactManifest as ArtifactManifestShape
+pub use Rattle.oci_shapes.specs.Box as BoxShape
+pub use Rattle.oci_shapes.specs.Cgroup as CgroupShape
+pub use Rattle.oci_shapes.specs.Config as ConfigShape
+pub use Rattle.oci_shapes.specs.ContainerProcessState as ContainerProcessStateShape
+pub use Rattle.oci_shapes.specs.Descriptor as DescriptorShape
+pub use Rattle.oci_shapes.specs.ErrorInfo as ErrorInfoShape
+pub use Rattle.oci_shapes.specs.ErrorResponse as ErrorResponseShape
+pub use Rattle.oci_shapes.specs.ExecCPUAffinity as ExecCPUAffinityShape
+pub use Rattle.oci_shapes.specs.Features as FeaturesShape
+pub use Rattle.oci_shapes.specs.History as HistoryShape
+pub use Rattle.oci_shapes.specs.Hook as HookShape
+pub use Rattle.oci_shapes.specs.Hooks as HooksShape
+pub use Rattle.oci_shapes.specs.IDMap as IDMapShape
+pub use Rattle.oci_shapes.specs.ImageConfiguration as ImageConfigurationShape
+pub use Rattle.oci_shapes.specs.ImageIndex as ImageIndexShape
+pub use Rattle.oci_shapes.specs.ImageManifest as ImageManifestShape
+pub use Rattle.oci_shapes.specs.IntelRdt as IntelRdtShape
+pub use Rattle.oci_shapes.specs.Linux as LinuxShape
+pub use Rattle.oci_shapes.specs.LinuxBlockIo as LinuxBlockIoShape
+pub use Rattle.oci_shapes.specs.LinuxCapabilities as LinuxCapabilitiesShape
+pub use Rattle.oci_shapes.specs.LinuxCpu as LinuxCpuShape
+pub use Rattle.oci_shapes.specs.LinuxDevice as LinuxDeviceShape
+pub use Rattle.oci_shapes.specs.LinuxDeviceCgroup as LinuxDeviceCgroupShape
+pub use Rattle.oci_shapes.specs.LinuxFeature as LinuxFeatureShape
+pub use Rattle.oci_shapes.specs.LinuxHugepageLimit as LinuxHugepageLimitShape
+pub use Rattle.oci_shapes.specs.LinuxIOPriority as LinuxIOPriorityShape
+pub use Rattle.oci_shapes.specs.LinuxIdMapping as LinuxIdMappingShape
+pub use Rattle.oci_shapes.specs.LinuxIntelRdt as LinuxIntelRdtShape
+pub use Rattle.oci_shapes.specs.LinuxInterfacePriority as LinuxInterfacePriorityShape
+pub use Rattle.oci_shapes.specs.LinuxMemory as LinuxMemoryShape
+pub use Rattle.oci_shapes.specs.LinuxMemoryPolicy as LinuxMemoryPolicyShape
+pub use Rattle.oci_shapes.specs.LinuxNamespace as LinuxNamespaceShape
+pub use Rattle.oci_shapes.specs.LinuxNetDevice as LinuxNetDeviceShape
+pub use Rattle.oci_shapes.specs.LinuxNetwork as LinuxNetworkShape
+pub use Rattle.oci_shapes.specs.LinuxPersonality as LinuxPersonalityShape
+pub use Rattle.oci_shapes.specs.LinuxPids as LinuxPidsShape
+pub use Rattle.oci_shapes.specs.LinuxRdma as LinuxRdmaShape
+pub use Rattle.oci_shapes.specs.LinuxResources as LinuxResourcesShape
+pub use Rattle.oci_shapes.specs.LinuxSeccomp as LinuxSeccompShape
+pub use Rattle.oci_shapes.specs.LinuxSeccompArg as LinuxSeccompArgShape
+pub use Rattle.oci_shapes.specs.LinuxSyscall as LinuxSyscallShape
+pub use Rattle.oci_shapes.specs.LinuxThrottleDevice as LinuxThrottleDeviceShape
+pub use Rattle.oci_shapes.specs.LinuxTimeOffset as LinuxTimeOffsetShape
+pub use Rattle.oci_shapes.specs.LinuxWeightDevice as LinuxWeightDeviceShape
+pub use Rattle.oci_shapes.specs.MemoryPolicy as MemoryPolicyShape
+pub use Rattle.oci_shapes.specs.Mount as MountShape
+pub use Rattle.oci_shapes.specs.MountExtensions as MountExtensionsShape
+pub use Rattle.oci_shapes.specs.NetDevices as NetDevicesShape
+pub use Rattle.oci_shapes.specs.OciLayout as OciLayoutShape
+pub use Rattle.oci_shapes.specs.Platform as PlatformShape
+pub use Rattle.oci_shapes.specs.PosixRlimit as PosixRlimitShape
+pub use Rattle.oci_shapes.specs.Process as ProcessShape
+pub use Rattle.oci_shapes.specs.Reference as ReferenceShape
+pub use Rattle.oci_shapes.specs.RepositoryList as RepositoryListShape
+pub use Rattle.oci_shapes.specs.Root as RootShape
+pub use Rattle.oci_shapes.specs.RootFs as RootFsShape
+pub use Rattle.oci_shapes.specs.Scheduler as SchedulerShape
+pub use Rattle.oci_shapes.specs.Seccomp as SeccompShape
+pub use Rattle.oci_shapes.specs.Selinux as SelinuxShape
+pub use Rattle.oci_shapes.specs.Solaris as SolarisShape
+pub use Rattle.oci_shapes.specs.SolarisAnet as SolarisAnetShape
+pub use Rattle.oci_shapes.specs.SolarisCappedCPU as SolarisCappedCPUShape
+pub use Rattle.oci_shapes.specs.SolarisCappedMemory as SolarisCappedMemoryShape
+pub use Rattle.oci_shapes.specs.Spec as SpecShape
+pub use Rattle.oci_shapes.specs.State as StateShape
+pub use Rattle.oci_shapes.specs.TagList as TagListShape
+pub use Rattle.oci_shapes.specs.User as UserShape
+pub use Rattle.oci_shapes.specs.VM as VMShape
+pub use Rattle.oci_shapes.specs.VMHypervisor as VMHypervisorShape
+pub use Rattle.oci_shapes.specs.VMImage as VMImageShape
+pub use Rattle.oci_shapes.specs.VMKernel as VMKernelShape
+pub use Rattle.oci_shapes.specs.Windows as WindowsShape
+pub use Rattle.oci_shapes.specs.WindowsCPUResources as WindowsCPUResourcesShape
+pub use Rattle.oci_shapes.specs.WindowsDevice as WindowsDeviceShape
+pub use Rattle.oci_shapes.specs.WindowsHyperV as WindowsHyperVShape
+pub use Rattle.oci_shapes.specs.WindowsMemoryResources as WindowsMemoryResourcesShape
+pub use Rattle.oci_shapes.specs.WindowsNetwork as WindowsNetworkShape
+pub use Rattle.oci_shapes.specs.WindowsResources as WindowsResourcesShape
+pub use Rattle.oci_shapes.specs.WindowsStorageResources as WindowsStorageResourcesShape
+pub use Rattle.oci_shapes.specs.ZOS as ZOSShape
+pub use Rattle.oci_shapes.specs.ZOSNamespace as ZOSNamespaceShape
 pub use Rattle.oci_text.specs.Algorithms
 pub use Rattle.oci_text.specs.Arch
 pub use Rattle.oci_text.specs.CutDigests

@@ -10,8 +10,8 @@ use oci_text_base::{OciSpecError, Result};
 use std::alloc::{AllocError, Global};
 
 impl ExecCPUAffinityBuilder {
-    /// The document of the fields that were set. `Other` names the first text, `initial` before `cpu_affinity_final`, that
-    /// is no list of processors.
+    /// Returns the record of the fields that were set. Fails with `Other`, which names the first text that is no CPU list, `initial`
+    /// before `cpu_affinity_final`, and with `Memory` if out of memory.
     pub fn build(self, alloc: Global) -> Result<ExecCPUAffinity>
         ensures built { IfOk result (λ x. self ≡ record { initial = x.initial; cpu_affinity_final = x.cpu_affinity_final }) }
         ensures lists { IfOk result (λ x. AreLists self.initial self.cpu_affinity_final) }

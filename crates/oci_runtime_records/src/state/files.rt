@@ -16,7 +16,8 @@ impl State {
         oci_json_io::from_file(rt, alloc, path)
     }
 
-    /// Writes the compact text to a file, which is created or emptied once the text is made. Each state is writable.
+    /// Serializes the state to a file as compact JSON. The file is created or truncated once the text is made, so it is unchanged if the
+    /// error is `Memory`. Fails with `Io` if it cannot be opened or written.
     pub fn save<R: Files>(&self, rt: &R, alloc: Global, path: &str) -> Result<()>
         ensures kind { IfErr result IsMemoryOrIo }
     {

@@ -11,16 +11,17 @@ use std::alloc::Global;
 use std::rt::Files;
 
 impl Spec {
-    /// Reads the specification of a file, which the runtime opens: `Io` where it can't be opened or read, `SerDe` where it
-    /// holds no JSON or no specification.
+    /// Reads a specification from a file. Fails with `Io` if it cannot be opened or read, with `SerDe(Json)` if it is not JSON, and with
+    /// `SerDe(Schema)` if it is no specification.
     pub fn load<R: Files>(rt: &R, alloc: Global, path: &str) -> Result<Spec>
         ensures kind { IfErr result IsMemorySerDeOrIo }
     {
         oci_json_io::from_file(rt, alloc, path)
     }
 
-    /// Writes the compact text to a file, which is created or emptied once the text is made; so the file is as it was after
-    /// `SerDe(Schema)`, where the document is not writable, and after `Memory`.
+    /// Serializes the specification to a file as compact JSON. The file is created or truncated once the text is made, so it is
+    /// unchanged if the error is `SerDe(Schema)`, for a specification that is not serializable, or `Memory`. Fails with `Io` if it
+    /// cannot be opened or written.
     pub fn save<R: Files>(&self, rt: &R, alloc: Global, path: &str) -> Result<()>
         ensures writable { OnOk result (Writable spec (spec_plain self.now)) }
         ensures err { IfErr result (λ e. IsSchema e → ¬ Writable spec (spec_plain self.now)) }

@@ -11,10 +11,9 @@ use oci_text_base::{OciSpecError, Result};
 use std::alloc::Global;
 
 impl Spec {
-    /// Replaces the root's path by what the resolver makes of it (runtime specification, "Configuration", "Root", `path`): it
-    /// is asked for an absolute path alone; else for the bundle, and then for the path behind its answer. A root that says
-    /// nothing of writing becomes writable. `Other` where there is no root, else the resolver's own refusal; after a refusal
-    /// the specification is as before.
+    /// Replaces the root's path by what the resolver makes of it (runtime specification, "Configuration", "Root", `path`): it is asked
+    /// once for an absolute path; else for the bundle, and then for the path joined to its result. An absent `readonly` becomes false.
+    /// Fails with `Other` if there is no root, and with the resolver's own error; the specification is unchanged after an error.
     pub fn canonicalize_rootfs<R: Answer, F: Fn(&str) -> R>(
         &mut self,
         alloc: Global,

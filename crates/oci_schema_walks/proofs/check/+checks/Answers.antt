@@ -1,6 +1,16 @@
-use Rattle.std.proofs.Common.{sym, ◌∙◌}
-use Rattle.oci_schema_walks.proofs.Tables.{record_allows}
+use Rattle.std.proofs.Common.{sym, ap, ◌∙◌, arith, option_map, Some}
+use Rattle.serde_json.specs.View.{view}
+use Rattle.oci_schema_walks.proofs.Sizes.{member_smaller}
 use Rattle.oci_schema_walks.proofs.check.+checks.Goals as goal
 
-pub check-returns-then-is_object : goal.check-returns-then-is_object
-check-returns-then-is_object t c = record_allows _ _ c.in-Record.rows _ _ c.in-Record.is (sym c.is_object.ensures ∙ c.if-is_object.true) c.check_rows.ensures
+pub check_member-check_found-requires : goal.check_member-check_found-requires
+check_member-check_found-requires g t c κs within =
+    (omega (arith, member_smaller c.args.member.now.name.now (view c.args.value.now) (option_map (λ v. view v.now) c.get-found.result) c.get-found.ensures), within)
+
+pub check_member-check_found-requires-in-None-get : goal.check_member-check_found-requires-in-None-get
+check_member-check_found-requires-in-None-get g t c κs within =
+    (omega (arith, member_smaller c.args.member.now.name.now (view c.args.value.now) (option_map (λ v. view v.now) c.get-found.result) c.get-found.ensures), within)
+
+pub check_member-check_found-requires-then-is_none : goal.check_member-check_found-requires-then-is_none
+check_member-check_found-requires-then-is_none g t c κs within =
+    (omega (arith, member_smaller c.in-Some.alias.now (view c.args.value.now) (Some (view c.in-Some-get.other.now)) (ap (option_map (λ v. view v.now)) (sym c.in-Some-get.is) ∙ c.get.ensures)), within)
