@@ -5,11 +5,13 @@
   source.py     a record's struct and its inherent impl; calls.py, accessors.py: long parts of it
   convert.py    its `impl OciRecord`: deserialization, serialization, copies
   builders.py   its builder
-  specs.py      its content, its default, what its mutable borrows promise
-  proofs.py     the answers that the search does not find
+  specs.py      its content, its default, what its mutable borrows promise, its equality
+  proofs.py     the proof answers that the search does not find
   shapes.py     the shapes of all records, in a crate below them
+  schemas.py    the schemas of all records, and the impls of `HasSchema`
+  imports.py    the imports of source files
   records_files.py  all of these files, by their paths
-  names.py      the model of closed names, read from tools/names/*.names, and all their files
-  name_source.py, name_specs.py  a closed name's type; its texts, and lemmas about them
+  names_model.py   the model of closed names, read from tools/names/*.names
+  name_source.py, name_specs.py, names.py  a closed name's type; its texts, and lemmas about them; all their files
   output.py     writes files, or compares them with the checkout
 """

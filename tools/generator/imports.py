@@ -5,8 +5,7 @@ from generator.text import called_in, used, uses
 JOINS = [f"try_join{n}" for n in range(2, 6)]
 # functions of `oci_json_members`: those that are called with types, and the others
 KIND_CALLS = ["copy_optional_as", "optional_as", "optional_as_owned", "write_optional_as"]
-MEMBER_CALLS = ["defaulted", "defaulted_owned", "nullable", "nullable_owned", "unless_empty", "unless_empty_owned", "write_nullable",
-                "write_unless_empty", "equal_optional_values"]
+MEMBER_CALLS = ["defaulted", "nullable", "unless_empty", "write_nullable", "write_unless_empty", "equal_optional_values"]
 # functions of `oci_json_model`
 MODEL_CALLS = ["copy_optional", "optional", "optional_either", "required", "write_optional", "write_required", "optional_owned",
                "required_owned", "optional_either_owned"]

@@ -31,8 +31,11 @@ def module_list(root, folder, generated):
     """The text of `Lib.antt`: what is generated into the folder, what is written there by hand, and what `tools/facades` re-exports."""
     names = {os.path.basename(path) for path in generated if os.path.dirname(path) == folder}
     here = os.path.join(root, folder)
-    names |= {name for name in os.listdir(here) if name.endswith(".antt") and not generated_by(os.path.join(here, name))}
+    found = os.listdir(here) if os.path.isdir(here) else []
+    names |= {name for name in found if name.endswith(".antt") and not generated_by(os.path.join(here, name))}
     out = "".join(f"pub mod {name[:-5]}\n" for name in sorted(names - {"Lib.antt"}))
+    if "Lib.antt" not in found:
+        return out
     with open(os.path.join(here, "Lib.antt"), encoding="utf-8") as file:
         return out + "".join(line for line in file if line.startswith("pub use "))
 

@@ -190,6 +190,8 @@ class Record:
             raise SystemExit(f"{self.book.path}: no such word: {word} {rest}")
 
     def fill_defaults(self):
+        if self.consuming and any(m.presence in "DNE" for m in self.members):
+            raise SystemExit(f"{self.book.path}: {self.name} is consuming, so its members have to be required or optional")
         for m in self.members:
             if m.field in self.defaults:
                 continue

@@ -2,7 +2,7 @@
 import re
 
 from generator.builders import PLAIN_TERMS
-from generator.convert import OF_KINDS, SAME_TERMS, same_term, same_terms
+from generator.convert import same_term, same_terms
 from generator.records import OPEN_NAMES, snake
 from generator.text import imported, used
 
