@@ -1,5 +1,5 @@
 -- That the bytes that a value was read from mean the document which the value means.
-use Rattle.std.proofs.Common.{◌≡◌, ℕ, List, Option, Some, None, Result, Ok, Err, inl, inr, IfSome, IfOk, IfErr}
+use Rattle.std.proofs.Common.{◌≡◌, ℕ, List, Option, Some, None, Result, Ok, Err, inl, inr, IfSome, IfOk}
 use Rattle.serde_json.specs.Data.{Data}
 use Rattle.serde_json.specs.View.{view}
 use Rattle.serde_json.specs.declared.value.Value.{Value}
@@ -8,7 +8,11 @@ use Rattle.oci_json_model.specs.Shape.{Shape}
 use Rattle.oci_json_model.specs.Means.{Means}
 use Rattle.oci_json_model.specs.Value.{value}
 use Rattle.oci_json_model.specs.Writable.{Writable}
-use Rattle.oci_json_io.specs.Engines.{MeansBytes, ReadsAs, IsNotNormalized}
+use Rattle.oci_text_base.specs.Refused.{IsIo}
+use Rattle.oci_text_base.specs.declared.error.OciSpecError.{OciSpecError}
+use Rattle.oci_text_base.specs.declared.error.OciSpecError.TheVariants.{Other, Io, SerDe, Builder, Memory}
+use Rattle.oci_json_io.specs.Engines.{MeansBytes, ReadsAs, IsNotNormalized, AppendsSome}
+use Rattle.oci_schema.specs.Normalizes.{Normalizes}
 use Rattle.oci_schema_walks.specs.Normalized.{HasNoNormalForm}
 
 pub bytes_mean : (s : Shape) (input : Option (List ℕ)) (d : Data) (p : Plain) → IfSome input (λ bytes. ReadsAs bytes d) → Means s d p → IfSome input (λ bytes. MeansBytes s bytes p)
@@ -27,7 +31,18 @@ not_normalized s None d read told = read
 not_normalized s (Some bytes) d read (inl refused) = inl (d, read, refused)
 not_normalized s (Some bytes) d read (inr means) = inr (means.0, (d, read, means.1), means.2)
 
--- what holds in any case holds after an error
-pub after_error : {A E P : Type 0} (Q : E → Type 0) (r : Result A E) → P → IfErr r (λ e. Q e → P)
-after_error Q (Ok x) p = tt
-after_error Q (Err e) p = λ q. p
+-- after a write that failed
+pub write_failed : {A : Type 0} (Writes : (List ℕ → Type 0) → Type 0) (s : Shape) (input old new : Option (List ℕ)) (e : OciSpecError) → IsIo e → Writes (AppendsSome old new)
+    → Normalizes {A = A} Writes s input old new (Err e)
+write_failed Writes s input old new (Io fault) is begun = record {
+  ok = tt;
+  json = λ h. absurd h;
+  schema = λ h. absurd h;
+  begun = λ h. inr begun;
+  unwritten = λ h. absurd (h tt);
+  kind = tt;
+}
+write_failed Writes s input old new (Other text) is begun = absurd is
+write_failed Writes s input old new (SerDe fault) is begun = absurd is
+write_failed Writes s input old new (Builder fault) is begun = absurd is
+write_failed Writes s input old new Memory is begun = absurd is

@@ -1,12 +1,12 @@
-use Rattle.std.proofs.Common.{ap, ◌∙◌, inr, subst}
+use Rattle.std.proofs.Common.{ap, ◌∙◌, subst}
+use Rattle.std.proofs.lemmas.Result.{err_from_is_err_and}
 use Rattle.std.specs.Io.KnownBytes.{Appends}
 use Rattle.serde_json.specs.View.{view}
 use Rattle.serde_json.specs.Written.{compact_text}
-use Rattle.oci_text_base.specs.Refused.{IsIo}
 use Rattle.oci_json_io.specs.Engines.{AppendsSome}
 use Rattle.oci_json_io.proofs.Texts.{none_in, read_back}
 use Rattle.oci_schema_types.specs.Shapes.{schema_shape}
-use Rattle.oci_schema.proofs.Means.{after_error}
+use Rattle.oci_schema.proofs.Means.{write_failed}
 use Rattle.oci_schema.proofs.compact.normalize.Goals as goal
 
 pub returns-in_err-write_text-clause-normalizes : goal.returns-in_err-write_text-clause-normalizes
@@ -15,16 +15,8 @@ returns-in_err-write_text-clause-normalizes g c =
     let whole = none_in (schema_shape (g.T.Records.shape_at c.args.records.now) c.args.schema.now) made.0 (view c.in_ok-normal.normal) made.3 made.2 in
     let old = g.W.Write.contents c.args.writer.now in
     let new = g.W.Write.contents c.write_text.new.writer in
-    let begun = after_error IsIo c.from_residual-in_err-write_text.result
-      (inr (made.0, made.1, subst (AppendsSome old new) (c.as_bytes.ensures.value ∙ c.in_ok-text.ensures.text whole ∙ ap compact_text made.3) c.in_err-write_text.ensures.err)) in
-    record {
-      ok = search;
-      json = search;
-      schema = search;
-      begun = begun;
-      unwritten = search;
-      kind = search;
-    }
+    let p = err_from_is_err_and c.from_residual-in_err-write_text.result c.from_residual-in_err-write_text.ensures.1 in
+    rw (p.1, p.2) (write_failed _ _ _ _ _ _ tt (made.0, made.1, subst (AppendsSome old new) (c.as_bytes.ensures.value ∙ c.in_ok-text.ensures.text whole ∙ ap compact_text made.3) c.in_err-write_text.ensures.err))
 
 pub returns-clause-normalizes : goal.returns-clause-normalizes
 returns-clause-normalizes g c =
