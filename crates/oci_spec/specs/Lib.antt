@@ -152,6 +152,7 @@ pub use Rattle.oci_runtime_spec.specs.RootlessSpec
 pub use Rattle.oci_runtime_spec.specs.Spec
 pub use Rattle.oci_schema.specs.Normalizes
 pub use Rattle.oci_schema_types.specs.Shapes
+pub use Rattle.oci_schema_walks.specs.Allows
 pub use Rattle.oci_schema_walks.specs.Normalized
 pub use Rattle.oci_schema_walks.specs.Violations
 pub use Rattle.oci_schemas.specs.Table
