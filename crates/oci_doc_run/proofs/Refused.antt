@@ -1,5 +1,5 @@
 -- What the refusal for a document that was not written says.
-use Rattle.std.proofs.Common.{List, ℕ, Option, Some, None, inl, inr, refl}
+use Rattle.std.proofs.Common.{List, ℕ, Option, Some, None, inl, refl}
 use Rattle.std.specs.Prelude.{IfSome}
 use Rattle.std.specs.Io.KnownBytes.{Keeps}
 use Rattle.oci_text_base.specs.Refused.{IsJson, IsSchema, IsMemorySerDeOrIo}

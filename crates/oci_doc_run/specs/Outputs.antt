@@ -4,7 +4,7 @@ use Rattle.oci_shapes.specs.Descriptor.{descriptor}
 use Rattle.oci_image_descriptor.specs.Descriptor.{descriptor_plain}
 use Rattle.oci_image_descriptor.specs.declared.descriptor.Descriptor.{Descriptor}
 use Rattle.oci_json_io.specs.Engines.{MeansBytes, WritesDocument}
-use Rattle.oci_schema.specs.Pretty.{WritesPretty}
+use Rattle.oci_schema.specs.Normalizes.{WritesPretty}
 use Rattle.oci_reference.specs.Accepted.{Accepted}
 use Rattle.oci_reference.specs.Parts.{Parts, resolved}
 use Rattle.oci_reference.specs.Replaced.{pinned}

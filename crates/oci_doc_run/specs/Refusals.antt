@@ -1,5 +1,5 @@
 -- What the program tells where it refuses, and what that says of the words, the input and the output.
-use Rattle.std.specs.Prelude.{◌≡◌, ◌⊎◌, ℕ, List, [], ◌∷◌, ◌++◌, codes, string_bytes, Option, Some, None, IfSome, ⊤}
+use Rattle.std.specs.Prelude.{◌≡◌, ◌⊎◌, ℕ, List, [], ◌∷◌, ◌++◌, codes, string_bytes, Option, Some, IfSome, ⊤}
 use Rattle.std.specs.Io.KnownBytes.{Keeps}
 use Rattle.oci_text_base.specs.Digest.{digest_refusal}
 use Rattle.oci_text_base.specs.declared.error.OciSpecError.{OciSpecError}
