@@ -1,0 +1,4 @@
+use Rattle.oci_ffi.proofs.reference.parse.Goals as goal
+
+pub returns-in-Err-from_str-clause-refused : goal.returns-in-Err-from_str-clause-refused
+returns-in-Err-from_str-clause-refused c = λ h. (c.in-Err-from_str.error, c.status_numbered.ensures, rw (← c.in-Ok.ensures.cases.0) c.in-Err-from_str.ensures.err)
