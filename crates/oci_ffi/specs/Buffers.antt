@@ -3,12 +3,12 @@ use Rattle.std.specs.Prelude.{◌≡◌, ◌<◌, ◌++◌, ℕ, List, length, d
 
 -- the buffer begins with the text and is unchanged behind it; the length of the text is returned
 abbrev pub Fills : List ℕ → List ℕ → ℕ → List ℕ → Type 0
-Fills old new written text = (new ≡ text ++ drop (length text) old) × (written ≡ length text)
+Fills old new len text = (new ≡ text ++ drop (length text) old) × (len ≡ length text)
 
 -- the text is longer than the buffer, which is unchanged; the length of the text is returned
 abbrev pub Overflows : List ℕ → List ℕ → ℕ → List ℕ → Type 0
-Overflows old new written text = (new ≡ old) × (length old < length text) × (written ≡ length text)
+Overflows old new len text = (new ≡ old) × (length old < length text) × (len ≡ length text)
 
 -- there is no text, and the buffer is unchanged
 abbrev pub Untouched : List ℕ → List ℕ → ℕ → Type 0
-Untouched old new written = (new ≡ old) × (written ≡ 0)
+Untouched old new len = (new ≡ old) × (len ≡ 0)

@@ -14,12 +14,12 @@ fn fill(text: &[u8], buffer: &mut [u8])
 }
 
 /// Writes the text to the beginning of the buffer if it fits, and returns its length in any case.
-pub(crate) fn put(text: &[u8], buffer: &mut [u8], written: &mut usize) -> u32
-    ensures done { result ≡ DONE → Fills buffer.old buffer.new written.new text.now }
-    ensures small { result ≡ BUFFER_TOO_SMALL → Overflows buffer.old buffer.new written.new text.now }
+pub(crate) fn put(text: &[u8], buffer: &mut [u8], output_len: &mut usize) -> u32
+    ensures done { result ≡ DONE → Fills buffer.old buffer.new output_len.new text.now }
+    ensures small { result ≡ BUFFER_TOO_SMALL → Overflows buffer.old buffer.new output_len.new text.now }
     ensures status { result ≤ BUFFER_TOO_SMALL }
 {
-    *written = text.len();
+    *output_len = text.len();
     if text.len() > buffer.len() {
         return BUFFER_TOO_SMALL;
     }

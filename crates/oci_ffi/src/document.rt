@@ -20,20 +20,20 @@ fn normalize(
     schema: &Schema,
     document: &[u8],
     buffer: &mut [u8],
-    written: &mut usize,
+    output_len: &mut usize,
 ) -> u32
     requires { WellFormed (shape_of schema.now) }
-    ensures done { result ≡ DONE → WritesDocument (shape_of schema.now) (Some document.now) (Fills buffer.old buffer.new written.new) }
-    ensures small { result ≡ BUFFER_TOO_SMALL → WritesDocument (shape_of schema.now) (Some document.now) (Overflows buffer.old buffer.new written.new) }
+    ensures done { result ≡ DONE → WritesDocument (shape_of schema.now) (Some document.now) (Fills buffer.old buffer.new output_len.new) }
+    ensures small { result ≡ BUFFER_TOO_SMALL → WritesDocument (shape_of schema.now) (Some document.now) (Overflows buffer.old buffer.new output_len.new) }
     ensures json { result ≡ INVALID_JSON → IsNoJson document.now }
     ensures schema { result ≡ INVALID_DOCUMENT → IsNotNormalized (shape_of schema.now) document.now }
-    ensures untouched { BUFFER_TOO_SMALL < result → Untouched buffer.old buffer.new written.new }
+    ensures untouched { BUFFER_TOO_SMALL < result → Untouched buffer.old buffer.new output_len.new }
     ensures known { ¬ (result ≡ UNKNOWN_KIND) }
     ensures status { result ≤ INVALID_DOCUMENT }
 {
-    *written = 0;
+    *output_len = 0;
     match compact_text(schema, alloc, document) {
-        Ok(text) => put(text.as_bytes(), buffer, written),
+        Ok(text) => put(text.as_bytes(), buffer, output_len),
         Err(error) => status_of(&error),
     }
 }
@@ -44,20 +44,20 @@ fn pretty(
     schema: &Schema,
     document: &[u8],
     buffer: &mut [u8],
-    written: &mut usize,
+    output_len: &mut usize,
 ) -> u32
     requires { WellFormed (shape_of schema.now) }
-    ensures done { result ≡ DONE → WritesPretty (shape_of schema.now) (Some document.now) (Fills buffer.old buffer.new written.new) }
-    ensures small { result ≡ BUFFER_TOO_SMALL → WritesPretty (shape_of schema.now) (Some document.now) (Overflows buffer.old buffer.new written.new) }
+    ensures done { result ≡ DONE → WritesPretty (shape_of schema.now) (Some document.now) (Fills buffer.old buffer.new output_len.new) }
+    ensures small { result ≡ BUFFER_TOO_SMALL → WritesPretty (shape_of schema.now) (Some document.now) (Overflows buffer.old buffer.new output_len.new) }
     ensures json { result ≡ INVALID_JSON → IsNoJson document.now }
     ensures schema { result ≡ INVALID_DOCUMENT → IsNotNormalized (shape_of schema.now) document.now }
-    ensures untouched { BUFFER_TOO_SMALL < result → Untouched buffer.old buffer.new written.new }
+    ensures untouched { BUFFER_TOO_SMALL < result → Untouched buffer.old buffer.new output_len.new }
     ensures known { ¬ (result ≡ UNKNOWN_KIND) }
     ensures status { result ≤ INVALID_DOCUMENT }
 {
-    *written = 0;
+    *output_len = 0;
     match pretty_text(schema, alloc, document) {
-        Ok(text) => put(text.as_bytes(), buffer, written),
+        Ok(text) => put(text.as_bytes(), buffer, output_len),
         Err(error) => status_of(&error),
     }
 }
@@ -72,20 +72,20 @@ pub extern "C" fn ciderglen_normalize(
     kind: u32,
     document: &[u8],
     buffer: &mut [u8],
-    written: &mut usize,
+    output_len: &mut usize,
 ) -> u32
-    ensures done { result ≡ DONE → IsSomeAnd (shape_numbered kind) (λ s. WritesDocument s (Some document.now) (Fills buffer.old buffer.new written.new)) }
-    ensures small { result ≡ BUFFER_TOO_SMALL → IsSomeAnd (shape_numbered kind) (λ s. WritesDocument s (Some document.now) (Overflows buffer.old buffer.new written.new)) }
+    ensures done { result ≡ DONE → IsSomeAnd (shape_numbered kind) (λ s. WritesDocument s (Some document.now) (Fills buffer.old buffer.new output_len.new)) }
+    ensures small { result ≡ BUFFER_TOO_SMALL → IsSomeAnd (shape_numbered kind) (λ s. WritesDocument s (Some document.now) (Overflows buffer.old buffer.new output_len.new)) }
     ensures json { result ≡ INVALID_JSON → IsNoJson document.now }
     ensures schema { result ≡ INVALID_DOCUMENT → IsSomeAnd (shape_numbered kind) (λ s. IsNotNormalized s document.now) }
     ensures unknown { (result ≡ UNKNOWN_KIND) ↔ (shape_numbered kind ≡ None) }
-    ensures untouched { BUFFER_TOO_SMALL < result → Untouched buffer.old buffer.new written.new }
+    ensures untouched { BUFFER_TOO_SMALL < result → Untouched buffer.old buffer.new output_len.new }
     ensures status { result ≤ INVALID_DOCUMENT }
 {
     match schema_of(kind) {
-        Some(schema) => normalize(alloc, schema, document, buffer, written),
+        Some(schema) => normalize(alloc, schema, document, buffer, output_len),
         None => {
-            *written = 0;
+            *output_len = 0;
             UNKNOWN_KIND
         }
     }
@@ -101,20 +101,20 @@ pub extern "C" fn ciderglen_pretty(
     kind: u32,
     document: &[u8],
     buffer: &mut [u8],
-    written: &mut usize,
+    output_len: &mut usize,
 ) -> u32
-    ensures done { result ≡ DONE → IsSomeAnd (shape_numbered kind) (λ s. WritesPretty s (Some document.now) (Fills buffer.old buffer.new written.new)) }
-    ensures small { result ≡ BUFFER_TOO_SMALL → IsSomeAnd (shape_numbered kind) (λ s. WritesPretty s (Some document.now) (Overflows buffer.old buffer.new written.new)) }
+    ensures done { result ≡ DONE → IsSomeAnd (shape_numbered kind) (λ s. WritesPretty s (Some document.now) (Fills buffer.old buffer.new output_len.new)) }
+    ensures small { result ≡ BUFFER_TOO_SMALL → IsSomeAnd (shape_numbered kind) (λ s. WritesPretty s (Some document.now) (Overflows buffer.old buffer.new output_len.new)) }
     ensures json { result ≡ INVALID_JSON → IsNoJson document.now }
     ensures schema { result ≡ INVALID_DOCUMENT → IsSomeAnd (shape_numbered kind) (λ s. IsNotNormalized s document.now) }
     ensures unknown { (result ≡ UNKNOWN_KIND) ↔ (shape_numbered kind ≡ None) }
-    ensures untouched { BUFFER_TOO_SMALL < result → Untouched buffer.old buffer.new written.new }
+    ensures untouched { BUFFER_TOO_SMALL < result → Untouched buffer.old buffer.new output_len.new }
     ensures status { result ≤ INVALID_DOCUMENT }
 {
     match schema_of(kind) {
-        Some(schema) => pretty(alloc, schema, document, buffer, written),
+        Some(schema) => pretty(alloc, schema, document, buffer, output_len),
         None => {
-            *written = 0;
+            *output_len = 0;
             UNKNOWN_KIND
         }
     }

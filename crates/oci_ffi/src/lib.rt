@@ -1,6 +1,6 @@
 //! Ciderglen for other languages: the canonical form of documents, their violations, references, digests and pinning, as functions
-//! of the C calling convention on numbers and bytes. Each returns a status of [`status`], keeps no state, and writes only to what
-//! its caller passes.
+//! of the C calling convention on numbers and bytes. Each returns a status of [`status`], keeps no state, and writes only to
+//! buffers of its caller.
 #![tactic(auto)]
 
 mod buffer;

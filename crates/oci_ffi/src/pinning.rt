@@ -42,19 +42,19 @@ fn put_pinned(
     reference: &Reference,
     bytes: &[u8],
     buffer: &mut [u8],
-    written: &mut usize,
+    output_len: &mut usize,
 ) -> u32
-    ensures done { result ≡ DONE → (d : Descriptor) × MeansBytes descriptor bytes.now (descriptor_plain d) × Fills buffer.old buffer.new written.new (whole (pinned reference.now d.digest)) }
-    ensures small { result ≡ BUFFER_TOO_SMALL → (d : Descriptor) × MeansBytes descriptor bytes.now (descriptor_plain d) × Overflows buffer.old buffer.new written.new (whole (pinned reference.now d.digest)) }
+    ensures done { result ≡ DONE → (d : Descriptor) × MeansBytes descriptor bytes.now (descriptor_plain d) × Fills buffer.old buffer.new output_len.new (whole (pinned reference.now d.digest)) }
+    ensures small { result ≡ BUFFER_TOO_SMALL → (d : Descriptor) × MeansBytes descriptor bytes.now (descriptor_plain d) × Overflows buffer.old buffer.new output_len.new (whole (pinned reference.now d.digest)) }
     ensures json { result ≡ INVALID_JSON → IsNoJson bytes.now }
     ensures schema { result ≡ INVALID_DOCUMENT → IsNoDocument descriptor bytes.now }
-    ensures untouched { BUFFER_TOO_SMALL < result → Untouched buffer.old buffer.new written.new }
+    ensures untouched { BUFFER_TOO_SMALL < result → Untouched buffer.old buffer.new output_len.new }
     ensures known { ¬ (result ≡ UNKNOWN_KIND) }
     ensures status { result ≤ INVALID_DOCUMENT }
 {
-    *written = 0;
+    *output_len = 0;
     match pinned_text(alloc, reference, bytes) {
-        Ok(text) => put(text.as_bytes(), buffer, written),
+        Ok(text) => put(text.as_bytes(), buffer, output_len),
         Err(error) => status_of(&error),
     }
 }
@@ -70,21 +70,21 @@ pub extern "C" fn ciderglen_pin(
     text: &[u8],
     bytes: &[u8],
     buffer: &mut [u8],
-    written: &mut usize,
+    output_len: &mut usize,
 ) -> u32
-    ensures done { result ≡ DONE → (p : Parts) × (d : Descriptor) × Accepted text.now p × MeansBytes descriptor bytes.now (descriptor_plain d) × Fills buffer.old buffer.new written.new (whole (pinned p d.digest)) }
-    ensures small { result ≡ BUFFER_TOO_SMALL → (p : Parts) × (d : Descriptor) × Accepted text.now p × MeansBytes descriptor bytes.now (descriptor_plain d) × Overflows buffer.old buffer.new written.new (whole (pinned p d.digest)) }
+    ensures done { result ≡ DONE → (p : Parts) × (d : Descriptor) × Accepted text.now p × MeansBytes descriptor bytes.now (descriptor_plain d) × Fills buffer.old buffer.new output_len.new (whole (pinned p d.digest)) }
+    ensures small { result ≡ BUFFER_TOO_SMALL → (p : Parts) × (d : Descriptor) × Accepted text.now p × MeansBytes descriptor bytes.now (descriptor_plain d) × Overflows buffer.old buffer.new output_len.new (whole (pinned p d.digest)) }
     ensures json { result ≡ INVALID_JSON → IsNoJson bytes.now }
     ensures schema { result ≡ INVALID_DOCUMENT → IsNoDocument descriptor bytes.now }
     ensures utf8 { result ≡ INVALID_UTF8 → ¬ IsUtf8 text.now }
     ensures refused { NAME_EMPTY ≤ result → (e : ParseError) × (result ≡ status_numbered e) × Tells text.now e }
-    ensures untouched { BUFFER_TOO_SMALL < result → Untouched buffer.old buffer.new written.new }
+    ensures untouched { BUFFER_TOO_SMALL < result → Untouched buffer.old buffer.new output_len.new }
     ensures known { ¬ (result ≡ UNKNOWN_KIND) }
     ensures status { (result ≤ INVALID_UTF8) ⊎ (NAME_EMPTY ≤ result) }
 {
-    *written = 0;
+    *output_len = 0;
     match parse(alloc, text) {
-        Ok(reference) => put_pinned(alloc, &reference, bytes, buffer, written),
+        Ok(reference) => put_pinned(alloc, &reference, bytes, buffer, output_len),
         Err(status) => status,
     }
 }

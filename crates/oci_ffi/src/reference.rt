@@ -85,19 +85,19 @@ pub(crate) fn parse(alloc: Global, text: &[u8]) -> Result<Reference, u32>
 fn describe(
     reference: &Reference,
     buffer: &mut [u8],
-    written: &mut usize,
+    output_len: &mut usize,
     parts: &mut CiderglenReference,
 ) -> u32
-    ensures done { result ≡ DONE → Fills buffer.old buffer.new written.new (whole reference.now) }
-    ensures small { result ≡ BUFFER_TOO_SMALL → Overflows buffer.old buffer.new written.new (whole reference.now) }
+    ensures done { result ≡ DONE → Fills buffer.old buffer.new output_len.new (whole reference.now) }
+    ensures small { result ≡ BUFFER_TOO_SMALL → Overflows buffer.old buffer.new output_len.new (whole reference.now) }
     ensures parts { result ≤ BUFFER_TOO_SMALL → parts.new ≡ lengths reference.now }
-    ensures untouched { BUFFER_TOO_SMALL < result → Untouched buffer.old buffer.new written.new }
+    ensures untouched { BUFFER_TOO_SMALL < result → Untouched buffer.old buffer.new output_len.new }
     ensures status { result ≤ OUT_OF_MEMORY }
 {
-    *written = 0;
+    *output_len = 0;
     *parts = lengths_of(reference);
     match reference.whole() {
-        Ok(text) => put(text.as_bytes(), buffer, written),
+        Ok(text) => put(text.as_bytes(), buffer, output_len),
         Err(_) => OUT_OF_MEMORY,
     }
 }
@@ -112,19 +112,19 @@ pub extern "C" fn ciderglen_reference(
     alloc: Global,
     text: &[u8],
     buffer: &mut [u8],
-    written: &mut usize,
+    output_len: &mut usize,
     parts: &mut CiderglenReference,
 ) -> u32
-    ensures done { result ≡ DONE → (p : Parts) × Accepted text.now p × Fills buffer.old buffer.new written.new (whole p) × (parts.new ≡ lengths p) }
-    ensures small { result ≡ BUFFER_TOO_SMALL → (p : Parts) × Accepted text.now p × Overflows buffer.old buffer.new written.new (whole p) × (parts.new ≡ lengths p) }
+    ensures done { result ≡ DONE → (p : Parts) × Accepted text.now p × Fills buffer.old buffer.new output_len.new (whole p) × (parts.new ≡ lengths p) }
+    ensures small { result ≡ BUFFER_TOO_SMALL → (p : Parts) × Accepted text.now p × Overflows buffer.old buffer.new output_len.new (whole p) × (parts.new ≡ lengths p) }
     ensures utf8 { result ≡ INVALID_UTF8 → ¬ IsUtf8 text.now }
     ensures refused { NAME_EMPTY ≤ result → (e : ParseError) × (result ≡ status_numbered e) × Tells text.now e }
-    ensures untouched { BUFFER_TOO_SMALL < result → Untouched buffer.old buffer.new written.new }
+    ensures untouched { BUFFER_TOO_SMALL < result → Untouched buffer.old buffer.new output_len.new }
     ensures status { (result ≤ OUT_OF_MEMORY) ⊎ ((result ≡ INVALID_UTF8) ⊎ (NAME_EMPTY ≤ result)) }
 {
-    *written = 0;
+    *output_len = 0;
     match parse(alloc, text) {
-        Ok(reference) => describe(&reference, buffer, written, parts),
+        Ok(reference) => describe(&reference, buffer, output_len, parts),
         Err(status) => status,
     }
 }
@@ -137,18 +137,18 @@ pub extern "C" fn ciderglen_resolve_registry(
     alloc: Global,
     text: &[u8],
     buffer: &mut [u8],
-    written: &mut usize,
+    output_len: &mut usize,
 ) -> u32
-    ensures done { result ≡ DONE → (p : Parts) × Accepted text.now p × Fills buffer.old buffer.new written.new (resolved p) }
-    ensures small { result ≡ BUFFER_TOO_SMALL → (p : Parts) × Accepted text.now p × Overflows buffer.old buffer.new written.new (resolved p) }
+    ensures done { result ≡ DONE → (p : Parts) × Accepted text.now p × Fills buffer.old buffer.new output_len.new (resolved p) }
+    ensures small { result ≡ BUFFER_TOO_SMALL → (p : Parts) × Accepted text.now p × Overflows buffer.old buffer.new output_len.new (resolved p) }
     ensures utf8 { result ≡ INVALID_UTF8 → ¬ IsUtf8 text.now }
     ensures refused { NAME_EMPTY ≤ result → (e : ParseError) × (result ≡ status_numbered e) × Tells text.now e }
-    ensures untouched { BUFFER_TOO_SMALL < result → Untouched buffer.old buffer.new written.new }
+    ensures untouched { BUFFER_TOO_SMALL < result → Untouched buffer.old buffer.new output_len.new }
     ensures status { (result ≤ OUT_OF_MEMORY) ⊎ ((result ≡ INVALID_UTF8) ⊎ (NAME_EMPTY ≤ result)) }
 {
-    *written = 0;
+    *output_len = 0;
     match parse(alloc, text) {
-        Ok(reference) => put(reference.resolve_registry().as_bytes(), buffer, written),
+        Ok(reference) => put(reference.resolve_registry().as_bytes(), buffer, output_len),
         Err(status) => status,
     }
 }

@@ -5,6 +5,7 @@ ghost use Rattle.oci_json_io.specs.Engines.{MeansBytes, ReadsAs, IsNoJson};
 ghost use Rattle.oci_json_model.specs.Plain.{Plain};
 ghost use Rattle.oci_text_base.specs.Refused.{IsJson, IsSchema};
 ghost use Rattle.oci_ffi.specs.Buffers.{Fills, Overflows, Untouched};
+ghost use Rattle.oci_schema_walks.specs.Violations.{violations as all_violations};
 ghost use Rattle.oci_ffi.specs.Kinds.{shape_of, shape_numbered};
 
 use crate::buffer::put;
@@ -39,9 +40,10 @@ fn lines_of(found: &Vec<Violation>, alloc: Global) -> std::result::Result<String
 }
 
 /// The violations of a schema in a document.
-#[tactic(auto, using(crate::proofs::Reported::none_found))]
+#[tactic(auto, using(crate::proofs::Reported::none_found, crate::proofs::Reported::all_counted))]
 fn found_in(schema: &Schema, alloc: Global, document: &[u8]) -> Result<Findings>
     ensures valid { IfOk result (λ r. (r.count ≡ 0) ↔ ((p : Plain) × MeansBytes (shape_of schema.now) document.now p)) }
+    ensures counted { IfOk result (λ r. (d : Data) × ReadsAs document.now d × (r.count ≡ length (all_violations (shape_of schema.now) [] d))) }
     ensures json { IfErr result (λ e. IsJson e → IsNoJson document.now) }
     ensures no_schema { IfErr result (λ e. ¬ IsSchema e) }
 {
@@ -58,23 +60,24 @@ fn report(
     schema: &Schema,
     document: &[u8],
     buffer: &mut [u8],
-    written: &mut usize,
+    output_len: &mut usize,
     count: &mut usize,
 ) -> u32
-    ensures done { result ≡ DONE → (text : List ℕ) × Fills buffer.old buffer.new written.new text }
-    ensures small { result ≡ BUFFER_TOO_SMALL → (text : List ℕ) × Overflows buffer.old buffer.new written.new text }
+    ensures done { result ≡ DONE → (text : List ℕ) × Fills buffer.old buffer.new output_len.new text }
+    ensures small { result ≡ BUFFER_TOO_SMALL → (text : List ℕ) × Overflows buffer.old buffer.new output_len.new text }
+    ensures counted { result ≤ BUFFER_TOO_SMALL → (d : Data) × ReadsAs document.now d × (count.new ≡ length (all_violations (shape_of schema.now) [] d)) }
     ensures valid { result ≤ BUFFER_TOO_SMALL → (count.new ≡ 0) ↔ ((p : Plain) × MeansBytes (shape_of schema.now) document.now p) }
     ensures json { result ≡ INVALID_JSON → IsNoJson document.now }
-    ensures untouched { BUFFER_TOO_SMALL < result → Untouched buffer.old buffer.new written.new }
+    ensures untouched { BUFFER_TOO_SMALL < result → Untouched buffer.old buffer.new output_len.new × (count.new ≡ 0) }
     ensures known { ¬ (result ≡ UNKNOWN_KIND) }
     ensures status { result ≤ INVALID_JSON }
 {
-    *written = 0;
+    *output_len = 0;
     *count = 0;
     match found_in(schema, alloc, document) {
         Ok(found) => {
             *count = found.count;
-            put(found.lines.as_bytes(), buffer, written)
+            put(found.lines.as_bytes(), buffer, output_len)
         }
         Err(error) => status_of(&error),
     }
@@ -90,21 +93,22 @@ pub extern "C" fn ciderglen_violations(
     kind: u32,
     document: &[u8],
     buffer: &mut [u8],
-    written: &mut usize,
+    output_len: &mut usize,
     count: &mut usize,
 ) -> u32
-    ensures done { result ≡ DONE → (text : List ℕ) × Fills buffer.old buffer.new written.new text }
-    ensures small { result ≡ BUFFER_TOO_SMALL → (text : List ℕ) × Overflows buffer.old buffer.new written.new text }
+    ensures done { result ≡ DONE → (text : List ℕ) × Fills buffer.old buffer.new output_len.new text }
+    ensures small { result ≡ BUFFER_TOO_SMALL → (text : List ℕ) × Overflows buffer.old buffer.new output_len.new text }
+    ensures counted { result ≤ BUFFER_TOO_SMALL → IsSomeAnd (shape_numbered kind) (λ s. (d : Data) × ReadsAs document.now d × (count.new ≡ length (all_violations s [] d))) }
     ensures valid { result ≤ BUFFER_TOO_SMALL → IsSomeAnd (shape_numbered kind) (λ s. (count.new ≡ 0) ↔ ((p : Plain) × MeansBytes s document.now p)) }
     ensures json { result ≡ INVALID_JSON → IsNoJson document.now }
     ensures unknown { (result ≡ UNKNOWN_KIND) ↔ (shape_numbered kind ≡ None) }
-    ensures untouched { BUFFER_TOO_SMALL < result → Untouched buffer.old buffer.new written.new }
+    ensures untouched { BUFFER_TOO_SMALL < result → Untouched buffer.old buffer.new output_len.new × (count.new ≡ 0) }
     ensures status { result ≤ INVALID_JSON }
 {
     match schema_of(kind) {
-        Some(schema) => report(alloc, schema, document, buffer, written, count),
+        Some(schema) => report(alloc, schema, document, buffer, output_len, count),
         None => {
-            *written = 0;
+            *output_len = 0;
             *count = 0;
             UNKNOWN_KIND
         }
