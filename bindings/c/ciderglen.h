@@ -119,9 +119,10 @@ uint32_t ciderglen_pretty(uint32_t kind, const uint8_t *document, size_t documen
                           size_t buffer_capacity, size_t *output_len);
 
 /* Writes a line for each violation of the schema in a document: its place as a JSON pointer (RFC 6901), a colon, a space, what was
- * expected there and a newline. Returns their number: 0 exactly if the document is valid.
+ * expected there and a newline. Sets `*count` to their number, which is 0 exactly if the document is valid.
  *
- * Returns CIDERGLEN_INVALID_JSON or CIDERGLEN_UNKNOWN_KIND if there is no such number; then it is 0. */
+ * Returns CIDERGLEN_INVALID_JSON or CIDERGLEN_UNKNOWN_KIND if the document has no violations to list. After any status but
+ * CIDERGLEN_DONE and CIDERGLEN_BUFFER_TOO_SMALL `*count` is 0. */
 uint32_t ciderglen_violations(uint32_t kind, const uint8_t *document, size_t document_len, uint8_t *buffer,
                               size_t buffer_capacity, size_t *output_len, size_t *count);
 
@@ -141,8 +142,8 @@ struct ciderglen_reference {
 /* Parses a reference to an image, writes its whole text (`docker.io/library/busybox:latest` for `busybox`) and returns the lengths
  * of its parts in it.
  *
- * Returns CIDERGLEN_INVALID_UTF8, or a status from CIDERGLEN_NAME_EMPTY up, if the text is not a reference; then the lengths are
- * not meant. */
+ * Returns CIDERGLEN_INVALID_UTF8, or a status from CIDERGLEN_NAME_EMPTY up, if the text is not a reference. After any status but
+ * CIDERGLEN_DONE and CIDERGLEN_BUFFER_TOO_SMALL the lengths are unspecified. */
 uint32_t ciderglen_reference(const uint8_t *text, size_t text_len, uint8_t *buffer, size_t buffer_capacity,
                              size_t *output_len, struct ciderglen_reference *parts);
 
@@ -156,9 +157,9 @@ uint32_t ciderglen_resolve_registry(const uint8_t *text, size_t text_len, uint8_
  * in place of its tag and digest.
  *
  * Returns CIDERGLEN_INVALID_UTF8, or a status from CIDERGLEN_NAME_EMPTY up, if the text is not a reference; then the descriptor is
- * not read. Returns CIDERGLEN_INVALID_JSON or CIDERGLEN_INVALID_DOCUMENT if the bytes are not a descriptor. */
-uint32_t ciderglen_pin(const uint8_t *text, size_t text_len, const uint8_t *bytes, size_t bytes_len,
-                       uint8_t *buffer, size_t buffer_capacity, size_t *output_len);
+ * not read. Returns CIDERGLEN_INVALID_JSON or CIDERGLEN_INVALID_DOCUMENT if there is no descriptor. */
+uint32_t ciderglen_pin(const uint8_t *text, size_t text_len, const uint8_t *json, size_t json_len, uint8_t *buffer,
+                       size_t buffer_capacity, size_t *output_len);
 
 #ifdef __cplusplus
 }
