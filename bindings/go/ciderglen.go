@@ -4,7 +4,7 @@
 // The package needs cgo, the header ciderglen.h and the archive libciderglen.a. Where they are not installed below /usr or
 // /usr/local, CGO_CFLAGS and CGO_LDFLAGS name their folders:
 //
-//	CGO_CFLAGS=-I/opt/ciderglen/include CGO_LDFLAGS=-L/opt/ciderglen/lib go build ./...
+//	CGO_CFLAGS=-I$HOME/ciderglen/include CGO_LDFLAGS=-L$HOME/ciderglen/lib go build ./...
 //
 // All functions may be called from any goroutine at any time.
 package ciderglen

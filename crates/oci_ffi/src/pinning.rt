@@ -27,12 +27,12 @@ use oci_text_base::Result;
 use std::alloc::Global;
 
 /// The whole text of a reference with the digest of a descriptor.
-fn pinned_text(alloc: Global, reference: &Reference, bytes: &[u8]) -> Result<String>
-    ensures ok { IfOk result (λ t. (d : Descriptor) × MeansBytes descriptor bytes.now (descriptor_plain d) × (string_bytes t ≡ whole (pinned reference.now d.digest))) }
-    ensures json { IfErr result (λ e. IsJson e → IsNoJson bytes.now) }
-    ensures schema { IfErr result (λ e. IsSchema e → IsNoDocument descriptor bytes.now) }
+fn pinned_text(alloc: Global, reference: &Reference, json: &[u8]) -> Result<String>
+    ensures ok { IfOk result (λ t. (d : Descriptor) × MeansBytes descriptor json.now (descriptor_plain d) × (string_bytes t ≡ whole (pinned reference.now d.digest))) }
+    ensures json { IfErr result (λ e. IsJson e → IsNoJson json.now) }
+    ensures schema { IfErr result (λ e. IsSchema e → IsNoDocument descriptor json.now) }
 {
-    let descriptor: Descriptor = from_slice(alloc, bytes)?;
+    let descriptor: Descriptor = from_slice(alloc, json)?;
     pin(alloc, reference, &descriptor)?.into_string()
 }
 
@@ -40,20 +40,20 @@ fn pinned_text(alloc: Global, reference: &Reference, bytes: &[u8]) -> Result<Str
 fn put_pinned(
     alloc: Global,
     reference: &Reference,
-    bytes: &[u8],
+    json: &[u8],
     buffer: &mut [u8],
     output_len: &mut usize,
 ) -> u32
-    ensures done { result ≡ DONE → (d : Descriptor) × MeansBytes descriptor bytes.now (descriptor_plain d) × Fills buffer.old buffer.new output_len.new (whole (pinned reference.now d.digest)) }
-    ensures small { result ≡ BUFFER_TOO_SMALL → (d : Descriptor) × MeansBytes descriptor bytes.now (descriptor_plain d) × Overflows buffer.old buffer.new output_len.new (whole (pinned reference.now d.digest)) }
-    ensures json { result ≡ INVALID_JSON → IsNoJson bytes.now }
-    ensures schema { result ≡ INVALID_DOCUMENT → IsNoDocument descriptor bytes.now }
+    ensures done { result ≡ DONE → (d : Descriptor) × MeansBytes descriptor json.now (descriptor_plain d) × Fills buffer.old buffer.new output_len.new (whole (pinned reference.now d.digest)) }
+    ensures small { result ≡ BUFFER_TOO_SMALL → (d : Descriptor) × MeansBytes descriptor json.now (descriptor_plain d) × Overflows buffer.old buffer.new output_len.new (whole (pinned reference.now d.digest)) }
+    ensures json { result ≡ INVALID_JSON → IsNoJson json.now }
+    ensures schema { result ≡ INVALID_DOCUMENT → IsNoDocument descriptor json.now }
     ensures untouched { BUFFER_TOO_SMALL < result → Untouched buffer.old buffer.new output_len.new }
     ensures known { ¬ (result ≡ UNKNOWN_KIND) }
     ensures status { result ≤ INVALID_DOCUMENT }
 {
     *output_len = 0;
-    match pinned_text(alloc, reference, bytes) {
+    match pinned_text(alloc, reference, json) {
         Ok(text) => put(text.as_bytes(), buffer, output_len),
         Err(error) => status_of(&error),
     }
@@ -63,28 +63,29 @@ fn put_pinned(
 /// in place of its tag and digest.
 ///
 /// Returns CIDERGLEN_INVALID_UTF8, or a status from CIDERGLEN_NAME_EMPTY up, if the text is not a reference; then the descriptor is
-/// not read. Returns CIDERGLEN_INVALID_JSON or CIDERGLEN_INVALID_DOCUMENT if the bytes are not a descriptor.
+/// not read. Returns CIDERGLEN_INVALID_JSON or CIDERGLEN_INVALID_DOCUMENT if there is no descriptor.
 #[unsafe(no_mangle)]
 pub extern "C" fn ciderglen_pin(
     alloc: Global,
     text: &[u8],
-    bytes: &[u8],
+    json: &[u8],
     buffer: &mut [u8],
     output_len: &mut usize,
 ) -> u32
-    ensures done { result ≡ DONE → (p : Parts) × (d : Descriptor) × Accepted text.now p × MeansBytes descriptor bytes.now (descriptor_plain d) × Fills buffer.old buffer.new output_len.new (whole (pinned p d.digest)) }
-    ensures small { result ≡ BUFFER_TOO_SMALL → (p : Parts) × (d : Descriptor) × Accepted text.now p × MeansBytes descriptor bytes.now (descriptor_plain d) × Overflows buffer.old buffer.new output_len.new (whole (pinned p d.digest)) }
-    ensures json { result ≡ INVALID_JSON → IsNoJson bytes.now }
-    ensures schema { result ≡ INVALID_DOCUMENT → IsNoDocument descriptor bytes.now }
+    ensures done { result ≡ DONE → (p : Parts) × (d : Descriptor) × Accepted text.now p × MeansBytes descriptor json.now (descriptor_plain d) × Fills buffer.old buffer.new output_len.new (whole (pinned p d.digest)) }
+    ensures small { result ≡ BUFFER_TOO_SMALL → (p : Parts) × (d : Descriptor) × Accepted text.now p × MeansBytes descriptor json.now (descriptor_plain d) × Overflows buffer.old buffer.new output_len.new (whole (pinned p d.digest)) }
+    ensures json { result ≡ INVALID_JSON → IsNoJson json.now }
+    ensures schema { result ≡ INVALID_DOCUMENT → IsNoDocument descriptor json.now }
     ensures utf8 { result ≡ INVALID_UTF8 → ¬ IsUtf8 text.now }
     ensures refused { NAME_EMPTY ≤ result → (e : ParseError) × (result ≡ status_numbered e) × Tells text.now e }
     ensures untouched { BUFFER_TOO_SMALL < result → Untouched buffer.old buffer.new output_len.new }
+    ensures accepted { result ≤ INVALID_DOCUMENT → (p : Parts) × Accepted text.now p }
     ensures known { ¬ (result ≡ UNKNOWN_KIND) }
     ensures status { (result ≤ INVALID_UTF8) ⊎ (NAME_EMPTY ≤ result) }
 {
     *output_len = 0;
     match parse(alloc, text) {
-        Ok(reference) => put_pinned(alloc, &reference, bytes, buffer, output_len),
+        Ok(reference) => put_pinned(alloc, &reference, json, buffer, output_len),
         Err(status) => status,
     }
 }

@@ -68,6 +68,7 @@ fn status_numbered(error: &ParseError) -> u32
 /// Parses a reference. Fails with the status of the error.
 pub(crate) fn parse(alloc: Global, text: &[u8]) -> Result<Reference, u32>
     ensures ok { IfOk result (Accepted text.now) }
+    ensures accepted { IfErr result (λ status. status ≡ OUT_OF_MEMORY → (p : Parts) × Accepted text.now p) }
     ensures utf8 { IfErr result (λ status. status ≡ INVALID_UTF8 → ¬ IsUtf8 text.now) }
     ensures refused { IfErr result (λ status. NAME_EMPTY ≤ status → (e : ParseError) × (status ≡ status_numbered e) × Tells text.now e) }
     ensures status { IfErr result (λ status. (status ≡ OUT_OF_MEMORY) ⊎ ((status ≡ INVALID_UTF8) ⊎ (NAME_EMPTY ≤ status))) }
@@ -105,8 +106,8 @@ fn describe(
 /// Parses a reference to an image, writes its whole text (`docker.io/library/busybox:latest` for `busybox`) and returns the lengths
 /// of its parts in it.
 ///
-/// Returns CIDERGLEN_INVALID_UTF8, or a status from CIDERGLEN_NAME_EMPTY up, if the text is not a reference; then the lengths are
-/// not meant.
+/// Returns CIDERGLEN_INVALID_UTF8, or a status from CIDERGLEN_NAME_EMPTY up, if the text is not a reference. After any status but
+/// CIDERGLEN_DONE and CIDERGLEN_BUFFER_TOO_SMALL the lengths are unspecified.
 #[unsafe(no_mangle)]
 pub extern "C" fn ciderglen_reference(
     alloc: Global,
@@ -117,6 +118,7 @@ pub extern "C" fn ciderglen_reference(
 ) -> u32
     ensures done { result ≡ DONE → (p : Parts) × Accepted text.now p × Fills buffer.old buffer.new output_len.new (whole p) × (parts.new ≡ lengths p) }
     ensures small { result ≡ BUFFER_TOO_SMALL → (p : Parts) × Accepted text.now p × Overflows buffer.old buffer.new output_len.new (whole p) × (parts.new ≡ lengths p) }
+    ensures accepted { result ≤ OUT_OF_MEMORY → (p : Parts) × Accepted text.now p }
     ensures utf8 { result ≡ INVALID_UTF8 → ¬ IsUtf8 text.now }
     ensures refused { NAME_EMPTY ≤ result → (e : ParseError) × (result ≡ status_numbered e) × Tells text.now e }
     ensures untouched { BUFFER_TOO_SMALL < result → Untouched buffer.old buffer.new output_len.new }
@@ -141,6 +143,7 @@ pub extern "C" fn ciderglen_resolve_registry(
 ) -> u32
     ensures done { result ≡ DONE → (p : Parts) × Accepted text.now p × Fills buffer.old buffer.new output_len.new (resolved p) }
     ensures small { result ≡ BUFFER_TOO_SMALL → (p : Parts) × Accepted text.now p × Overflows buffer.old buffer.new output_len.new (resolved p) }
+    ensures accepted { result ≤ OUT_OF_MEMORY → (p : Parts) × Accepted text.now p }
     ensures utf8 { result ≡ INVALID_UTF8 → ¬ IsUtf8 text.now }
     ensures refused { NAME_EMPTY ≤ result → (e : ParseError) × (result ≡ status_numbered e) × Tells text.now e }
     ensures untouched { BUFFER_TOO_SMALL < result → Untouched buffer.old buffer.new output_len.new }

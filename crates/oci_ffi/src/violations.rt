@@ -84,9 +84,10 @@ fn report(
 }
 
 /// Writes a line for each violation of the schema in a document: its place as a JSON pointer (RFC 6901), a colon, a space, what was
-/// expected there and a newline. Returns their number: 0 exactly if the document is valid.
+/// expected there and a newline. Sets `*count` to their number, which is 0 exactly if the document is valid.
 ///
-/// Returns CIDERGLEN_INVALID_JSON or CIDERGLEN_UNKNOWN_KIND if there is no such number; then it is 0.
+/// Returns CIDERGLEN_INVALID_JSON or CIDERGLEN_UNKNOWN_KIND if the document has no violations to list. After any status but
+/// CIDERGLEN_DONE and CIDERGLEN_BUFFER_TOO_SMALL `*count` is 0.
 #[unsafe(no_mangle)]
 pub extern "C" fn ciderglen_violations(
     alloc: Global,
