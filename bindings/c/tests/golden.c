@@ -12,7 +12,7 @@ static int failures;
 
 #define CHECK(it)                                                              \
     do {                                                                       \
-        if (!(it)) failures++, printf("%s:%d: %s\n", __FILE__, __LINE__, #it); \
+        if (!(it) && failures++ < 20) printf("%s:%d: %s\n", __FILE__, __LINE__, #it); \
     } while (0)
 
 enum { SLACK = 8 };
@@ -53,6 +53,42 @@ static void each_capacity(uint32_t kind, const uint8_t *document, size_t documen
     }
 }
 
+/* A random number, the same in each run. */
+static uint32_t draw(void) {
+    static uint64_t state = 1;
+    state = state * 6364136223846793005u + 1442695040888963407u;
+    return (uint32_t)(state >> 33);
+}
+
+/* A document with some bytes changed: a canonical text is its own canonical text and violates nothing, and after a failure the
+ * buffer is unchanged. */
+static void changed(uint32_t kind, const uint8_t *document, size_t document_len, int times) {
+    uint8_t *bytes = malloc(document_len + 1), *buffer = malloc(1 << 20), *again = malloc(1 << 20);
+    for (int i = 0; i < times; i++) {
+        size_t output_len = 7, again_len, count;
+        memcpy(bytes, document, document_len);
+        for (int j = 0; j < 3 && document_len; j++) {
+            size_t at = draw() % document_len;
+            bytes[at] = draw() % 2 ? (uint8_t)"0\"{}[],:-e\\nt "[draw() % 14] : (uint8_t)draw();
+        }
+        memset(buffer, '.', 64);
+        uint32_t status = ciderglen_normalize(kind, bytes, document_len, buffer, 1 << 20, &output_len);
+        if (status == CIDERGLEN_DONE) {
+            CHECK(ciderglen_violations(kind, bytes, document_len, again, 1 << 20, &again_len, &count) == CIDERGLEN_DONE && count == 0);
+            CHECK(ciderglen_normalize(kind, buffer, output_len, again, 1 << 20, &again_len) == CIDERGLEN_DONE);
+            CHECK(again_len == output_len && !memcmp(again, buffer, output_len));
+        } else {
+            CHECK(status == CIDERGLEN_INVALID_JSON || status == CIDERGLEN_INVALID_DOCUMENT);
+            CHECK(output_len == 0 && is_filled(buffer, 64));
+            uint32_t listed = ciderglen_violations(kind, bytes, document_len, again, 1 << 20, &again_len, &count);
+            CHECK(listed == (status == CIDERGLEN_INVALID_JSON ? CIDERGLEN_INVALID_JSON : CIDERGLEN_DONE));
+        }
+    }
+    free(again);
+    free(buffer);
+    free(bytes);
+}
+
 static void golden(const char *folder, const char *name, int is_short) {
     size_t document_len, text_len, output_len, count = 7;
     uint32_t kind = (uint32_t)atoi(strrchr(name, '.') + 1);
@@ -76,9 +112,34 @@ static void golden(const char *folder, const char *name, int is_short) {
         status = ciderglen_violations(kind, document, document_len, buffer, 1 << 20, &output_len, &count);
         CHECK(status == CIDERGLEN_INVALID_JSON ? count == 0 && output_len == 0 : status == CIDERGLEN_DONE);
     }
+    changed(kind, document, document_len, is_short ? 10 : 1000);
     free(buffer);
     free(text);
     free(document);
+}
+
+/* References with some bytes changed: a whole text is its own whole text, and has a registry. */
+static void changed_references(int times) {
+    static const char text[] = "test.io:5000/team/app:v1.2@sha256:e692418e4cbaf90ca69d05a66403747baa33ee08806650b51fab815ad7fc331f";
+    int accepted = 0;
+    for (int i = 0; i < times; i++) {
+        uint8_t bytes[sizeof text], whole[256], again[256];
+        size_t begin = draw() % 30, len = draw() % 2 ? sizeof text - 1 - begin : draw() % 30, whole_len, again_len;
+        struct ciderglen_reference parts, same;
+        memcpy(bytes, text + begin, len);
+        for (uint32_t j = draw() % 3; j && len; j--) bytes[draw() % len] = (uint8_t)"ab0/:.@-_A"[draw() % 10];
+        uint32_t status = ciderglen_reference(bytes, len, whole, sizeof whole, &whole_len, &parts);
+        uint32_t resolved = ciderglen_resolve_registry(bytes, len, again, sizeof again, &again_len);
+        CHECK(status == resolved);
+        if (status != CIDERGLEN_DONE) {
+            CHECK(status >= CIDERGLEN_NAME_EMPTY && whole_len == 0 && again_len == 0);
+            continue;
+        }
+        accepted++;
+        CHECK(ciderglen_reference(whole, whole_len, again, sizeof again, &again_len, &same) == CIDERGLEN_DONE);
+        CHECK(again_len == whole_len && !memcmp(again, whole, whole_len) && !memcmp(&parts, &same, sizeof parts));
+    }
+    CHECK(accepted > times / 20);
 }
 
 static void others(void) {
@@ -133,6 +194,7 @@ int main(int argc, char **argv) {
     }
     closedir(folder);
     others();
+    changed_references(is_short ? 1000 : 100000);
     for (int i = 0; i < 8; i++) pthread_create(&threads[i], 0, in_thread, 0);
     for (int i = 0; i < 8; i++) pthread_join(threads[i], 0);
     printf("%d documents, %d failures\n", documents, failures);
