@@ -1,0 +1,202 @@
+/* Checks all functions: golden FOLDER, with files NAME.KIND.json and, for a document that has a canonical form, NAME.KIND.expected
+ * (tools/test_bindings writes them). A document is normalized into a buffer of each length up to that of its text. */
+#include <ciderglen.h>
+
+#include <dirent.h>
+#include <pthread.h>
+#include <stdio.h>
+#include <stdlib.h>
+#include <string.h>
+
+static int failures;
+
+#define CHECK(it)                                                              \
+    do {                                                                       \
+        if (!(it) && failures++ < 20) printf("%s:%d: %s\n", __FILE__, __LINE__, #it); \
+    } while (0)
+
+enum { SLACK = 8 };
+
+static uint8_t *read_file(const char *folder, const char *name, const char *suffix, size_t *len) {
+    char path[4096];
+    snprintf(path, sizeof path, "%s/%s%s", folder, name, suffix);
+    FILE *file = fopen(path, "rb");
+    if (!file) return 0;
+    uint8_t *bytes = malloc(1 << 20);
+    *len = fread(bytes, 1, 1 << 20, file);
+    fclose(file);
+    return bytes;
+}
+
+static int is_filled(const uint8_t *bytes, size_t len) {
+    while (len && bytes[len - 1] == '.') len--;
+    return len == 0;
+}
+
+/* A buffer of each length: all is written where it fits, and else nothing. */
+static void each_capacity(uint32_t kind, const uint8_t *document, size_t document_len, const uint8_t *text, size_t text_len) {
+    for (size_t capacity = 0; capacity <= text_len + SLACK; capacity++) {
+        uint8_t *buffer = malloc(capacity + 1); /* valgrind sees what is read or written past it */
+        size_t output_len = 7;
+        memset(buffer, '.', capacity);
+        uint32_t status = ciderglen_normalize(kind, document, document_len, buffer, capacity, &output_len);
+        CHECK(output_len == text_len);
+        if (capacity < text_len) {
+            CHECK(status == CIDERGLEN_BUFFER_TOO_SMALL);
+            CHECK(is_filled(buffer, capacity));
+        } else {
+            CHECK(status == CIDERGLEN_DONE);
+            CHECK(!memcmp(buffer, text, text_len));
+            CHECK(is_filled(buffer + text_len, capacity - text_len));
+        }
+        free(buffer);
+    }
+}
+
+/* A random number, the same in each run. */
+static uint32_t draw(void) {
+    static uint64_t state = 1;
+    state = state * 6364136223846793005u + 1442695040888963407u;
+    return (uint32_t)(state >> 33);
+}
+
+/* A document with some bytes changed: a canonical text is its own canonical text and violates nothing, and after a failure the
+ * buffer is unchanged. */
+static void changed(uint32_t kind, const uint8_t *document, size_t document_len, int times) {
+    uint8_t *bytes = malloc(document_len + 1), *buffer = malloc(1 << 20), *again = malloc(1 << 20);
+    for (int i = 0; i < times; i++) {
+        size_t output_len = 7, again_len, count;
+        memcpy(bytes, document, document_len);
+        for (int j = 0; j < 3 && document_len; j++) {
+            size_t at = draw() % document_len;
+            bytes[at] = draw() % 2 ? (uint8_t)"0\"{}[],:-e\\nt "[draw() % 14] : (uint8_t)draw();
+        }
+        memset(buffer, '.', 64);
+        uint32_t status = ciderglen_normalize(kind, bytes, document_len, buffer, 1 << 20, &output_len);
+        if (status == CIDERGLEN_DONE) {
+            CHECK(ciderglen_violations(kind, bytes, document_len, again, 1 << 20, &again_len, &count) == CIDERGLEN_DONE && count == 0);
+            CHECK(ciderglen_normalize(kind, buffer, output_len, again, 1 << 20, &again_len) == CIDERGLEN_DONE);
+            CHECK(again_len == output_len && !memcmp(again, buffer, output_len));
+        } else {
+            CHECK(status == CIDERGLEN_INVALID_JSON || status == CIDERGLEN_INVALID_DOCUMENT);
+            CHECK(output_len == 0 && is_filled(buffer, 64));
+            uint32_t listed = ciderglen_violations(kind, bytes, document_len, again, 1 << 20, &again_len, &count);
+            CHECK(listed == (status == CIDERGLEN_INVALID_JSON ? CIDERGLEN_INVALID_JSON : CIDERGLEN_DONE));
+        }
+    }
+    free(again);
+    free(buffer);
+    free(bytes);
+}
+
+static void golden(const char *folder, const char *name, int is_short) {
+    size_t document_len, text_len, output_len, count = 7;
+    uint32_t kind = (uint32_t)atoi(strrchr(name, '.') + 1);
+    uint8_t *document = read_file(folder, name, ".json", &document_len);
+    uint8_t *text = read_file(folder, name, ".expected", &text_len);
+    uint8_t *buffer = malloc(1 << 20);
+    uint32_t status = ciderglen_normalize(kind, document, document_len, buffer, 1 << 20, &output_len);
+    if (text) {
+        CHECK(status == CIDERGLEN_DONE && output_len == text_len && !memcmp(buffer, text, text_len));
+        CHECK(ciderglen_violations(kind, document, document_len, buffer, 1 << 20, &output_len, &count) == CIDERGLEN_DONE && count == 0 && output_len == 0);
+        CHECK(ciderglen_pretty(kind, document, document_len, buffer, 1 << 20, &output_len) == CIDERGLEN_DONE);
+        /* the pretty text has the same canonical form */
+        uint8_t *again = malloc(text_len);
+        size_t again_len;
+        CHECK(ciderglen_normalize(kind, buffer, output_len, again, text_len, &again_len) == CIDERGLEN_DONE);
+        CHECK(again_len == text_len && !memcmp(again, text, text_len));
+        free(again);
+        if (!is_short) each_capacity(kind, document, document_len, text, text_len);
+    } else {
+        CHECK((status == CIDERGLEN_INVALID_DOCUMENT || status == CIDERGLEN_INVALID_JSON) && output_len == 0);
+        status = ciderglen_violations(kind, document, document_len, buffer, 1 << 20, &output_len, &count);
+        CHECK(status == CIDERGLEN_INVALID_JSON ? count == 0 && output_len == 0 : status == CIDERGLEN_DONE);
+    }
+    changed(kind, document, document_len, is_short ? 10 : 1000);
+    free(buffer);
+    free(text);
+    free(document);
+}
+
+/* References with some bytes changed: a whole text is its own whole text, and has a registry. */
+static void changed_references(int times) {
+    static const char text[] = "test.io:5000/team/app:v1.2@sha256:e692418e4cbaf90ca69d05a66403747baa33ee08806650b51fab815ad7fc331f";
+    int accepted = 0;
+    for (int i = 0; i < times; i++) {
+        uint8_t bytes[sizeof text], whole[256], again[256];
+        size_t begin = draw() % 30, len = draw() % 2 ? sizeof text - 1 - begin : draw() % 30, whole_len, again_len;
+        struct ciderglen_reference parts, same;
+        memcpy(bytes, text + begin, len);
+        for (uint32_t j = draw() % 3; j && len; j--) bytes[draw() % len] = (uint8_t)"ab0/:.@-_A"[draw() % 10];
+        uint32_t status = ciderglen_reference(bytes, len, whole, sizeof whole, &whole_len, &parts);
+        uint32_t resolved = ciderglen_resolve_registry(bytes, len, again, sizeof again, &again_len);
+        CHECK(status == resolved);
+        if (status != CIDERGLEN_DONE) {
+            CHECK(status >= CIDERGLEN_NAME_EMPTY && whole_len == 0 && again_len == 0);
+            continue;
+        }
+        accepted++;
+        CHECK(ciderglen_reference(whole, whole_len, again, sizeof again, &again_len, &same) == CIDERGLEN_DONE);
+        CHECK(again_len == whole_len && !memcmp(again, whole, whole_len) && !memcmp(&parts, &same, sizeof parts));
+    }
+    CHECK(accepted > times / 20);
+}
+
+static void others(void) {
+    static const uint8_t none[1] = {0};
+    uint8_t buffer[256];
+    size_t output_len, count;
+    struct ciderglen_reference parts;
+#define TEXT(it) (const uint8_t *)(it), sizeof(it) - 1
+    CHECK(ciderglen_interface() == CIDERGLEN_INTERFACE);
+    CHECK(ciderglen_normalize(14, TEXT("{}"), buffer, sizeof buffer, &output_len) == CIDERGLEN_UNKNOWN_KIND && output_len == 0);
+    CHECK(ciderglen_pretty(UINT32_MAX, TEXT("{}"), buffer, sizeof buffer, &output_len) == CIDERGLEN_UNKNOWN_KIND);
+    CHECK(ciderglen_violations(14, TEXT("{}"), buffer, sizeof buffer, &output_len, &count) == CIDERGLEN_UNKNOWN_KIND && count == 0);
+    CHECK(ciderglen_normalize(CIDERGLEN_KIND_LAYOUT, none, 0, buffer, sizeof buffer, &output_len) == CIDERGLEN_INVALID_JSON);
+    CHECK(ciderglen_violations(CIDERGLEN_KIND_LAYOUT, TEXT("{}"), buffer, sizeof buffer, &output_len, &count) == CIDERGLEN_DONE && count == 1);
+    CHECK(ciderglen_reference(TEXT("busybox"), buffer, sizeof buffer, &output_len, &parts) == CIDERGLEN_DONE);
+    CHECK(output_len == 32 && !memcmp(buffer, "docker.io/library/busybox:latest", 32));
+    CHECK(parts.registry == 9 && parts.repository == 15 && parts.tag == 6 && parts.digest == 0);
+    CHECK(ciderglen_reference(TEXT("Uppercase/repo"), buffer, sizeof buffer, &output_len, &parts) == CIDERGLEN_NAME_CONTAINS_UPPERCASE);
+    CHECK(ciderglen_reference(TEXT("\xff"), buffer, sizeof buffer, &output_len, &parts) == CIDERGLEN_INVALID_UTF8);
+    CHECK(ciderglen_reference(none, 0, buffer, sizeof buffer, &output_len, &parts) == CIDERGLEN_NAME_EMPTY);
+    CHECK(ciderglen_resolve_registry(TEXT("busybox"), buffer, sizeof buffer, &output_len) == CIDERGLEN_DONE);
+    CHECK(output_len == 15 && !memcmp(buffer, "index.docker.io", 15));
+    CHECK(ciderglen_digest_check(TEXT("foo:bar")) == CIDERGLEN_DONE);
+    CHECK(ciderglen_digest_check(TEXT("sha256:abc")) == CIDERGLEN_INVALID_DIGEST);
+    CHECK(ciderglen_digest_check(TEXT("\xff")) == CIDERGLEN_INVALID_UTF8);
+    CHECK(ciderglen_pin(TEXT("busybox:1"), TEXT("{\"mediaType\":\"a/b\",\"size\":1,\"digest\":\"x:y\"}"), buffer, sizeof buffer, &output_len) == CIDERGLEN_DONE);
+    CHECK(output_len == 29 && !memcmp(buffer, "docker.io/library/busybox@x:y", 29));
+    CHECK(ciderglen_pin(TEXT("busybox:1"), TEXT("{}"), buffer, sizeof buffer, &output_len) == CIDERGLEN_INVALID_DOCUMENT);
+    CHECK(ciderglen_pin(TEXT("busybox:1"), TEXT("{"), buffer, sizeof buffer, &output_len) == CIDERGLEN_INVALID_JSON);
+    CHECK(ciderglen_pin(TEXT("busybox:"), TEXT("{"), buffer, sizeof buffer, &output_len) == CIDERGLEN_REFERENCE_INVALID_FORMAT);
+}
+
+static void *in_thread(void *unused) {
+    (void)unused;
+    others();
+    return 0;
+}
+
+int main(int argc, char **argv) {
+    int is_short = argc > 2, documents = 0;
+    pthread_t threads[8];
+    DIR *folder = argc > 1 ? opendir(argv[1]) : 0;
+    if (!folder) return 2;
+    for (struct dirent *entry; (entry = readdir(folder));) {
+        char name[sizeof entry->d_name];
+        strcpy(name, entry->d_name);
+        char *suffix = strstr(name, ".json");
+        if (!suffix) continue;
+        *suffix = 0;
+        golden(argv[1], name, is_short);
+        documents++;
+    }
+    closedir(folder);
+    others();
+    changed_references(is_short ? 1000 : 100000);
+    for (int i = 0; i < 8; i++) pthread_create(&threads[i], 0, in_thread, 0);
+    for (int i = 0; i < 8; i++) pthread_join(threads[i], 0);
+    printf("%d documents, %d failures\n", documents, failures);
+    return failures != 0 || documents == 0;
+}

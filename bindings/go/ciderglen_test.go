@@ -1,0 +1,153 @@
+package ciderglen
+
+import (
+	"bytes"
+	"errors"
+	"fmt"
+	"os"
+	"path/filepath"
+	"strconv"
+	"strings"
+	"sync"
+	"testing"
+)
+
+const layout = `{"x":1, "imageLayoutVersion":"1.0.0"}`
+
+func ExampleNormalize() {
+	text, err := Normalize(Layout, []byte(`{"note":null, "imageLayoutVersion":"1.0.0"}`))
+	fmt.Println(string(text), err)
+	// Output: {"imageLayoutVersion":"1.0.0"} <nil>
+}
+
+func ExampleViolations() {
+	count, lines, err := Violations(Layout, []byte(`{"imageLayoutVersion":1}`))
+	fmt.Println(count, err)
+	fmt.Print(string(lines))
+	// Output:
+	// 1 <nil>
+	// /imageLayoutVersion: a string
+}
+
+func ExampleParseReference() {
+	reference, err := ParseReference("busybox")
+	fmt.Println(reference, reference.Repository, err)
+	// Output: docker.io/library/busybox:latest library/busybox <nil>
+}
+
+// The documents of the folder that CIDERGLEN_GOLDEN names, which tools/test_bindings writes.
+func TestGolden(t *testing.T) {
+	paths, _ := filepath.Glob(filepath.Join(os.Getenv("CIDERGLEN_GOLDEN"), "*.json"))
+	if os.Getenv("CIDERGLEN_GOLDEN") == "" || len(paths) == 0 {
+		t.Skip("CIDERGLEN_GOLDEN names no folder with documents")
+	}
+	for _, path := range paths {
+		base := strings.TrimSuffix(path, ".json")
+		number, err := strconv.Atoi(strings.TrimPrefix(filepath.Ext(base), "."))
+		if err != nil {
+			t.Fatal(err)
+		}
+		document, err := os.ReadFile(path)
+		if err != nil {
+			t.Fatal(err)
+		}
+		text, err := Normalize(Kind(number), document)
+		expected, missing := os.ReadFile(base + ".expected")
+		switch {
+		case missing != nil:
+			if err != ErrInvalidDocument && err != ErrInvalidJSON {
+				t.Errorf("%s: %v", path, err)
+			}
+		case err != nil || !bytes.Equal(text, expected):
+			t.Errorf("%s: %s, %v", path, text, err)
+		default:
+			if count, lines, err := Violations(Kind(number), document); count != 0 || len(lines) != 0 || err != nil {
+				t.Errorf("%s: %d violations, %v", path, count, err)
+			}
+		}
+	}
+}
+
+func TestErrors(t *testing.T) {
+	for _, it := range []struct {
+		kind     Kind
+		document string
+		expected Error
+	}{
+		{Layout, "", ErrInvalidJSON},
+		{Layout, "{", ErrInvalidJSON},
+		{Layout, "{}", ErrInvalidDocument},
+		{14, "{}", ErrUnknownKind},
+	} {
+		if _, err := Normalize(it.kind, []byte(it.document)); !errors.Is(err, it.expected) {
+			t.Errorf("Normalize(%d, %q): %v", it.kind, it.document, err)
+		}
+		if _, err := Pretty(it.kind, []byte(it.document)); !errors.Is(err, it.expected) {
+			t.Errorf("Pretty(%d, %q): %v", it.kind, it.document, err)
+		}
+	}
+	if _, err := Normalize(Layout, nil); err != ErrInvalidJSON {
+		t.Error(err)
+	}
+	if text := Error(99).Error(); text != "ciderglen: status 99" {
+		t.Error(text)
+	}
+}
+
+func TestReferences(t *testing.T) {
+	digest := "sha256:" + strings.Repeat("0", 64)
+	reference, err := ParseReference("test:5000/team/app:v1@" + digest)
+	if err != nil || reference.Registry != "test:5000" || reference.Repository != "team/app" || reference.Tag != "v1" || reference.Digest != digest {
+		t.Errorf("%+v, %v", reference, err)
+	}
+	if reference, err = ParseReference("busybox@" + digest); err != nil || reference.Tag != "" || reference.Digest != digest {
+		t.Errorf("%+v, %v", reference, err)
+	}
+	for text, expected := range map[string]Error{"": ErrNameEmpty, "Uppercase/repo": ErrNameContainsUppercase, "a:": ErrReferenceInvalidFormat, "\xff": ErrInvalidUTF8} {
+		if _, err := ParseReference(text); err != expected {
+			t.Errorf("%q: %v", text, err)
+		}
+		if _, err := ResolveRegistry(text); err != expected {
+			t.Errorf("%q: %v", text, err)
+		}
+	}
+	if registry, err := ResolveRegistry("busybox"); registry != "index.docker.io" || err != nil {
+		t.Error(registry, err)
+	}
+	if text, err := Pin("busybox:1", []byte(`{"mediaType":"a/b","size":1,"digest":"x:y"}`)); text != "docker.io/library/busybox@x:y" || err != nil {
+		t.Error(text, err)
+	}
+	if _, err := Pin("busybox", nil); err != ErrInvalidJSON {
+		t.Error(err)
+	}
+	if err := CheckDigest("foo:bar"); err != nil {
+		t.Error(err)
+	}
+	if err := CheckDigest(""); err != ErrInvalidDigest {
+		t.Error(err)
+	}
+}
+
+func TestGoroutines(t *testing.T) {
+	var all sync.WaitGroup
+	for i := 0; i < 64; i++ {
+		all.Add(1)
+		go func() {
+			defer all.Done()
+			for j := 0; j < 100; j++ {
+				if text, err := Normalize(Layout, []byte(layout)); err != nil || string(text) != `{"imageLayoutVersion":"1.0.0"}` {
+					t.Error(string(text), err)
+				}
+			}
+		}()
+	}
+	all.Wait()
+}
+
+func BenchmarkNormalize(b *testing.B) {
+	for i := 0; i < b.N; i++ {
+		if _, err := Normalize(Layout, []byte(layout)); err != nil {
+			b.Fatal(err)
+		}
+	}
+}

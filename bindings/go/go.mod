@@ -1,0 +1,3 @@
+module github.com/ciderglen/ciderglen-go
+
+go 1.19

@@ -1,0 +1,227 @@
+"""Canonical form and validation of the JSON documents of the Open Container Initiative, image references and digests.
+
+The functions call the shared library of Ciderglen, which is formally verified:
+
+>>> from ciderglen import Kind, normalize, parse_reference
+>>> normalize(Kind.LAYOUT, b'{"note":null, "imageLayoutVersion":"1.0.0"}')
+b'{"imageLayoutVersion":"1.0.0"}'
+>>> str(parse_reference("busybox"))
+'docker.io/library/busybox:latest'
+
+The library is the file that the environment variable CIDERGLEN_LIBRARY names, or else libciderglen.so where the loader finds it. All
+functions may be called from any thread; the interpreter's lock is released during a call.
+"""
+
+import ctypes
+import ctypes.util
+import enum
+import os
+from typing import Callable, List, NamedTuple, Optional
+
+__all__ = [
+    "Error",
+    "InvalidDocument",
+    "InvalidJSON",
+    "InvalidReference",
+    "Kind",
+    "Reference",
+    "Status",
+    "is_digest",
+    "normalize",
+    "normalize_pretty",
+    "parse_reference",
+    "pin",
+    "resolve_registry",
+    "violations",
+]
+
+INTERFACE = 1
+
+
+class Kind(enum.IntEnum):
+    """A kind of document."""
+
+    MANIFEST = 0
+    INDEX = 1
+    CONFIG = 2
+    ARTIFACT = 3
+    LAYOUT = 4
+    DESCRIPTOR = 5
+    ERROR = 6
+    REPOSITORIES = 7
+    TAGS = 8
+    REFERENCE = 9
+    SPEC = 10
+    STATE = 11
+    PROCESS_STATE = 12
+    FEATURES = 13
+
+
+class Status(enum.IntEnum):
+    """A status of the library."""
+
+    DONE = 0
+    BUFFER_TOO_SMALL = 1
+    OUT_OF_MEMORY = 2
+    UNKNOWN_KIND = 3
+    INVALID_JSON = 4
+    INVALID_DOCUMENT = 5
+    INVALID_UTF8 = 6
+    INVALID_DIGEST = 7
+    NAME_EMPTY = 16
+    NAME_CONTAINS_UPPERCASE = 17
+    NAME_TOO_LONG = 18
+    TAG_INVALID_FORMAT = 19
+    DIGEST_INVALID_FORMAT = 20
+    DIGEST_INVALID_LENGTH = 21
+    DIGEST_UNSUPPORTED = 22
+    REFERENCE_INVALID_FORMAT = 23
+
+
+class Error(ValueError):
+    """A call failed; `status` says why."""
+
+    def __init__(self, status: Status):
+        super().__init__(status.name.lower().replace("_", " "))
+        self.status = status
+
+
+class InvalidJSON(Error):
+    """The document is not JSON."""
+
+
+class InvalidDocument(Error):
+    """The document is JSON that its schema does not allow, or that has no canonical form."""
+
+
+class InvalidReference(Error):
+    """The text is not a reference to an image."""
+
+
+class Reference(NamedTuple):
+    """A reference to an image. `str` gives its whole text."""
+
+    registry: str
+    repository: str
+    tag: Optional[str]
+    digest: Optional[str]
+
+    def __str__(self) -> str:
+        tag = "" if self.tag is None else f":{self.tag}"
+        digest = "" if self.digest is None else f"@{self.digest}"
+        return f"{self.registry}/{self.repository}{tag}{digest}"
+
+
+class _Parts(ctypes.Structure):
+    _fields_ = [(name, ctypes.c_size_t) for name in ("registry", "repository", "tag", "digest")]
+
+
+def _load() -> ctypes.CDLL:
+    path = os.environ.get("CIDERGLEN_LIBRARY") or ctypes.util.find_library("ciderglen")
+    if not path:
+        raise ImportError("there is no libciderglen.so; CIDERGLEN_LIBRARY can name it")
+    library = ctypes.CDLL(path)
+    size, text, number = ctypes.c_size_t, ctypes.c_char_p, ctypes.c_uint32
+    output = [ctypes.c_char_p, size, ctypes.POINTER(size)]
+    for name, parameters in {
+        "interface": [],
+        "normalize": [number, text, size, *output],
+        "pretty": [number, text, size, *output],
+        "violations": [number, text, size, *output, ctypes.POINTER(size)],
+        "digest_check": [text, size],
+        "reference": [text, size, *output, ctypes.POINTER(_Parts)],
+        "resolve_registry": [text, size, *output],
+        "pin": [text, size, text, size, *output],
+    }.items():
+        function = getattr(library, f"ciderglen_{name}")
+        function.argtypes, function.restype = parameters, number
+    if library.ciderglen_interface() != INTERFACE:
+        raise ImportError(f"{path} has another interface than {INTERFACE}")
+    return library
+
+
+_library = _load()
+
+
+def _raise(number: int) -> None:
+    status = Status(number)
+    if status == Status.OUT_OF_MEMORY:
+        raise MemoryError
+    if status == Status.INVALID_JSON:
+        raise InvalidJSON(status)
+    if status == Status.INVALID_DOCUMENT:
+        raise InvalidDocument(status)
+    if status >= Status.NAME_EMPTY or status == Status.INVALID_UTF8:
+        raise InvalidReference(status)
+    raise Error(status)
+
+
+def _output(capacity: int, function: Callable[..., int], *inputs: object, outputs: tuple = ()) -> bytes:
+    """Calls with a buffer of the first capacity, and again with the capacity that is needed."""
+    length = ctypes.c_size_t()
+    while True:
+        buffer = ctypes.create_string_buffer(max(capacity, 1))
+        status = function(*inputs, buffer, capacity, ctypes.byref(length), *outputs)
+        if status == Status.DONE:
+            return buffer.raw[: length.value]
+        if status != Status.BUFFER_TOO_SMALL:
+            _raise(status)
+        capacity = length.value
+
+
+def normalize(kind: Kind, document: bytes) -> bytes:
+    """Returns the canonical form of a document as compact JSON.
+
+    Unknown members are left out, the others are in byte order of their names. It has another digest than the document. Raises
+    InvalidJSON, InvalidDocument or MemoryError.
+    """
+    document = bytes(document)
+    return _output(len(document) + 64, _library.ciderglen_normalize, Kind(kind), document, len(document))
+
+
+def normalize_pretty(kind: Kind, document: bytes) -> bytes:
+    """Returns the canonical form of a document as JSON that is indented by two spaces a level. Raises what normalize does."""
+    document = bytes(document)
+    return _output(2 * len(document) + 64, _library.ciderglen_pretty, Kind(kind), document, len(document))
+
+
+def violations(kind: Kind, document: bytes) -> List[str]:
+    """Returns all violations of the schema in a document: the place as a JSON pointer, a colon, a space and what was expected there.
+
+    The list is empty exactly if the document is valid. Raises InvalidJSON or MemoryError.
+    """
+    document, count = bytes(document), ctypes.c_size_t()
+    lines = _output(256, _library.ciderglen_violations, Kind(kind), document, len(document), outputs=(ctypes.byref(count),))
+    return lines.decode().split("\n")[:-1]
+
+
+def parse_reference(text: str) -> Reference:
+    """Parses a reference to an image: `busybox` is `docker.io/library/busybox:latest`. Raises InvalidReference or MemoryError."""
+    data, parts = text.encode("utf-8", "surrogatepass"), _Parts()
+    whole = _output(len(data) + 32, _library.ciderglen_reference, data, len(data), outputs=(ctypes.byref(parts),)).decode()
+    at, found = 0, []
+    for length in (parts.registry, parts.repository, parts.tag, parts.digest):
+        found.append(whole[at : at + length] if length else None)
+        at += length + 1 if length else 0
+    return Reference(found[0] or "", found[1] or "", found[2], found[3])
+
+
+def resolve_registry(text: str) -> str:
+    """Returns the registry that a reference is pulled from: `index.docker.io` in place of `docker.io`. Raises what parse_reference does."""
+    data = text.encode("utf-8", "surrogatepass")
+    return _output(len(data) + 32, _library.ciderglen_resolve_registry, data, len(data)).decode()
+
+
+def pin(text: str, descriptor: bytes) -> str:
+    """Returns the whole text of a reference with the digest of a descriptor, which is JSON, in place of its tag and digest.
+
+    Raises what parse_reference does, and InvalidJSON or InvalidDocument if there is no descriptor.
+    """
+    data, descriptor = text.encode("utf-8", "surrogatepass"), bytes(descriptor)
+    return _output(len(data) + 128, _library.ciderglen_pin, data, len(data), descriptor, len(descriptor)).decode()
+
+
+def is_digest(text: str) -> bool:
+    """Returns whether the text is a digest."""
+    data = text.encode("utf-8", "surrogatepass")
+    return _library.ciderglen_digest_check(data, len(data)) == Status.DONE

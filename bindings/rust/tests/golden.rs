@@ -1,0 +1,111 @@
+//! The documents of the folder that CIDERGLEN_GOLDEN names, which tools/test_bindings writes, and a test of each function.
+use ciderglen::{
+    is_digest, normalize, normalize_pretty, pin, resolve_registry, violations, Error, Kind,
+    Reference, Violations,
+};
+use std::path::PathBuf;
+use std::{env, fs, thread};
+
+const LAYOUT: &[u8] = br#"{"x":1, "imageLayoutVersion":"1.0.0"}"#;
+
+fn documents() -> Vec<PathBuf> {
+    let Some(folder) = env::var_os("CIDERGLEN_GOLDEN") else {
+        return Vec::new();
+    };
+    let entries = fs::read_dir(folder).expect("a folder");
+    let paths = entries.map(|entry| entry.expect("an entry").path());
+    paths
+        .filter(|path| path.extension().map_or(false, |it| it == "json"))
+        .collect()
+}
+
+#[test]
+fn golden_documents() {
+    for path in documents() {
+        let base = path.with_extension("");
+        let number = base.extension().expect("a kind").to_string_lossy();
+        let kind = Kind::ALL[number.parse::<usize>().expect("a number")];
+        let document = fs::read(&path).expect("a file");
+        let text = normalize(kind, &document);
+        match fs::read(path.with_extension("expected")) {
+            Ok(expected) => {
+                assert_eq!(text, Ok(expected), "{}", path.display());
+                let found = violations(kind, &document).expect("JSON");
+                assert_eq!((found.count, found.lines.as_str()), (0, ""));
+                let pretty = normalize_pretty(kind, &document).expect("a document");
+                assert_eq!(normalize(kind, &pretty), text);
+            }
+            Err(_) => assert!(matches!(
+                text,
+                Err(Error::InvalidDocument | Error::InvalidJson)
+            )),
+        }
+    }
+}
+
+#[test]
+fn errors() {
+    for (kind, document, error) in [
+        (Kind::Layout, "", Error::InvalidJson),
+        (Kind::Layout, "{", Error::InvalidJson),
+        (Kind::Layout, "{}", Error::InvalidDocument),
+        (Kind::Manifest, "[]", Error::InvalidDocument),
+    ] {
+        assert_eq!(normalize(kind, document.as_bytes()), Err(error));
+        assert_eq!(normalize_pretty(kind, document.as_bytes()), Err(error));
+    }
+    let found = violations(Kind::Layout, br#"{"imageLayoutVersion":1}"#);
+    let lines = "/imageLayoutVersion: a string\n".to_string();
+    assert_eq!(found, Ok(Violations { count: 1, lines }));
+    assert_eq!(violations(Kind::Layout, b""), Err(Error::InvalidJson));
+}
+
+#[test]
+fn references() {
+    let digest = format!("sha256:{}", "0".repeat(64));
+    let reference = Reference::parse(&format!("test:5000/team/app:v1@{digest}")).expect("one");
+    assert_eq!(reference.registry(), "test:5000");
+    assert_eq!(reference.repository(), "team/app");
+    assert_eq!(reference.tag(), Some("v1"));
+    assert_eq!(reference.digest(), Some(digest.as_str()));
+    let reference: Reference = "busybox".parse().expect("one");
+    assert_eq!(reference.to_string(), "docker.io/library/busybox:latest");
+    assert_eq!(
+        (reference.tag(), reference.digest()),
+        (Some("latest"), None)
+    );
+    assert_eq!(Reference::parse(""), Err(Error::NameEmpty));
+    assert_eq!(
+        Reference::parse("Uppercase/repo"),
+        Err(Error::NameContainsUppercase)
+    );
+    assert_eq!(resolve_registry("busybox"), Ok("index.docker.io".into()));
+    let descriptor = br#"{"mediaType":"a/b","size":1,"digest":"x:y"}"#;
+    assert_eq!(
+        pin("busybox:1", descriptor),
+        Ok("docker.io/library/busybox@x:y".into())
+    );
+    assert_eq!(pin("busybox", b""), Err(Error::InvalidJson));
+    assert!(is_digest("foo:bar") && !is_digest("sha256:abc") && !is_digest(""));
+}
+
+#[test]
+fn threads() {
+    thread::scope(|scope| {
+        for _ in 0..8 {
+            scope.spawn(|| {
+                for _ in 0..200 {
+                    let text = normalize(Kind::Layout, LAYOUT).expect("a layout");
+                    assert_eq!(text, br#"{"imageLayoutVersion":"1.0.0"}"#);
+                }
+            });
+        }
+    });
+}
+
+#[test]
+fn same_interface() {
+    // SAFETY: it takes nothing and answers a number.
+    let interface = unsafe { ciderglen_sys::ciderglen_interface() };
+    assert_eq!(interface, ciderglen_sys::CIDERGLEN_INTERFACE);
+}

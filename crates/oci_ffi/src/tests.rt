@@ -1,0 +1,103 @@
+use crate::digest::ciderglen_digest_check;
+use crate::document::{ciderglen_normalize, ciderglen_pretty};
+use crate::interface::{INTERFACE, ciderglen_interface};
+use crate::kind::{LAYOUT, MANIFEST};
+use crate::pinning::ciderglen_pin;
+use crate::reference::{CiderglenReference, ciderglen_reference, ciderglen_resolve_registry};
+use crate::status::{BUFFER_TOO_SMALL, DONE, INVALID_DOCUMENT, UNKNOWN_KIND};
+use crate::violations::ciderglen_violations;
+
+#[test]
+fn documents(rt: HostRuntime) {
+    let layout = b"{\"x\":1, \"imageLayoutVersion\":\"1.0.0\"}";
+    let mut buffer = [0u8; 64];
+    let mut small = [0u8; 8];
+    let mut output_len = 0;
+    let status = ciderglen_normalize(rt.alloc(), LAYOUT, layout, &mut buffer, &mut output_len);
+    assert_eq!(rt; status, DONE);
+    assert_eq!(rt;
+        &buffer[..output_len.min(64)],
+        b"{\"imageLayoutVersion\":\"1.0.0\"}".as_slice()
+    );
+    let status = ciderglen_normalize(rt.alloc(), LAYOUT, layout, &mut small, &mut output_len);
+    assert_eq!(rt; status, BUFFER_TOO_SMALL);
+    assert_eq!(rt; output_len, 30);
+    assert_eq!(rt; small, [0u8; 8]);
+    let status = ciderglen_normalize(rt.alloc(), MANIFEST, layout, &mut buffer, &mut output_len);
+    assert_eq!(rt; status, INVALID_DOCUMENT);
+    let status = ciderglen_normalize(rt.alloc(), 14, layout, &mut buffer, &mut output_len);
+    assert_eq!(rt; status, UNKNOWN_KIND);
+    let status = ciderglen_pretty(rt.alloc(), LAYOUT, layout, &mut buffer, &mut output_len);
+    assert_eq!(rt; status, DONE);
+    assert_eq!(rt;
+        &buffer[..output_len.min(64)],
+        b"{\n  \"imageLayoutVersion\": \"1.0.0\"\n}".as_slice()
+    );
+    assert_eq!(rt; ciderglen_interface(), INTERFACE);
+}
+
+#[test]
+fn violations(rt: HostRuntime) {
+    let mut buffer = [0u8; 200];
+    let mut output_len = 0;
+    let mut count = 0;
+    let status = ciderglen_violations(
+        rt.alloc(),
+        LAYOUT,
+        b"{\"imageLayoutVersion\":1}",
+        &mut buffer,
+        &mut output_len,
+        &mut count,
+    );
+    assert_eq!(rt; status, DONE);
+    assert_eq!(rt; count, 1);
+    assert_eq!(rt;
+        &buffer[..output_len.min(200)],
+        b"/imageLayoutVersion: a string\n".as_slice()
+    );
+}
+
+#[test]
+fn texts(rt: HostRuntime) {
+    let mut buffer = [0u8; 128];
+    let mut output_len = 0;
+    let mut parts = CiderglenReference {
+        registry: 0,
+        repository: 0,
+        tag: 0,
+        digest: 0,
+    };
+    let status = ciderglen_reference(
+        rt.alloc(),
+        b"busybox",
+        &mut buffer,
+        &mut output_len,
+        &mut parts,
+    );
+    assert_eq!(rt; status, DONE);
+    assert_eq!(rt;
+        &buffer[..output_len.min(128)],
+        b"docker.io/library/busybox:latest".as_slice()
+    );
+    assert_eq!(rt; parts.repository, 15);
+    let status = ciderglen_resolve_registry(rt.alloc(), b"busybox", &mut buffer, &mut output_len);
+    assert_eq!(rt; status, DONE);
+    assert_eq!(rt;
+        &buffer[..output_len.min(128)],
+        b"index.docker.io".as_slice()
+    );
+    let descriptor = b"{\"mediaType\":\"a/b\",\"size\":1,\"digest\":\"x:y\"}";
+    let status = ciderglen_pin(
+        rt.alloc(),
+        b"busybox",
+        descriptor,
+        &mut buffer,
+        &mut output_len,
+    );
+    assert_eq!(rt; status, DONE);
+    assert_eq!(rt;
+        &buffer[..output_len.min(128)],
+        b"docker.io/library/busybox@x:y".as_slice()
+    );
+    assert_eq!(rt; ciderglen_digest_check(b"foo:bar"), DONE);
+}

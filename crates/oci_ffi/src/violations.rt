@@ -1,0 +1,117 @@
+//! The violations of a document's schema.
+ghost use Rattle.std.specs.Prelude.{◌≡◌, ◌≤◌, ◌<◌, ◌↔◌, ℕ, List, [], length, None, IfOk, IfErr, IsSomeAnd};
+ghost use Rattle.serde_json.specs.Data.{Data};
+ghost use Rattle.oci_json_io.specs.Engines.{MeansBytes, ReadsAs, IsNoJson};
+ghost use Rattle.oci_json_model.specs.Plain.{Plain};
+ghost use Rattle.oci_text_base.specs.Refused.{IsJson, IsSchema};
+ghost use Rattle.oci_ffi.specs.Buffers.{Fills, Overflows, Untouched};
+ghost use Rattle.oci_schema_walks.specs.Violations.{violations as all_violations};
+ghost use Rattle.oci_ffi.specs.Kinds.{shape_of, shape_numbered};
+
+use crate::buffer::put;
+use crate::input::{status_of, value_of};
+use crate::kind::schema_of;
+use crate::status::{BUFFER_TOO_SMALL, DONE, INVALID_JSON, UNKNOWN_KIND};
+use oci_schema::{Violation, violations};
+use oci_schema_types::Schema;
+use oci_schemas::OciRecords;
+use oci_text_base::Result;
+use std::alloc::{AllocError, Global};
+
+/// The violations in a document.
+#[derive(Drop)]
+struct Findings {
+    /// A line for each.
+    lines: String,
+    /// How many there are.
+    count: usize,
+}
+
+/// A line for each violation.
+fn lines_of(found: &Vec<Violation>, alloc: Global) -> std::result::Result<String, AllocError> {
+    let mut lines = String::new(alloc);
+    for violation in found {
+        let pointer = violation.pointer.as_str();
+        let expected = violation.expected;
+        let line = format!(in alloc; "{pointer}: {expected}\n")?;
+        lines.push_str(line.as_str())?;
+    }
+    Ok(lines)
+}
+
+/// The violations of a schema in a document.
+#[tactic(auto, using(crate::proofs::Reported::none_found, crate::proofs::Reported::all_counted))]
+fn found_in(schema: &Schema, alloc: Global, document: &[u8]) -> Result<Findings>
+    ensures valid { IfOk result (λ r. (r.count ≡ 0) ↔ ((p : Plain) × MeansBytes (shape_of schema.now) document.now p)) }
+    ensures counted { IfOk result (λ r. (d : Data) × ReadsAs document.now d × (r.count ≡ length (all_violations (shape_of schema.now) [] d))) }
+    ensures json { IfErr result (λ e. IsJson e → IsNoJson document.now) }
+    ensures no_schema { IfErr result (λ e. ¬ IsSchema e) }
+{
+    let value = value_of(alloc, document)?;
+    let found = violations(&OciRecords, schema, &value, alloc)?;
+    let lines = lines_of(&found, alloc)?;
+    let count = found.len();
+    Ok(Findings { lines, count })
+}
+
+/// Writes the violations of a schema, as `ciderglen_violations` does.
+fn report(
+    alloc: Global,
+    schema: &Schema,
+    document: &[u8],
+    buffer: &mut [u8],
+    output_len: &mut usize,
+    count: &mut usize,
+) -> u32
+    ensures done { result ≡ DONE → (text : List ℕ) × Fills buffer.old buffer.new output_len.new text }
+    ensures small { result ≡ BUFFER_TOO_SMALL → (text : List ℕ) × Overflows buffer.old buffer.new output_len.new text }
+    ensures counted { result ≤ BUFFER_TOO_SMALL → (d : Data) × ReadsAs document.now d × (count.new ≡ length (all_violations (shape_of schema.now) [] d)) }
+    ensures valid { result ≤ BUFFER_TOO_SMALL → (count.new ≡ 0) ↔ ((p : Plain) × MeansBytes (shape_of schema.now) document.now p) }
+    ensures json { result ≡ INVALID_JSON → IsNoJson document.now }
+    ensures untouched { BUFFER_TOO_SMALL < result → Untouched buffer.old buffer.new output_len.new × (count.new ≡ 0) }
+    ensures known { ¬ (result ≡ UNKNOWN_KIND) }
+    ensures status { result ≤ INVALID_JSON }
+{
+    *output_len = 0;
+    *count = 0;
+    match found_in(schema, alloc, document) {
+        Ok(found) => {
+            *count = found.count;
+            put(found.lines.as_bytes(), buffer, output_len)
+        }
+        Err(error) => status_of(&error),
+    }
+}
+
+/// Writes a line for each violation of the schema in a document: its place as a JSON pointer (RFC 6901), a colon, a space, what was
+/// expected there and a newline. Sets `*count` to their number, which is 0 exactly if the document is valid.
+///
+/// Returns CIDERGLEN_INVALID_JSON or CIDERGLEN_UNKNOWN_KIND if the document has no violations to list. After any status but
+/// CIDERGLEN_DONE and CIDERGLEN_BUFFER_TOO_SMALL `*count` is 0.
+#[unsafe(no_mangle)]
+pub extern "C" fn ciderglen_violations(
+    alloc: Global,
+    kind: u32,
+    document: &[u8],
+    buffer: &mut [u8],
+    output_len: &mut usize,
+    count: &mut usize,
+) -> u32
+    ensures done { result ≡ DONE → (text : List ℕ) × Fills buffer.old buffer.new output_len.new text }
+    ensures small { result ≡ BUFFER_TOO_SMALL → (text : List ℕ) × Overflows buffer.old buffer.new output_len.new text }
+    ensures counted { result ≤ BUFFER_TOO_SMALL → IsSomeAnd (shape_numbered kind) (λ s. (d : Data) × ReadsAs document.now d × (count.new ≡ length (all_violations s [] d))) }
+    ensures valid { result ≤ BUFFER_TOO_SMALL → IsSomeAnd (shape_numbered kind) (λ s. (count.new ≡ 0) ↔ ((p : Plain) × MeansBytes s document.now p)) }
+    ensures json { result ≡ INVALID_JSON → IsNoJson document.now }
+    ensures unknown { (result ≡ UNKNOWN_KIND) ↔ (shape_numbered kind ≡ None) }
+    ensures untouched { BUFFER_TOO_SMALL < result → Untouched buffer.old buffer.new output_len.new × (count.new ≡ 0) }
+    ensures status { result ≤ INVALID_JSON }
+{
+    match schema_of(kind) {
+        Some(schema) => report(alloc, schema, document, buffer, output_len, count),
+        None => {
+            *output_len = 0;
+            *count = 0;
+            UNKNOWN_KIND
+        }
+    }
+}
