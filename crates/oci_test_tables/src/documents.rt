@@ -1,6 +1,6 @@
 //! Constants and default documents.
 
-use crate::rows::{ask, count, read};
+use crate::rows::{ask, count, read, report};
 use anyhow::Result;
 use oci_json_model::OciMember;
 use oci_spec::OciSpecError;
@@ -22,41 +22,18 @@ pub fn constants<T: Debug, R: Files + Print + AllocGlobal>(
     count(rt, "constants", kind, all.len())
 }
 
-/// Compares a default, or what a builder makes that is given nothing, with its row, `NAME JSON`.
+/// Compares a default, or what a builder makes that is given nothing, with its row: `NAME JSON` or `NAME ! FIELD`.
 pub fn document<T: OciMember, R: Files + Print + AllocGlobal>(
     rt: &R,
-    rows: &mut usize,
     name: &str,
     made: oci_spec::Result<T>,
 ) {
-    *rows = rows.saturating_add(1);
-    if let Err(fault) = ask_document(rt, name, made) {
-        let _ = println!(rt; "defaults: {name}: {fault}");
-    }
+    report(rt, name, ask_document(rt, name, made));
 }
 
-/// Compares a record's default and its builder's.
-pub fn record<T: OciMember, R: Files + Print + AllocGlobal>(
-    rt: &R,
-    rows: &mut usize,
-    name: &str,
-    made: oci_spec::Result<T>,
-    built: oci_spec::Result<T>,
-) {
-    *rows = rows.saturating_add(1);
-    document(rt, rows, name, made);
-    if let Err(fault) = ask_builder(rt, name, built) {
-        let _ = println!(rt; "defaults: {name}Builder: {fault}");
-    }
-}
-
-fn ask_builder<T: OciMember, R: Files + Print + AllocGlobal>(
-    rt: &R,
-    name: &str,
-    built: oci_spec::Result<T>,
-) -> Result<()> {
-    let builder = format!(in rt.alloc(); "{name}Builder")?;
-    ask_document(rt, builder.as_str(), built)
+/// Prints how many defaults of a group were compared.
+pub fn report_count<R: Print>(rt: &R, group: &str, rows: usize) {
+    report(rt, group, count(rt, "defaults", group, rows));
 }
 
 fn ask_document<T: OciMember, R: Files + Print + AllocGlobal>(
