@@ -87,9 +87,19 @@ def action_rows(crate, declared):
         yield "as_u32", variant, f"0x{handed_on:08x}"
 
 
+def error_rows(crate, declared):
+    """What thiserror derives: a text for each variant, in which constants are put."""
+    known = {name: value for _, name, value in crate.constants()}
+    for it in declared.members:
+        shown = re.search(r'#\[error\("([^"]*)"\)\]', it.attributes)[1]
+        yield "display", it.name, re.sub(r"\{(\w+)\}", lambda found: known[found[1]], shown)
+
+
 def closed(crate, name):
     """The rows of an enum that has a text for each variant."""
     it = crate.declared[name]
+    if name == "ParseError":
+        return list(error_rows(crate, it))
     rows = [("json", member.name, json_text(it, member)) for member in it.members]
     rows += strum_rows(it)
     for kind, head in [("display", f"impl Display for {name} "), ("display", "pub fn as_str(&self)"),

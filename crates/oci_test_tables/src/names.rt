@@ -6,7 +6,7 @@ use crate::rows::{ask, count_variants, read};
 use anyhow::Result;
 use oci_json_model::ClosedName;
 use oci_process_names::capability;
-use oci_spec::distribution::ErrorCode;
+use oci_spec::distribution::{ErrorCode, ParseError};
 use oci_spec::image::{Arch, DigestAlgorithm, MediaType, Os};
 use oci_spec::runtime::{
     Arch as SArch, Capability, ContainerState, IOPriorityClass, LinuxDeviceType,
@@ -168,6 +168,18 @@ pub fn capabilities<R: Files + Print + AllocGlobal>(rt: &R) -> Result<()> {
     written(rt, "Capability", "header", &capability::ALL)
 }
 
+/// What is wrong with a reference, as the original crate has it: all but `Memory`.
+static PARSE_ERRORS: [ParseError; 8] = [
+    ParseError::DigestInvalidFormat,
+    ParseError::DigestInvalidLength,
+    ParseError::DigestUnsupported,
+    ParseError::NameContainsUppercase,
+    ParseError::NameEmpty,
+    ParseError::NameTooLong,
+    ParseError::ReferenceInvalidFormat,
+    ParseError::TagInvalidFormat,
+];
+
 /// Those of z/OS, of states and of a registry's errors.
 pub fn others<R: Files + Print + AllocGlobal>(rt: &R) -> Result<()> {
     json(rt, "ZOSNamespaceType", ZOSNamespaceType::all())?;
@@ -180,7 +192,8 @@ pub fn others<R: Files + Print + AllocGlobal>(rt: &R) -> Result<()> {
     )?;
     json(rt, "ContainerState", ContainerState::all())?;
     displayed(rt, "ContainerState", ContainerState::all())?;
-    named(rt, "ErrorCode", ErrorCode::from_str)
+    named(rt, "ErrorCode", ErrorCode::from_str)?;
+    displayed(rt, "ParseError", &PARSE_ERRORS)
 }
 
 /// Those that have other texts too.
