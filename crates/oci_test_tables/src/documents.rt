@@ -1,0 +1,60 @@
+//! Constants and default documents.
+
+use crate::rows::{ask, count, read, report};
+use anyhow::Result;
+use oci_json_model::OciMember;
+use oci_spec::OciSpecError;
+use std::alloc::Global;
+use std::fmt::Debug;
+use std::rt::Files;
+
+/// Compares constants with their rows, `NAME VALUE`.
+pub fn constants<T: Debug, R: Files + Print + AllocGlobal>(
+    rt: &R,
+    kind: &str,
+    all: &[(&str, T)],
+) -> Result<()> {
+    let rows = read(rt, "constants")?;
+    for (name, value) in all {
+        let here = format!(in rt.alloc(); "{name} {value:?}")?;
+        ask(rt, "constants", rows.as_str(), here.as_str())?;
+    }
+    count(rt, "constants", kind, all.len())
+}
+
+/// Compares a default, or what a builder makes that is given nothing, with its row: `NAME JSON` or `NAME ! FIELD`.
+pub fn document<T: OciMember, R: Files + Print + AllocGlobal>(
+    rt: &R,
+    name: &str,
+    made: oci_spec::Result<T>,
+) {
+    report(rt, name, ask_document(rt, name, made));
+}
+
+/// Prints how many defaults of a group were compared.
+pub fn report_count<R: Print>(rt: &R, group: &str, rows: usize) {
+    report(rt, group, count(rt, "defaults", group, rows));
+}
+
+fn ask_document<T: OciMember, R: Files + Print + AllocGlobal>(
+    rt: &R,
+    name: &str,
+    made: oci_spec::Result<T>,
+) -> Result<()> {
+    let rows = read(rt, "defaults")?;
+    let text = text_of(rt.alloc(), made)?;
+    let here = format!(in rt.alloc(); "{name} {text}")?;
+    ask(rt, "defaults", rows.as_str(), here.as_str())
+}
+
+/// The compact text, or the first field that a builder wants.
+fn text_of<T: OciMember>(alloc: Global, made: oci_spec::Result<T>) -> Result<String> {
+    match made {
+        Ok(x) => Ok(x.write(alloc)?.to_string(alloc)?),
+        Err(OciSpecError::Builder(unset)) => {
+            let field = unset.field_name();
+            Ok(format!(in alloc; "! {field}")?)
+        }
+        Err(fault) => Ok(format!(in alloc; "{fault}")?),
+    }
+}
