@@ -172,9 +172,40 @@ static void others(void) {
     CHECK(ciderglen_pin(TEXT("busybox:"), TEXT("{"), buffer, sizeof buffer, &output_len) == CIDERGLEN_REFERENCE_INVALID_FORMAT);
 }
 
+/* Documents that nest as deep as the parser allows. */
+static void deep(void) {
+    static const struct {
+        uint32_t kind;
+        const char *begin, *end;
+    } documents[] = {
+        {CIDERGLEN_KIND_LAYOUT, "{\"imageLayoutVersion\":\"1.0.0\",\"x\":", "}"},
+        {CIDERGLEN_KIND_ERROR, "{\"errors\":[{\"code\":\"DENIED\",\"detail\":", "}]}"},
+        {CIDERGLEN_KIND_SPEC, "{\"ociVersion\":\"1.0.0\",\"windows\":{\"layerFolders\":[],\"credentialSpec\":{\"x\":", "}}}"},
+    };
+    for (size_t i = 0; i < sizeof documents / sizeof *documents; i++) {
+        uint32_t last = CIDERGLEN_INVALID_JSON;
+        for (int depth = 130; depth > 100; depth--) {
+            uint8_t document[1024], buffer[1024];
+            size_t output_len, count;
+            char brackets[2][132];
+            memset(brackets[0], '[', 131);
+            memset(brackets[1], ']', 131);
+            int len = snprintf((char *)document, sizeof document, "%s%.*s%.*s%s", documents[i].begin, depth, brackets[0], depth, brackets[1], documents[i].end);
+            uint32_t status = ciderglen_normalize(documents[i].kind, document, (size_t)len, buffer, sizeof buffer, &output_len);
+            CHECK(ciderglen_violations(documents[i].kind, document, (size_t)len, buffer, sizeof buffer, &output_len, &count) <= CIDERGLEN_INVALID_JSON);
+            ciderglen_pretty(documents[i].kind, document, (size_t)len, buffer, sizeof buffer, &output_len);
+            /* too deep, and below some depth not */
+            CHECK(status == last || last == CIDERGLEN_INVALID_JSON);
+            last = status;
+        }
+        CHECK(last == CIDERGLEN_DONE);
+    }
+}
+
 static void *in_thread(void *unused) {
     (void)unused;
     others();
+    deep();
     return 0;
 }
 
@@ -195,7 +226,10 @@ int main(int argc, char **argv) {
     closedir(folder);
     others();
     changed_references(is_short ? 1000 : 100000);
-    for (int i = 0; i < 8; i++) pthread_create(&threads[i], 0, in_thread, 0);
+    pthread_attr_t small_stack;
+    pthread_attr_init(&small_stack);
+    pthread_attr_setstacksize(&small_stack, 256 << 10);
+    for (int i = 0; i < 8; i++) pthread_create(&threads[i], &small_stack, in_thread, 0);
     for (int i = 0; i < 8; i++) pthread_join(threads[i], 0);
     printf("%d documents, %d failures\n", documents, failures);
     return failures != 0 || documents == 0;

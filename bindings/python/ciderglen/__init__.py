@@ -163,7 +163,7 @@ def _output(capacity: int, function: Callable[..., int], *inputs: object, output
         buffer = ctypes.create_string_buffer(max(capacity, 1))
         status = function(*inputs, buffer, capacity, ctypes.byref(length), *outputs)
         if status == Status.DONE:
-            return buffer.raw[: length.value]
+            return buffer[: length.value]
         if status != Status.BUFFER_TOO_SMALL:
             _raise(status)
         capacity = length.value
