@@ -1,23 +1,25 @@
 //! The defaults of all records and enums, and what each builder makes that is given nothing.
 
 use crate::documents::{document, report_count};
+use crate::rows::read;
+use anyhow::Result;
 use oci_spec::{distribution, image, runtime};
 use std::rt::Files;
 
 /// Compares the defaults of enums.
 macro_rules! enums {
-    ($rt:expr, $($from:ident $name:ident)*) => {
-        $(document($rt, stringify!($name), Ok($from::$name::default()));)*
+    ($rt:expr, $rows:expr, $($from:ident $name:ident)*) => {
+        $(document($rt, $rows, stringify!($name), Ok($from::$name::default()));)*
         report_count($rt, "enums", [$(stringify!($name)),*].len());
     };
 }
 
 /// Compares the defaults of records, and what their builders make.
 macro_rules! records {
-    ($rt:expr, $group:expr, $($from:ident $name:ident $builder:ident)*) => {
+    ($rt:expr, $rows:expr, $group:expr, $($from:ident $name:ident $builder:ident)*) => {
         $(
-            document($rt, stringify!($name), $from::$name::try_default($rt.alloc()));
-            document($rt, stringify!($builder), $from::$builder::default().build($rt.alloc()));
+            document($rt, $rows, stringify!($name), $from::$name::try_default($rt.alloc()));
+            document($rt, $rows, stringify!($builder), $from::$builder::default().build($rt.alloc()));
         )*
         report_count($rt, $group, [$(stringify!($name), stringify!($builder)),*].len());
     };
@@ -25,29 +27,32 @@ macro_rules! records {
 
 /// Compares what the builders make of records that have no default.
 macro_rules! builders {
-    ($rt:expr, $($from:ident $builder:ident)*) => {
-        $(document($rt, stringify!($builder), $from::$builder::default().build($rt.alloc()));)*
+    ($rt:expr, $rows:expr, $($from:ident $builder:ident)*) => {
+        $(document($rt, $rows, stringify!($builder), $from::$builder::default().build($rt.alloc()));)*
         report_count($rt, "builders", [$(stringify!($builder)),*].len());
     };
 }
 
 /// Compares all of them.
-pub fn all<R: Files + Print + AllocGlobal>(rt: &R) {
-    enums(rt);
-    image(rt);
-    linux(rt);
-    control_groups(rt);
-    process(rt);
-    platforms(rt);
-    windows(rt);
-    features(rt);
-    containers(rt);
-    builders(rt);
-    calls(rt);
+pub fn all<R: Files + Print + AllocGlobal>(rt: &R) -> Result<()> {
+    let rows = read(rt, "defaults")?;
+    let rows = rows.as_str();
+    enums(rt, rows);
+    image(rt, rows);
+    linux(rt, rows);
+    control_groups(rt, rows);
+    process(rt, rows);
+    platforms(rt, rows);
+    windows(rt, rows);
+    features(rt, rows);
+    containers(rt, rows);
+    builders(rt, rows);
+    calls(rt, rows);
+    Ok(())
 }
 
-fn enums<R: Files + Print + AllocGlobal>(rt: &R) {
-    enums!(rt,
+fn enums<R: Files + Print + AllocGlobal>(rt: &R, rows: &str) {
+    enums!(rt, rows,
         image Os
         image Arch
         runtime LinuxDeviceType
@@ -65,8 +70,8 @@ fn enums<R: Files + Print + AllocGlobal>(rt: &R) {
     );
 }
 
-fn image<R: Files + Print + AllocGlobal>(rt: &R) {
-    records!(rt, "image",
+fn image<R: Files + Print + AllocGlobal>(rt: &R, rows: &str) {
+    records!(rt, rows, "image",
         image ImageConfiguration ImageConfigurationBuilder
         image Config ConfigBuilder
         image RootFs RootFsBuilder
@@ -76,8 +81,8 @@ fn image<R: Files + Print + AllocGlobal>(rt: &R) {
     );
 }
 
-fn linux<R: Files + Print + AllocGlobal>(rt: &R) {
-    records!(rt, "linux",
+fn linux<R: Files + Print + AllocGlobal>(rt: &R, rows: &str) {
+    records!(rt, rows, "linux",
         runtime Linux LinuxBuilder
         runtime LinuxIdMapping LinuxIdMappingBuilder
         runtime LinuxNetDevice LinuxNetDeviceBuilder
@@ -93,8 +98,8 @@ fn linux<R: Files + Print + AllocGlobal>(rt: &R) {
     );
 }
 
-fn control_groups<R: Files + Print + AllocGlobal>(rt: &R) {
-    records!(rt, "control groups",
+fn control_groups<R: Files + Print + AllocGlobal>(rt: &R, rows: &str) {
+    records!(rt, rows, "control groups",
         runtime LinuxDeviceCgroup LinuxDeviceCgroupBuilder
         runtime LinuxMemory LinuxMemoryBuilder
         runtime LinuxCpu LinuxCpuBuilder
@@ -110,8 +115,8 @@ fn control_groups<R: Files + Print + AllocGlobal>(rt: &R) {
     );
 }
 
-fn process<R: Files + Print + AllocGlobal>(rt: &R) {
-    records!(rt, "process",
+fn process<R: Files + Print + AllocGlobal>(rt: &R, rows: &str) {
+    records!(rt, rows, "process",
         runtime Process ProcessBuilder
         runtime Box BoxBuilder
         runtime PosixRlimit PosixRlimitBuilder
@@ -123,8 +128,8 @@ fn process<R: Files + Print + AllocGlobal>(rt: &R) {
     );
 }
 
-fn platforms<R: Files + Print + AllocGlobal>(rt: &R) {
-    records!(rt, "platforms",
+fn platforms<R: Files + Print + AllocGlobal>(rt: &R, rows: &str) {
+    records!(rt, rows, "platforms",
         runtime Solaris SolarisBuilder
         runtime SolarisAnet SolarisAnetBuilder
         runtime SolarisCappedCPU SolarisCappedCPUBuilder
@@ -138,8 +143,8 @@ fn platforms<R: Files + Print + AllocGlobal>(rt: &R) {
     );
 }
 
-fn windows<R: Files + Print + AllocGlobal>(rt: &R) {
-    records!(rt, "windows",
+fn windows<R: Files + Print + AllocGlobal>(rt: &R, rows: &str) {
+    records!(rt, rows, "windows",
         runtime Windows WindowsBuilder
         runtime WindowsDevice WindowsDeviceBuilder
         runtime WindowsResources WindowsResourcesBuilder
@@ -151,8 +156,8 @@ fn windows<R: Files + Print + AllocGlobal>(rt: &R) {
     );
 }
 
-fn features<R: Files + Print + AllocGlobal>(rt: &R) {
-    records!(rt, "features",
+fn features<R: Files + Print + AllocGlobal>(rt: &R, rows: &str) {
+    records!(rt, rows, "features",
         runtime Features FeaturesBuilder
         runtime LinuxFeature LinuxFeatureBuilder
         runtime Cgroup CgroupBuilder
@@ -167,8 +172,8 @@ fn features<R: Files + Print + AllocGlobal>(rt: &R) {
     );
 }
 
-fn containers<R: Files + Print + AllocGlobal>(rt: &R) {
-    records!(rt, "containers",
+fn containers<R: Files + Print + AllocGlobal>(rt: &R, rows: &str) {
+    records!(rt, rows, "containers",
         runtime Hooks HooksBuilder
         runtime Hook HookBuilder
         runtime Root RootBuilder
@@ -179,8 +184,8 @@ fn containers<R: Files + Print + AllocGlobal>(rt: &R) {
     );
 }
 
-fn builders<R: Files + Print + AllocGlobal>(rt: &R) {
-    builders!(rt,
+fn builders<R: Files + Print + AllocGlobal>(rt: &R, rows: &str) {
+    builders!(rt, rows,
         distribution ErrorResponseBuilder
         distribution ErrorInfoBuilder
         distribution RepositoryListBuilder
@@ -192,36 +197,47 @@ fn builders<R: Files + Print + AllocGlobal>(rt: &R) {
     );
 }
 
-fn calls<R: Files + Print + AllocGlobal>(rt: &R) {
+fn calls<R: Files + Print + AllocGlobal>(rt: &R, rows: &str) {
     let alloc = rt.alloc();
-    document(rt, "get_default_mounts", runtime::get_default_mounts(alloc));
     document(
         rt,
+        rows,
+        "get_default_mounts",
+        runtime::get_default_mounts(alloc),
+    );
+    document(
+        rt,
+        rows,
         "get_default_namespaces",
         runtime::get_default_namespaces(alloc),
     );
     document(
         rt,
+        rows,
         "get_default_maskedpaths",
         runtime::get_default_maskedpaths(alloc),
     );
     document(
         rt,
+        rows,
         "get_default_readonly_paths",
         runtime::get_default_readonly_paths(alloc),
     );
     document(
         rt,
+        rows,
         "get_rootless_mounts",
         runtime::get_rootless_mounts(alloc),
     );
     document(
         rt,
+        rows,
         "Linux::rootless",
         runtime::Linux::rootless(alloc, 1000, 1001),
     );
     document(
         rt,
+        rows,
         "Spec::rootless",
         runtime::Spec::rootless(alloc, 1000, 1001),
     );

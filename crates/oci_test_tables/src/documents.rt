@@ -23,12 +23,13 @@ pub fn constants<T: Debug, R: Files + Print + AllocGlobal>(
 }
 
 /// Compares a default, or what a builder makes that is given nothing, with its row: `NAME JSON` or `NAME ! FIELD`.
-pub fn document<T: OciMember, R: Files + Print + AllocGlobal>(
+pub fn document<T: OciMember, R: Print + AllocGlobal>(
     rt: &R,
+    rows: &str,
     name: &str,
     made: oci_spec::Result<T>,
 ) {
-    report(rt, name, ask_document(rt, name, made));
+    report(rt, name, ask_document(rt, rows, name, made));
 }
 
 /// Prints how many defaults of a group were compared.
@@ -36,15 +37,15 @@ pub fn report_count<R: Print>(rt: &R, group: &str, rows: usize) {
     report(rt, group, count(rt, "defaults", group, rows));
 }
 
-fn ask_document<T: OciMember, R: Files + Print + AllocGlobal>(
+fn ask_document<T: OciMember, R: Print + AllocGlobal>(
     rt: &R,
+    rows: &str,
     name: &str,
     made: oci_spec::Result<T>,
 ) -> Result<()> {
-    let rows = read(rt, "defaults")?;
     let text = text_of(rt.alloc(), made)?;
     let here = format!(in rt.alloc(); "{name} {text}")?;
-    ask(rt, "defaults", rows.as_str(), here.as_str())
+    ask(rt, "defaults", rows, here.as_str())
 }
 
 /// The compact text, or the first field that a builder wants.

@@ -4,7 +4,7 @@
 //! `NAME VALUE` each; `defaults.rows`, a row `NAME JSON` each, or `NAME ! FIELD` where a builder wants a field. What begins with `#` is a
 //! remark and no row. `data/kernel.values` is written by hand, and the tool makes the rows `header` and `kernel` from it. The program prints
 //! how many rows of each kind it compared, and each row that is another one here. `stdout` is written by the tool too: the differences in
-//! it are those that `differences` lists, each with its reason. Before any proof: `rt try $(for it in data/*; do echo --data
+//! it are those that `data/differences` lists, each with its reason. Before any proof: `rt try $(for it in data/*; do echo --data
 //! "${it#data/}=$it"; done)`.
 #![tactic(auto)]
 
@@ -26,5 +26,5 @@ fn main(rt: HostRuntime) {
     report(&rt, "other enums", names::others(&rt));
     report(&rt, "extensible enums", names::extensible(&rt));
     report(&rt, "constants", values::constants(&rt));
-    defaults::all(&rt);
+    report(&rt, "defaults", defaults::all(&rt));
 }
