@@ -11,7 +11,7 @@ use std::rt::Files;
 /// Compares what each text of the table is read as, and what the value displays.
 pub fn texts<
     T: Debug + Display + Drop,
-    F: Fn(Global, &str) -> oci_spec::Result<T>,
+    F: Fn(Global, &str) -> Option<T>,
     R: Files + Print + AllocGlobal,
 >(rt: &R, table: &str, from_text: F) -> Result<()>
     requires { F.IsAlwaysCallable from_text }
@@ -20,10 +20,11 @@ pub fn texts<
     let mut compared = 0usize;
     for row in rows.as_str().split('\n') {
         if let Some(text) = text_of(row, "from_text") {
-            let x = from_text(rt.alloc(), text)?;
-            let here = format!(in rt.alloc(); "display {x:?} {x}")?;
-            ask(rt, table, rows.as_str(), here.as_str())?;
-            compared = compared.saturating_add(1);
+            if let Some(x) = from_text(rt.alloc(), text) {
+                let here = format!(in rt.alloc(); "display {x:?} {x}")?;
+                ask(rt, table, rows.as_str(), here.as_str())?;
+                compared = compared.saturating_add(1);
+            }
         }
     }
     count(rt, table, "display", compared)?;

@@ -25,7 +25,7 @@ pub fn linux<R: Files + Print + AllocGlobal>(rt: &R) -> Result<()> {
         rt,
         "LinuxNamespaceType",
         "from_str",
-        LinuxNamespaceType::try_from,
+        |alloc, text: &str| LinuxNamespaceType::try_from(alloc, text).ok(),
     )?;
     numbers(
         rt,
@@ -188,7 +188,7 @@ pub fn others<R: Files + Print + AllocGlobal>(rt: &R) -> Result<()> {
         rt,
         "ZOSNamespaceType",
         "from_str",
-        ZOSNamespaceType::try_from,
+        |alloc, text: &str| ZOSNamespaceType::try_from(alloc, text).ok(),
     )?;
     json(rt, "ContainerState", ContainerState::all())?;
     displayed(rt, "ContainerState", ContainerState::all())?;
@@ -198,10 +198,26 @@ pub fn others<R: Files + Print + AllocGlobal>(rt: &R) -> Result<()> {
 
 /// Those that have other texts too.
 pub fn extensible<R: Files + Print + AllocGlobal>(rt: &R) -> Result<()> {
-    texts(rt, "MediaType", MediaType::from_text)?;
+    texts(
+        rt,
+        "MediaType",
+        |alloc, text: &str| MediaType::from_text(alloc, text).ok(),
+    )?;
     docker(rt)?;
-    texts(rt, "Os", Os::from_text)?;
-    texts(rt, "Arch", Arch::from_text)?;
-    texts(rt, "DigestAlgorithm", DigestAlgorithm::from_text)?;
+    texts(
+        rt,
+        "Os",
+        |alloc, text: &str| Os::from_text(alloc, text).ok(),
+    )?;
+    texts(
+        rt,
+        "Arch",
+        |alloc, text: &str| Arch::from_text(alloc, text).ok(),
+    )?;
+    texts(
+        rt,
+        "DigestAlgorithm",
+        |alloc, text: &str| DigestAlgorithm::from_text(alloc, text).ok(),
+    )?;
     lengths(rt)
 }
