@@ -112,7 +112,7 @@ impl SolarisAnet {
         self
     }
 
-    /// Whether the allowed addresses are set on the interface at each start, as `true` or `false`.
+    /// Whether the allowed addresses are set on the interface at each start, as `true` or `false`. Any string is read.
     pub fn configure_allowed_address(&self) -> &Option<String>
         ensures { result.now ≡ self.now.configure_allowed_address }
     {
@@ -329,7 +329,7 @@ impl SolarisAnetBuilder {
         }
     }
 
-    /// Sets `configure_allowed_address`: whether the allowed addresses are set on the interface at each start, as `true` or `false`.
+    /// Sets `configure_allowed_address`: whether the allowed addresses are set on the interface at each start, as `true` or `false`. Any string is read.
     pub fn configure_allowed_address(self, configure_allowed_address: String) -> Self
         ensures { result ≡ record self { configure_allowed_address = Some configure_allowed_address } }
     {
