@@ -169,7 +169,8 @@ impl LinuxWeightDeviceBuilder {
         }
     }
 
-    /// Sets `leaf_weight`: the weight of the group's own tasks on this device against the groups below it, from 10 to 1000; for the CFQ scheduler alone.
+    /// Sets `leaf_weight`: the weight of the group's own tasks on this device against the groups below it, from 10 to 1000; for the CFQ
+    /// scheduler alone.
     pub fn leaf_weight(self, leaf_weight: u16) -> Self
         ensures { result ≡ record self { leaf_weight = Some leaf_weight } }
     {

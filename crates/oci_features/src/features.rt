@@ -393,7 +393,8 @@ impl FeaturesBuilder {
         }
     }
 
-    /// Sets `mount_options`: the options of mounts that the runtime knows, as `ro`, without those of one file system; none where they are not known.
+    /// Sets `mount_options`: the options of mounts that the runtime knows, as `ro`, without those of one file system; none where they are
+    /// not known.
     pub fn mount_options(self, mount_options: Vec<String>) -> Self
         ensures { result ≡ record self { mount_options = Some mount_options } }
     {
@@ -423,7 +424,8 @@ impl FeaturesBuilder {
         }
     }
 
-    /// Sets `potentially_unsafe_config_annotations`: the annotations of a configuration that may change what the runtime does; one that ends in a full stop is the beginning of many.
+    /// Sets `potentially_unsafe_config_annotations`: the annotations of a configuration that may change what the runtime does; one that
+    /// ends in a full stop is the beginning of many.
     pub fn potentially_unsafe_config_annotations(
         self,
         potentially_unsafe_config_annotations: Vec<String>,

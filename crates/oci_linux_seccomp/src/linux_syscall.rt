@@ -218,7 +218,8 @@ impl LinuxSyscallBuilder {
         }
     }
 
-    /// Sets `errno_ret`: the number that the action hands on, where it does: an error's for `SCMP_ACT_ERRNO`, a tracer's for `SCMP_ACT_TRACE`.
+    /// Sets `errno_ret`: the number that the action hands on, where it does: an error's for `SCMP_ACT_ERRNO`, a tracer's for
+    /// `SCMP_ACT_TRACE`.
     pub fn errno_ret(self, errno_ret: u32) -> Self
         ensures { result ≡ record self { errno_ret = Some errno_ret } }
     {

@@ -11,7 +11,8 @@ use std::alloc::Global;
 
 const NAME: &str = "SolarisAnet";
 
-/// A network interface that is made for a Solaris container (runtime specification, "Solaris Application Container Configuration", "Automatic Network (anet)").
+/// A network interface that is made for a Solaris container (runtime specification, "Solaris Application Container Configuration",
+/// "Automatic Network (anet)").
 #[derive(Debug, PartialEq, Eq)]
 pub struct SolarisAnet {
     linkname: Option<String>,

@@ -98,7 +98,8 @@ impl LinuxBuilder {
         }
     }
 
-    /// Sets `cgroups_path`: the path of the container's control group: from where these are mounted if it is absolute, else from where the runtime chooses.
+    /// Sets `cgroups_path`: the path of the container's control group: from where these are mounted if it is absolute, else from where the
+    /// runtime chooses.
     pub fn cgroups_path(self, cgroups_path: String) -> Self
         ensures { result ≡ record self { cgroups_path = Some cgroups_path } }
     {
