@@ -89,7 +89,8 @@ impl LinuxCpu {
         self
     }
 
-    /// The time in microseconds that all tasks together may run in one period; a negative one is no limit. If positive, it MUST be no smaller than `burst`; not checked here.
+    /// The time in microseconds that all tasks together may run in one period; a negative one is no limit. If positive, it MUST be no
+    /// smaller than `burst`; not checked here.
     pub fn quota(&self) -> Option<i64>
         ensures { result ≡ self.now.quota }
     {
@@ -121,7 +122,8 @@ impl LinuxCpu {
         self
     }
 
-    /// The unused time in microseconds that may be saved up and run beyond the quota in one period. It MUST be no larger than a positive `quota`; not checked here.
+    /// The unused time in microseconds that may be saved up and run beyond the quota in one period. It MUST be no larger than a positive
+    /// `quota`; not checked here.
     pub fn burst(&self) -> Option<u64>
         ensures { result ≡ self.now.burst }
     {

@@ -157,7 +157,8 @@ impl LinuxDeviceCgroup {
         self
     }
 
-    /// The kinds of use that the rule is about, in letters: `r` for reading, `w` for writing, `m` for making a device file. The letters are not checked here.
+    /// The kinds of use that the rule is about, in letters: `r` for reading, `w` for writing, `m` for making a device file. The letters are
+    /// not checked here.
     pub fn access(&self) -> &Option<String>
         ensures { result.now ≡ self.now.access }
     {
@@ -301,7 +302,8 @@ impl LinuxDeviceCgroupBuilder {
         }
     }
 
-    /// Sets `access`: the kinds of use that the rule is about, in letters: `r` for reading, `w` for writing, `m` for making a device file. The letters are not checked here.
+    /// Sets `access`: the kinds of use that the rule is about, in letters: `r` for reading, `w` for writing, `m` for making a device file.
+    /// The letters are not checked here.
     pub fn access(self, access: String) -> Self
         ensures { result ≡ record self { access = Some access } }
     {

@@ -61,7 +61,8 @@ impl LinuxHugepageLimit {
         self
     }
 
-    /// The limit in bytes: of what is reserved, or of what is used where the kernel counts no reservations. REQUIRED, and unsigned in the specification; a negative number is read too.
+    /// The limit in bytes: of what is reserved, or of what is used where the kernel counts no reservations. REQUIRED, and unsigned in the
+    /// specification; a negative number is read too.
     pub fn limit(&self) -> i64
         ensures { result ≡ self.now.limit }
     {
@@ -145,7 +146,8 @@ impl LinuxHugepageLimitBuilder {
         }
     }
 
-    /// Sets `limit`: the limit in bytes: of what is reserved, or of what is used where the kernel counts no reservations. REQUIRED, and unsigned in the specification; a negative number is read too.
+    /// Sets `limit`: the limit in bytes: of what is reserved, or of what is used where the kernel counts no reservations. REQUIRED, and
+    /// unsigned in the specification; a negative number is read too.
     pub fn limit(self, limit: i64) -> Self
         ensures { result ≡ record self { limit = Some limit } }
     {

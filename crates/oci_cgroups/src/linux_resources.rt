@@ -278,7 +278,8 @@ impl LinuxResources {
         self
     }
 
-    /// What is written to files of the unified hierarchy (cgroup v2), by the files' names. A runtime MUST write entries that it does not know, too.
+    /// What is written to files of the unified hierarchy (cgroup v2), by the files' names. A runtime MUST write entries that it does not
+    /// know, too.
     pub fn unified(&self) -> &Option<BTreeMap<String, String>>
         ensures { result.now ≡ self.now.unified }
     {

@@ -141,7 +141,8 @@ impl LinuxThrottleDeviceBuilder {
         }
     }
 
-    /// Sets `rate`: the limit in a second: bytes or operations, depending on the list that it is in. REQUIRED; 0 is read where it is absent.
+    /// Sets `rate`: the limit in a second: bytes or operations, depending on the list that it is in. REQUIRED; 0 is read where it is
+    /// absent.
     pub fn rate(self, rate: u64) -> Self
         ensures { result ≡ record self { rate = Some rate } }
     {

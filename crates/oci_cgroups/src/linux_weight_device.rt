@@ -57,14 +57,16 @@ impl LinuxWeightDevice {
         self.minor
     }
 
-    /// The weight of the container's group on this device, from 10 to 1000. At least one of `weight` and `leafWeight` MUST be there; neither this nor the range is checked here.
+    /// The weight of the container's group on this device, from 10 to 1000. At least one of `weight` and `leafWeight` MUST be there;
+    /// neither this nor the range is checked here.
     pub fn weight(&self) -> Option<u16>
         ensures { result ≡ self.now.weight }
     {
         self.weight
     }
 
-    /// The weight of the group's own tasks on this device against the groups below it, from 10 to 1000; for the CFQ scheduler alone. The range is not checked here.
+    /// The weight of the group's own tasks on this device against the groups below it, from 10 to 1000; for the CFQ scheduler alone. The
+    /// range is not checked here.
     pub fn leaf_weight(&self) -> Option<u16>
         ensures { result ≡ self.now.leaf_weight }
     {
@@ -159,7 +161,8 @@ impl LinuxWeightDeviceBuilder {
         }
     }
 
-    /// Sets `weight`: the weight of the container's group on this device, from 10 to 1000. At least one of `weight` and `leafWeight` MUST be there; neither this nor the range is checked here.
+    /// Sets `weight`: the weight of the container's group on this device, from 10 to 1000. At least one of `weight` and `leafWeight` MUST
+    /// be there; neither this nor the range is checked here.
     pub fn weight(self, weight: u16) -> Self
         ensures { result ≡ record self { weight = Some weight } }
     {
@@ -169,7 +172,8 @@ impl LinuxWeightDeviceBuilder {
         }
     }
 
-    /// Sets `leaf_weight`: the weight of the group's own tasks on this device against the groups below it, from 10 to 1000; for the CFQ scheduler alone. The range is not checked here.
+    /// Sets `leaf_weight`: the weight of the group's own tasks on this device against the groups below it, from 10 to 1000; for the CFQ
+    /// scheduler alone. The range is not checked here.
     pub fn leaf_weight(self, leaf_weight: u16) -> Self
         ensures { result ≡ record self { leaf_weight = Some leaf_weight } }
     {

@@ -135,7 +135,8 @@ impl LinuxInterfacePriorityBuilder {
     ghost use Rattle.oci_json_model.specs.Plain as plain;
     ghost use Rattle.oci_json_model.specs.Types.{text_plain, number_plain};
 
-    /// Sets `name`: the name of the interface, in the network namespace of the runtime. REQUIRED; the empty string is read where it is absent.
+    /// Sets `name`: the name of the interface, in the network namespace of the runtime. REQUIRED; the empty string is read where it is
+    /// absent.
     pub fn name(self, name: String) -> Self
         ensures { result ≡ record self { name = Some name } }
     {

@@ -158,7 +158,8 @@ impl Seccomp {
         self
     }
 
-    /// The flags that the runtime knows, as `SECCOMP_FILTER_FLAG_LOG`; it MUST recognize them in `config.json`. None where they are not known.
+    /// The flags that the runtime knows, as `SECCOMP_FILTER_FLAG_LOG`; it MUST recognize them in `config.json`. None where they are not
+    /// known.
     pub fn known_flags(&self) -> &Option<Vec<String>>
         ensures { result.now ≡ self.now.known_flags }
     {
@@ -325,7 +326,8 @@ impl SeccompBuilder {
         }
     }
 
-    /// Sets `operators`: the comparisons that the runtime knows, as `SCMP_CMP_NE`; it MUST recognize them in `config.json`. None where they are not known.
+    /// Sets `operators`: the comparisons that the runtime knows, as `SCMP_CMP_NE`; it MUST recognize them in `config.json`. None where they
+    /// are not known.
     pub fn operators(self, operators: Vec<String>) -> Self
         ensures { result ≡ record self { operators = Some operators } }
     {
@@ -345,7 +347,8 @@ impl SeccompBuilder {
         }
     }
 
-    /// Sets `known_flags`: the flags that the runtime knows, as `SECCOMP_FILTER_FLAG_LOG`; it MUST recognize them in `config.json`. None where they are not known.
+    /// Sets `known_flags`: the flags that the runtime knows, as `SECCOMP_FILTER_FLAG_LOG`; it MUST recognize them in `config.json`. None
+    /// where they are not known.
     pub fn known_flags(self, known_flags: Vec<String>) -> Self
         ensures { result ≡ record self { known_flags = Some known_flags } }
     {
@@ -355,7 +358,8 @@ impl SeccompBuilder {
         }
     }
 
-    /// Sets `supported_flags`: the flags that the runtime and its host can set, some of those that it knows; it MUST support them. None where they are not known.
+    /// Sets `supported_flags`: the flags that the runtime and its host can set, some of those that it knows; it MUST support them. None
+    /// where they are not known.
     pub fn supported_flags(self, supported_flags: Vec<String>) -> Self
         ensures { result ≡ record self { supported_flags = Some supported_flags } }
     {

@@ -92,7 +92,8 @@ impl LinuxDevice {
         self
     }
 
-    /// The kind of device: `c`, `b`, `u` or `p`. REQUIRED. The same `type`, `major` and `minor` SHOULD NOT be used for several devices; not checked here.
+    /// The kind of device: `c`, `b`, `u` or `p`. REQUIRED. The same `type`, `major` and `minor` SHOULD NOT be used for several devices; not
+    /// checked here.
     pub fn typ(&self) -> LinuxDeviceType
         ensures { result ≡ self.now.typ }
     {
@@ -337,7 +338,8 @@ impl LinuxDeviceBuilder {
     ghost use Rattle.oci_json_model.specs.Types.{text_plain, integer_plain, variant_plain};
     ghost use Rattle.oci_linux_names.specs.LinuxDeviceType.{linux_device_type_name, linux_device_type_default};
 
-    /// Sets `path`: the full path of the file in the container. REQUIRED; the empty string is read where it is absent, and the form is not checked here.
+    /// Sets `path`: the full path of the file in the container. REQUIRED; the empty string is read where it is absent, and the form is not
+    /// checked here.
     pub fn path(self, path: String) -> Self
         ensures { result ≡ record self { path = Some path } }
     {
@@ -347,7 +349,8 @@ impl LinuxDeviceBuilder {
         }
     }
 
-    /// Sets `typ`: the kind of device: `c`, `b`, `u` or `p`. REQUIRED. The same `type`, `major` and `minor` SHOULD NOT be used for several devices; not checked here.
+    /// Sets `typ`: the kind of device: `c`, `b`, `u` or `p`. REQUIRED. The same `type`, `major` and `minor` SHOULD NOT be used for several
+    /// devices; not checked here.
     pub fn typ(self, typ: LinuxDeviceType) -> Self
         ensures { result ≡ record self { typ = Some typ } }
     {

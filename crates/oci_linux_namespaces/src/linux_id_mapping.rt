@@ -10,7 +10,8 @@ use std::alloc::Global;
 
 const NAME: &str = "LinuxIdMapping";
 
-/// A range of user or group IDs of a container, and the host's IDs that it is mapped to (runtime specification, "Linux Container Configuration", "User namespace mappings").
+/// A range of user or group IDs of a container, and the host's IDs that it is mapped to (runtime specification, "Linux Container
+/// Configuration", "User namespace mappings").
 #[derive(Clone, Copy, Debug, PartialEq, Eq)]
 pub struct LinuxIdMapping {
     host_id: u32,

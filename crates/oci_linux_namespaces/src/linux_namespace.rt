@@ -63,7 +63,8 @@ impl LinuxNamespace {
         self
     }
 
-    /// The file of the namespace to join. It MUST be an absolute path of the runtime's, to a namespace of this type; not checked here. Where none is given, a runtime MUST make a new namespace.
+    /// The file of the namespace to join. It MUST be an absolute path of the runtime's, to a namespace of this type; not checked here.
+    /// Where none is given, a runtime MUST make a new namespace.
     pub fn path(&self) -> &Option<String>
         ensures { result.now ≡ self.now.path }
     {
@@ -148,7 +149,8 @@ impl LinuxNamespaceBuilder {
         }
     }
 
-    /// Sets `path`: the file of the namespace to join. It MUST be an absolute path of the runtime's, to a namespace of this type; not checked here. Where none is given, a runtime MUST make a new namespace.
+    /// Sets `path`: the file of the namespace to join. It MUST be an absolute path of the runtime's, to a namespace of this type; not
+    /// checked here. Where none is given, a runtime MUST make a new namespace.
     pub fn path(self, path: String) -> Self
         ensures { result ≡ record self { path = Some path } }
     {

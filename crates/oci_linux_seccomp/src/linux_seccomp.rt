@@ -312,7 +312,8 @@ impl LinuxSeccompBuilder {
         }
     }
 
-    /// Sets `default_errno_ret`: the number that the default action hands on, where it does. A runtime MUST fail where the action takes none; not checked here.
+    /// Sets `default_errno_ret`: the number that the default action hands on, where it does. A runtime MUST fail where the action takes
+    /// none; not checked here.
     pub fn default_errno_ret(self, default_errno_ret: u32) -> Self
         ensures { result ≡ record self { default_errno_ret = Some default_errno_ret } }
     {
@@ -352,7 +353,8 @@ impl LinuxSeccompBuilder {
         }
     }
 
-    /// Sets `listener_metadata`: what is passed to the program at the listener's path, of any meaning. It MUST NOT be set if `listenerPath` is not; not checked here.
+    /// Sets `listener_metadata`: what is passed to the program at the listener's path, of any meaning. It MUST NOT be set if `listenerPath`
+    /// is not; not checked here.
     pub fn listener_metadata(self, listener_metadata: String) -> Self
         ensures { result ≡ record self { listener_metadata = Some listener_metadata } }
     {

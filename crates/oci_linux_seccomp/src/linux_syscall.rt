@@ -90,7 +90,8 @@ impl LinuxSyscall {
         self
     }
 
-    /// The number that the action hands on, where it does: an error's for `SCMP_ACT_ERRNO`, a tracer's for `SCMP_ACT_TRACE`. A runtime MUST fail where the action takes none; not checked here.
+    /// The number that the action hands on, where it does: an error's for `SCMP_ACT_ERRNO`, a tracer's for `SCMP_ACT_TRACE`. A runtime MUST
+    /// fail where the action takes none; not checked here.
     pub fn errno_ret(&self) -> Option<u32>
         ensures { result ≡ self.now.errno_ret }
     {
@@ -218,7 +219,8 @@ impl LinuxSyscallBuilder {
         }
     }
 
-    /// Sets `errno_ret`: the number that the action hands on, where it does: an error's for `SCMP_ACT_ERRNO`, a tracer's for `SCMP_ACT_TRACE`. A runtime MUST fail where the action takes none; not checked here.
+    /// Sets `errno_ret`: the number that the action hands on, where it does: an error's for `SCMP_ACT_ERRNO`, a tracer's for
+    /// `SCMP_ACT_TRACE`. A runtime MUST fail where the action takes none; not checked here.
     pub fn errno_ret(self, errno_ret: u32) -> Self
         ensures { result ≡ record self { errno_ret = Some errno_ret } }
     {

@@ -9,7 +9,8 @@ use std::alloc::Global;
 
 const NAME: &str = "VMImage";
 
-/// The image that a virtual machine's root is in (runtime specification, "Virtual-machine-specific Container Configuration", "Image Object").
+/// The image that a virtual machine's root is in (runtime specification, "Virtual-machine-specific Container Configuration", "Image
+/// Object").
 #[derive(Debug, PartialEq, Eq)]
 pub struct VMImage {
     path: String,

@@ -103,7 +103,8 @@ impl LinuxMemoryBuilder {
         }
     }
 
-    /// Sets `check_before_update`: whether a runtime that updates the container MAY compare a new limit with what is in use; if it does, it MUST refuse a lower one.
+    /// Sets `check_before_update`: whether a runtime that updates the container MAY compare a new limit with what is in use; if it does, it
+    /// MUST refuse a lower one.
     pub fn check_before_update(self, check_before_update: bool) -> Self
         ensures { result ≡ record self { check_before_update = Some check_before_update } }
     {

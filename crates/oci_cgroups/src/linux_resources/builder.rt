@@ -111,7 +111,8 @@ impl LinuxResourcesBuilder {
         }
     }
 
-    /// Sets `unified`: what is written to files of the unified hierarchy (cgroup v2), by the files' names. A runtime MUST write entries that it does not know, too.
+    /// Sets `unified`: what is written to files of the unified hierarchy (cgroup v2), by the files' names. A runtime MUST write entries
+    /// that it does not know, too.
     pub fn unified(self, unified: BTreeMap<String, String>) -> Self
         ensures { result ≡ record self { unified = Some unified } }
     {

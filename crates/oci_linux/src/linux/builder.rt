@@ -98,7 +98,8 @@ impl LinuxBuilder {
         }
     }
 
-    /// Sets `cgroups_path`: the path of the container's control group: from where these are mounted if it is absolute, else from where the runtime chooses. A runtime MUST attach to the same place each time it is given the same path.
+    /// Sets `cgroups_path`: the path of the container's control group: from where these are mounted if it is absolute, else from where the
+    /// runtime chooses. A runtime MUST attach to the same place each time it is given the same path.
     pub fn cgroups_path(self, cgroups_path: String) -> Self
         ensures { result ≡ record self { cgroups_path = Some cgroups_path } }
     {
@@ -108,7 +109,8 @@ impl LinuxBuilder {
         }
     }
 
-    /// Sets `namespaces`: the namespaces that the container has of its own or joins; it MUST inherit those of the runtime that are not listed. A runtime MUST refuse a type that is listed twice; not checked here.
+    /// Sets `namespaces`: the namespaces that the container has of its own or joins; it MUST inherit those of the runtime that are not
+    /// listed. A runtime MUST refuse a type that is listed twice; not checked here.
     pub fn namespaces(self, namespaces: Vec<LinuxNamespace>) -> Self
         ensures { result ≡ record self { namespaces = Some namespaces } }
     {
@@ -138,7 +140,8 @@ impl LinuxBuilder {
         }
     }
 
-    /// Sets `rootfs_propagation`: how mounts below the container's root are passed on: `shared`, `slave`, `private` or `unbindable`. Any string is read.
+    /// Sets `rootfs_propagation`: how mounts below the container's root are passed on: `shared`, `slave`, `private` or `unbindable`. Any
+    /// string is read.
     pub fn rootfs_propagation(self, rootfs_propagation: String) -> Self
         ensures { result ≡ record self { rootfs_propagation = Some rootfs_propagation } }
     {
@@ -178,7 +181,8 @@ impl LinuxBuilder {
         }
     }
 
-    /// Sets `intel_rdt`: the container's share of the processor's caches and memory bandwidth. A runtime MUST NOT touch `resctrl` where it is absent.
+    /// Sets `intel_rdt`: the container's share of the processor's caches and memory bandwidth. A runtime MUST NOT touch `resctrl` where it
+    /// is absent.
     pub fn intel_rdt(self, intel_rdt: LinuxIntelRdt) -> Self
         ensures { result ≡ record self { intel_rdt = Some intel_rdt } }
     {

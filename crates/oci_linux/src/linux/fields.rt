@@ -137,7 +137,8 @@ impl Linux {
         self
     }
 
-    /// The path of the container's control group: from where these are mounted if it is absolute, else from where the runtime chooses. A runtime MUST attach to the same place each time it is given the same path.
+    /// The path of the container's control group: from where these are mounted if it is absolute, else from where the runtime chooses. A
+    /// runtime MUST attach to the same place each time it is given the same path.
     pub fn cgroups_path(&self) -> &Option<String>
         ensures { result.now ≡ self.now.cgroups_path }
     {
@@ -161,7 +162,8 @@ impl Linux {
         self
     }
 
-    /// The namespaces that the container has of its own or joins; it MUST inherit those of the runtime that are not listed. A runtime MUST refuse a type that is listed twice; not checked here.
+    /// The namespaces that the container has of its own or joins; it MUST inherit those of the runtime that are not listed. A runtime MUST
+    /// refuse a type that is listed twice; not checked here.
     pub fn namespaces(&self) -> &Option<Vec<LinuxNamespace>>
         ensures { result.now ≡ self.now.namespaces }
     {
