@@ -109,8 +109,8 @@ impl LinuxBuilder {
         }
     }
 
-    /// Sets `namespaces`: the namespaces that the container has of its own or joins; it MUST inherit those of the runtime that are not
-    /// listed. A runtime MUST refuse a type that is listed twice; not checked here.
+    /// Sets `namespaces`: the namespaces that the container has of its own or joins; where a type is absent it MUST inherit that of the
+    /// runtime. A runtime MUST refuse a type that stands twice; not checked here.
     pub fn namespaces(self, namespaces: Vec<LinuxNamespace>) -> Self
         ensures { result ≡ record self { namespaces = Some namespaces } }
     {

@@ -162,8 +162,8 @@ impl Linux {
         self
     }
 
-    /// The namespaces that the container has of its own or joins; it MUST inherit those of the runtime that are not listed. A runtime MUST
-    /// refuse a type that is listed twice; not checked here.
+    /// The namespaces that the container has of its own or joins; where a type is absent it MUST inherit that of the runtime. A runtime
+    /// MUST refuse a type that stands twice; not checked here.
     pub fn namespaces(&self) -> &Option<Vec<LinuxNamespace>>
         ensures { result.now ≡ self.now.namespaces }
     {
