@@ -4,6 +4,7 @@ fn main() {
     println!("cargo:rerun-if-changed=build.rs");
     if let Ok(folder) = std::env::var("CIDERGLEN_LIB_DIR") {
         println!("cargo:rustc-link-search=native={folder}");
+        println!("cargo:rerun-if-changed={folder}/libciderglen.a");
     }
     println!("cargo:rustc-link-lib=static=ciderglen");
 }

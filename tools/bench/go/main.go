@@ -4,6 +4,7 @@
 package main
 
 import (
+	_ "crypto/sha256"
 	"encoding/json"
 	"fmt"
 	"os"
