@@ -20,6 +20,7 @@ COUNTERS = "-fsanitize-coverage=inline-8bit-counters,pc-table,trace-cmp"
 # the first byte of an input that is no document, after those of the kinds
 REFERENCE, PIN, DIGEST = 14, 15, 16
 LONGEST_INPUT, LONGEST_WORD = 8192, 64
+DIGESTS = [b"%s:%s" % (name, (b"0123456789abcdef" * 8)[:digits]) for name, digits in ((b"sha256", 64), (b"sha384", 96), (b"sha512", 128))]
 WORD = re.compile(rb'"(?:[^"\\]|\\.)*"')
 SCRIPT = "#!/bin/sh\nexec {} {} \"$@\"\n"
 
@@ -76,6 +77,7 @@ def compiled(compiler, name, archives, *flags):
 
 def write_seeds(documents, texts):
     """Writes the documents of each kind, and references, pins and digests of them, as inputs. Returns how many there are."""
+    texts = [*texts, *DIGESTS, *(text + b"@" + DIGESTS[at % len(DIGESTS)] for at, text in enumerate(texts))]
     seeds = {bytes([kind]) + text for kind, them in enumerate(documents) for text in them}
     seeds |= {bytes([it]) + text for text in texts for it in (REFERENCE, DIGEST)}
     descriptors = sorted(set(documents[5]))

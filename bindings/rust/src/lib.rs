@@ -177,7 +177,7 @@ fn text(bytes: Vec<u8>) -> Result<String, Error> {
 ///
 /// `InvalidJson` or `InvalidDocument` if there is none, and `OutOfMemory`.
 pub fn normalize(kind: Kind, document: &[u8]) -> Result<Vec<u8>, Error> {
-    // SAFETY: the pointers are not null, those of slices with these lengths, and the outputs overlap nothing.
+    // SAFETY: the pointers are those of slices with these lengths, not null where they are empty, too, and the outputs overlap nothing.
     output(document.len() + 64, |buffer, capacity, len| unsafe {
         sys::ciderglen_normalize(
             kind as u32,
