@@ -62,7 +62,7 @@ fn check_read(
     let document = read.expect(rt, "a configuration");
     check_result(rt, to_string(&document, alloc), text);
     check_result(rt, to_string_pretty(&document, alloc), pretty);
-    let shown = document.to_string(alloc).expect(rt, "memory");
+    let shown = format!(in alloc; "{document}").expect(rt, "memory");
     check_long(rt, shown.as_str(), pretty);
 }
 
