@@ -1,11 +1,11 @@
 """A record's getters and setters."""
 from generator.imports import imports
-from generator.text import imported
+from generator.text import doc, imported
 
 
 def getter(m):
     return f"""
-    /// {m.text}
+{doc(m.text, "    ")}
     pub fn {m.call}(&self) -> &{m.rust()}
         ensures {{ result.now ≡ self.now.{m.field} }}
     {{
@@ -16,7 +16,7 @@ def getter(m):
 
 def copy_getter(m):
     return f"""
-    /// {m.text}
+{doc(m.text, "    ")}
     pub fn {m.call}(&self) -> {m.rust()}
         ensures {{ result ≡ self.now.{m.field} }}
     {{

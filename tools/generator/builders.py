@@ -3,7 +3,7 @@ import re
 
 from generator.imports import JOINS, imports
 from generator.records import OPEN_NAMES, snake
-from generator.text import article, imported, lowered, together, tuple_of, used
+from generator.text import article, doc, imported, lowered, together, tuple_of, used
 
 PLAIN_TERMS = ["given", "perhaps", "text_plain", "truth_plain", "number_plain", "integer_plain", "name_plain", "variant_plain",
                "list_plain", "map_plain"]
@@ -82,7 +82,7 @@ def builder_setters(r, members):
     out = ""
     for m in members:
         out += f"""
-    /// Sets `{m.call}`: {lowered(m.text)}
+{doc(f"Sets `{m.call}`: {lowered(m.text)}", "    ")}
     pub fn {m.call}(self, {m.call}: {m.type.rust}) -> Self
         ensures {{ result ≡ record self {{ {m.field} = Some {'«data»' if m.call == 'data' else m.call} }} }}
     {{

@@ -6,7 +6,7 @@ from generator.builders import builder, refusable
 from generator.calls import CALL_IMPORTS, SHAPES, calls, display
 from generator.convert import conversions
 from generator.imports import imports, model_calls
-from generator.text import imported, together, tuple_of
+from generator.text import doc, imported, together, tuple_of
 
 
 def struct(r):
@@ -17,13 +17,13 @@ def struct(r):
     if len(short) > 20:
         short = "\n" + "".join(f"            {it},\n" for it in names) + "        "
     if r.copy:
-        return f"""/// {r.about}
+        return f"""{doc(r.about)}
 #[derive(Clone, Copy, Debug, PartialEq, Eq)]
 pub struct {r.name} {{
 {fields}}}
 """
     derived = "Debug" if r.own_equality() else "Debug, PartialEq, Eq"
-    return f"""/// {r.about}
+    return f"""{doc(r.about)}
 #[derive({derived})]
 pub struct {r.name} {{
 {fields}}}

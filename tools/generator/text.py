@@ -1,5 +1,9 @@
 """What all parts of the generator share."""
 import re
+import textwrap
+
+# how long a line of a doc comment is at most
+WIDTH = 140
 
 
 def snake(name):
@@ -15,6 +19,12 @@ def article(name):
 def lowered(text):
     """A description as the continuation of a sentence."""
     return text if text[1:2].isupper() else text[0].lower() + text[1:]
+
+
+def doc(text, indent=""):
+    """A doc comment, in lines of at most `WIDTH`, without the last newline."""
+    start = f"{indent}/// "
+    return "\n".join(start + line for line in textwrap.wrap(text, WIDTH - len(start), break_long_words=False, break_on_hyphens=False))
 
 
 def used(words, text):

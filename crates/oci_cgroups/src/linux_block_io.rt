@@ -67,7 +67,7 @@ impl LinuxBlockIo {
         })
     }
 
-    /// The weight of the container's group on all devices that have none of their own, from 10 to 1000.
+    /// The weight of the container's group on all devices that have none of their own, from 10 to 1000. The range is not checked here.
     pub fn weight(&self) -> Option<u16>
         ensures { result ≡ self.now.weight }
     {
@@ -83,7 +83,8 @@ impl LinuxBlockIo {
         self
     }
 
-    /// The weight of the group's own tasks against the groups below it, from 10 to 1000; for the CFQ scheduler alone.
+    /// The weight of the group's own tasks against the groups below it, from 10 to 1000; for the CFQ scheduler alone. The range is not
+    /// checked here.
     pub fn leaf_weight(&self) -> Option<u16>
         ensures { result ≡ self.now.leaf_weight }
     {
@@ -326,7 +327,8 @@ pub struct LinuxBlockIoBuilder {
 impl LinuxBlockIoBuilder {
     ghost use Rattle.std.specs.Prelude.{Some};
 
-    /// Sets `weight`: the weight of the container's group on all devices that have none of their own, from 10 to 1000.
+    /// Sets `weight`: the weight of the container's group on all devices that have none of their own, from 10 to 1000. The range is not
+    /// checked here.
     pub fn weight(self, weight: u16) -> Self
         ensures { result ≡ record self { weight = Some weight } }
     {
@@ -337,6 +339,7 @@ impl LinuxBlockIoBuilder {
     }
 
     /// Sets `leaf_weight`: the weight of the group's own tasks against the groups below it, from 10 to 1000; for the CFQ scheduler alone.
+    /// The range is not checked here.
     pub fn leaf_weight(self, leaf_weight: u16) -> Self
         ensures { result ≡ record self { leaf_weight = Some leaf_weight } }
     {

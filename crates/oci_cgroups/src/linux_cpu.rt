@@ -89,7 +89,8 @@ impl LinuxCpu {
         self
     }
 
-    /// The time in microseconds that all tasks together may run in one period; a negative one is no limit.
+    /// The time in microseconds that all tasks together may run in one period; a negative one is no limit. If positive, it MUST be no
+    /// smaller than `burst`; not checked here.
     pub fn quota(&self) -> Option<i64>
         ensures { result ≡ self.now.quota }
     {
@@ -105,7 +106,7 @@ impl LinuxCpu {
         self
     }
 
-    /// Whether the tasks run only where nothing else does: 1 for that, 0 for the usual order.
+    /// Whether the tasks run only where nothing else does: 1 for that, 0 for the usual order. Other numbers are read too.
     pub fn idle(&self) -> Option<i64>
         ensures { result ≡ self.now.idle }
     {
@@ -121,7 +122,8 @@ impl LinuxCpu {
         self
     }
 
-    /// The unused time in microseconds that may be saved up and run beyond the quota in one period.
+    /// The unused time in microseconds that may be saved up and run beyond the quota in one period. It MUST be no larger than a positive
+    /// `quota`; not checked here.
     pub fn burst(&self) -> Option<u64>
         ensures { result ≡ self.now.burst }
     {
@@ -185,7 +187,7 @@ impl LinuxCpu {
         self
     }
 
-    /// The processors that the container may run on, as `0-3,7`; all of them where none is given.
+    /// The CPUs that the container may run on, a list as `0-3,7`; all of them where none is given. The form is not checked here.
     pub fn cpus(&self) -> &Option<String>
         ensures { result.now ≡ self.now.cpus }
     {
@@ -201,7 +203,7 @@ impl LinuxCpu {
         self
     }
 
-    /// The memory nodes that the container may use, as `0-3,7`; all of them where none is given.
+    /// The memory nodes that the container may use, a list as `0-3,7`; all of them where none is given. The form is not checked here.
     pub fn mems(&self) -> &Option<String>
         ensures { result.now ≡ self.now.mems }
     {

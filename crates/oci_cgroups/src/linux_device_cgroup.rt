@@ -61,7 +61,7 @@ impl LinuxDeviceCgroup {
         })
     }
 
-    /// Whether the rule allows what it names; else it forbids it.
+    /// Whether the rule allows what it names; else it forbids it. REQUIRED; `false` is read where it is absent.
     pub fn allow(&self) -> bool
         ensures { result ≡ self.now.allow }
     {
@@ -85,7 +85,7 @@ impl LinuxDeviceCgroup {
         self
     }
 
-    /// The kind of device that the rule is for; all kinds where none is given.
+    /// The kind of device that the rule is for: `a`, `c` or `b`; all kinds where none is given. `u` and `p` are read too.
     pub fn typ(&self) -> Option<LinuxDeviceType>
         ensures { result ≡ self.now.typ }
     {
@@ -157,7 +157,8 @@ impl LinuxDeviceCgroup {
         self
     }
 
-    /// The kinds of use that the rule is about, in letters: `r` for reading, `w` for writing, `m` for making a device file.
+    /// The kinds of use that the rule is about, in letters: `r` for reading, `w` for writing, `m` for making a device file. The letters are
+    /// not checked here.
     pub fn access(&self) -> &Option<String>
         ensures { result.now ≡ self.now.access }
     {
@@ -261,7 +262,7 @@ impl LinuxDeviceCgroupBuilder {
     ghost use Rattle.oci_json_model.specs.Plain as plain;
     ghost use Rattle.oci_json_model.specs.Types.{truth_plain};
 
-    /// Sets `allow`: whether the rule allows what it names; else it forbids it.
+    /// Sets `allow`: whether the rule allows what it names; else it forbids it. REQUIRED; `false` is read where it is absent.
     pub fn allow(self, allow: bool) -> Self
         ensures { result ≡ record self { allow = Some allow } }
     {
@@ -271,7 +272,7 @@ impl LinuxDeviceCgroupBuilder {
         }
     }
 
-    /// Sets `typ`: the kind of device that the rule is for; all kinds where none is given.
+    /// Sets `typ`: the kind of device that the rule is for: `a`, `c` or `b`; all kinds where none is given. `u` and `p` are read too.
     pub fn typ(self, typ: LinuxDeviceType) -> Self
         ensures { result ≡ record self { typ = Some typ } }
     {
@@ -302,6 +303,7 @@ impl LinuxDeviceCgroupBuilder {
     }
 
     /// Sets `access`: the kinds of use that the rule is about, in letters: `r` for reading, `w` for writing, `m` for making a device file.
+    /// The letters are not checked here.
     pub fn access(self, access: String) -> Self
         ensures { result ≡ record self { access = Some access } }
     {

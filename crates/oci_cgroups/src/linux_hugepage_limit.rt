@@ -45,7 +45,7 @@ impl LinuxHugepageLimit {
         })
     }
 
-    /// The size of the pages, a number with a unit, as `64KB`, `2MB` or `1GB`.
+    /// The size of the pages, a number with a unit, as `64KB`, `2MB` or `1GB`. REQUIRED; the form is not checked here.
     pub fn page_size(&self) -> &String
         ensures { result.now ≡ self.now.page_size }
     {
@@ -61,7 +61,8 @@ impl LinuxHugepageLimit {
         self
     }
 
-    /// The limit in bytes: of what is reserved, or of what is used where the kernel counts no reservations.
+    /// The limit in bytes: of what is reserved, or of what is used where the kernel counts no reservations. REQUIRED, and unsigned in the
+    /// specification; a negative number is read too.
     pub fn limit(&self) -> i64
         ensures { result ≡ self.now.limit }
     {
@@ -135,7 +136,7 @@ impl LinuxHugepageLimitBuilder {
     ghost use Rattle.oci_json_model.specs.Plain as plain;
     ghost use Rattle.oci_json_model.specs.Types.{text_plain, integer_plain};
 
-    /// Sets `page_size`: the size of the pages, a number with a unit, as `64KB`, `2MB` or `1GB`.
+    /// Sets `page_size`: the size of the pages, a number with a unit, as `64KB`, `2MB` or `1GB`. REQUIRED; the form is not checked here.
     pub fn page_size(self, page_size: String) -> Self
         ensures { result ≡ record self { page_size = Some page_size } }
     {
@@ -145,7 +146,8 @@ impl LinuxHugepageLimitBuilder {
         }
     }
 
-    /// Sets `limit`: the limit in bytes: of what is reserved, or of what is used where the kernel counts no reservations.
+    /// Sets `limit`: the limit in bytes: of what is reserved, or of what is used where the kernel counts no reservations. REQUIRED, and
+    /// unsigned in the specification; a negative number is read too.
     pub fn limit(self, limit: i64) -> Self
         ensures { result ≡ record self { limit = Some limit } }
     {

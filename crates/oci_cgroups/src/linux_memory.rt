@@ -103,7 +103,7 @@ impl LinuxMemory {
         self
     }
 
-    /// The limit of the kernel's memory in bytes, which the specification advises against; -1 is no limit.
+    /// The limit of the kernel's memory in bytes; -1 is no limit. The specification has it as NOT RECOMMENDED.
     pub fn kernel(&self) -> Option<i64>
         ensures { result ≡ self.now.kernel }
     {
@@ -119,7 +119,7 @@ impl LinuxMemory {
         self
     }
 
-    /// The limit of the kernel's buffers for TCP in bytes, which the specification advises against; -1 is no limit.
+    /// The limit of the kernel's buffers for TCP in bytes; -1 is no limit. The specification has it as NOT RECOMMENDED.
     pub fn kernel_tcp(&self) -> Option<i64>
         ensures { result ≡ self.now.kernel_tcp }
     {
@@ -135,7 +135,7 @@ impl LinuxMemory {
         self
     }
 
-    /// How readily the kernel swaps pages out, from 0 to 100.
+    /// How readily the kernel swaps pages out, from 0 to 100. The range is not checked here.
     pub fn swappiness(&self) -> Option<u64>
         ensures { result ≡ self.now.swappiness }
     {
@@ -183,7 +183,7 @@ impl LinuxMemory {
         self
     }
 
-    /// Whether a new limit that is lower than what is in use is to be refused.
+    /// Whether a runtime that updates the container MAY compare a new limit with what is in use; if it does, it MUST refuse a lower one.
     pub fn check_before_update(&self) -> Option<bool>
         ensures { result ≡ self.now.check_before_update }
     {

@@ -35,7 +35,7 @@ impl LinuxPids {
         Ok(LinuxPids { limit: 0 })
     }
 
-    /// The largest number of tasks; -1 is no limit.
+    /// The largest number of tasks; -1 is no limit. REQUIRED; 0 is read where it is absent.
     pub fn limit(&self) -> i64
         ensures { result ≡ self.now.limit }
     {
@@ -99,7 +99,7 @@ impl LinuxPidsBuilder {
     ghost use Rattle.oci_json_model.specs.Plain as plain;
     ghost use Rattle.oci_json_model.specs.Types.{integer_plain};
 
-    /// Sets `limit`: the largest number of tasks; -1 is no limit.
+    /// Sets `limit`: the largest number of tasks; -1 is no limit. REQUIRED; 0 is read where it is absent.
     pub fn limit(self, limit: i64) -> Self
         ensures { result ≡ record self { limit = Some limit } }
     {

@@ -83,7 +83,7 @@ impl LinuxResources {
         })
     }
 
-    /// The rules for devices, which are applied in their order.
+    /// The rules for devices. A runtime MUST apply them in their order.
     pub fn devices(&self) -> &Option<Vec<LinuxDeviceCgroup>>
         ensures { result.now ≡ self.now.devices }
     {
@@ -278,7 +278,8 @@ impl LinuxResources {
         self
     }
 
-    /// What is written to files of the unified hierarchy (version 2), by the files' names.
+    /// What is written to files of the unified hierarchy (cgroup v2), by the files' names. A runtime MUST write entries that it does not
+    /// know, too.
     pub fn unified(&self) -> &Option<BTreeMap<String, String>>
         ensures { result.now ≡ self.now.unified }
     {

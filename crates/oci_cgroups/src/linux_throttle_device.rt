@@ -41,21 +41,21 @@ impl LinuxThrottleDevice {
         })
     }
 
-    /// The device's major number.
+    /// The device's major number. REQUIRED; 0 is read where it is absent.
     pub fn major(&self) -> i64
         ensures { result ≡ self.now.major }
     {
         self.major
     }
 
-    /// The device's minor number.
+    /// The device's minor number. REQUIRED; 0 is read where it is absent.
     pub fn minor(&self) -> i64
         ensures { result ≡ self.now.minor }
     {
         self.minor
     }
 
-    /// The limit in a second: bytes or operations, depending on the list that it is in.
+    /// The limit in a second: bytes or operations, depending on the list that it is in. REQUIRED; 0 is read where it is absent.
     pub fn rate(&self) -> u64
         ensures { result ≡ self.now.rate }
     {
@@ -121,7 +121,7 @@ impl LinuxThrottleDeviceBuilder {
     ghost use Rattle.oci_json_model.specs.Plain as plain;
     ghost use Rattle.oci_json_model.specs.Types.{number_plain, integer_plain};
 
-    /// Sets `major`: the device's major number.
+    /// Sets `major`: the device's major number. REQUIRED; 0 is read where it is absent.
     pub fn major(self, major: i64) -> Self
         ensures { result ≡ record self { major = Some major } }
     {
@@ -131,7 +131,7 @@ impl LinuxThrottleDeviceBuilder {
         }
     }
 
-    /// Sets `minor`: the device's minor number.
+    /// Sets `minor`: the device's minor number. REQUIRED; 0 is read where it is absent.
     pub fn minor(self, minor: i64) -> Self
         ensures { result ≡ record self { minor = Some minor } }
     {
@@ -141,7 +141,8 @@ impl LinuxThrottleDeviceBuilder {
         }
     }
 
-    /// Sets `rate`: the limit in a second: bytes or operations, depending on the list that it is in.
+    /// Sets `rate`: the limit in a second: bytes or operations, depending on the list that it is in. REQUIRED; 0 is read where it is
+    /// absent.
     pub fn rate(self, rate: u64) -> Self
         ensures { result ≡ record self { rate = Some rate } }
     {

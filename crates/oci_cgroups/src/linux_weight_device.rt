@@ -43,28 +43,30 @@ impl LinuxWeightDevice {
         })
     }
 
-    /// The device's major number.
+    /// The device's major number. REQUIRED; 0 is read where it is absent.
     pub fn major(&self) -> i64
         ensures { result ≡ self.now.major }
     {
         self.major
     }
 
-    /// The device's minor number.
+    /// The device's minor number. REQUIRED; 0 is read where it is absent.
     pub fn minor(&self) -> i64
         ensures { result ≡ self.now.minor }
     {
         self.minor
     }
 
-    /// The weight of the container's group on this device, from 10 to 1000.
+    /// The weight of the container's group on this device, from 10 to 1000. At least one of `weight` and `leafWeight` MUST be there;
+    /// neither this nor the range is checked here.
     pub fn weight(&self) -> Option<u16>
         ensures { result ≡ self.now.weight }
     {
         self.weight
     }
 
-    /// The weight of the group's own tasks on this device against the groups below it, from 10 to 1000; for the CFQ scheduler alone.
+    /// The weight of the group's own tasks on this device against the groups below it, from 10 to 1000; for the CFQ scheduler alone. The
+    /// range is not checked here.
     pub fn leaf_weight(&self) -> Option<u16>
         ensures { result ≡ self.now.leaf_weight }
     {
@@ -139,7 +141,7 @@ impl LinuxWeightDeviceBuilder {
     ghost use Rattle.oci_json_model.specs.Plain as plain;
     ghost use Rattle.oci_json_model.specs.Types.{integer_plain};
 
-    /// Sets `major`: the device's major number.
+    /// Sets `major`: the device's major number. REQUIRED; 0 is read where it is absent.
     pub fn major(self, major: i64) -> Self
         ensures { result ≡ record self { major = Some major } }
     {
@@ -149,7 +151,7 @@ impl LinuxWeightDeviceBuilder {
         }
     }
 
-    /// Sets `minor`: the device's minor number.
+    /// Sets `minor`: the device's minor number. REQUIRED; 0 is read where it is absent.
     pub fn minor(self, minor: i64) -> Self
         ensures { result ≡ record self { minor = Some minor } }
     {
@@ -159,7 +161,8 @@ impl LinuxWeightDeviceBuilder {
         }
     }
 
-    /// Sets `weight`: the weight of the container's group on this device, from 10 to 1000.
+    /// Sets `weight`: the weight of the container's group on this device, from 10 to 1000. At least one of `weight` and `leafWeight` MUST
+    /// be there; neither this nor the range is checked here.
     pub fn weight(self, weight: u16) -> Self
         ensures { result ≡ record self { weight = Some weight } }
     {
@@ -169,7 +172,8 @@ impl LinuxWeightDeviceBuilder {
         }
     }
 
-    /// Sets `leaf_weight`: the weight of the group's own tasks on this device against the groups below it, from 10 to 1000; for the CFQ scheduler alone.
+    /// Sets `leaf_weight`: the weight of the group's own tasks on this device against the groups below it, from 10 to 1000; for the CFQ
+    /// scheduler alone. The range is not checked here.
     pub fn leaf_weight(self, leaf_weight: u16) -> Self
         ensures { result ≡ record self { leaf_weight = Some leaf_weight } }
     {

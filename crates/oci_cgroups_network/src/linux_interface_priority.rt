@@ -45,7 +45,7 @@ impl LinuxInterfacePriority {
         })
     }
 
-    /// The name of the interface, in the network namespace of the runtime.
+    /// The name of the interface, in the network namespace of the runtime. REQUIRED; the empty string is read where it is absent.
     pub fn name(&self) -> &String
         ensures { result.now ≡ self.now.name }
     {
@@ -61,7 +61,7 @@ impl LinuxInterfacePriority {
         self
     }
 
-    /// The priority of what the container sends through the interface.
+    /// The priority of what the container sends through the interface. REQUIRED; 0 is read where it is absent.
     pub fn priority(&self) -> u32
         ensures { result ≡ self.now.priority }
     {
@@ -135,7 +135,8 @@ impl LinuxInterfacePriorityBuilder {
     ghost use Rattle.oci_json_model.specs.Plain as plain;
     ghost use Rattle.oci_json_model.specs.Types.{text_plain, number_plain};
 
-    /// Sets `name`: the name of the interface, in the network namespace of the runtime.
+    /// Sets `name`: the name of the interface, in the network namespace of the runtime. REQUIRED; the empty string is read where it is
+    /// absent.
     pub fn name(self, name: String) -> Self
         ensures { result ≡ record self { name = Some name } }
     {
@@ -145,7 +146,7 @@ impl LinuxInterfacePriorityBuilder {
         }
     }
 
-    /// Sets `priority`: the priority of what the container sends through the interface.
+    /// Sets `priority`: the priority of what the container sends through the interface. REQUIRED; 0 is read where it is absent.
     pub fn priority(self, priority: u32) -> Self
         ensures { result ≡ record self { priority = Some priority } }
     {

@@ -39,7 +39,8 @@ impl LinuxRdma {
         })
     }
 
-    /// The largest number of handles of the host channel adapter that may be open; no limit where none is given.
+    /// The largest number of handles of the host channel adapter that may be open; no limit where none is given. At least one of both
+    /// limits MUST be there; not checked here.
     pub fn hca_handles(&self) -> Option<u32>
         ensures { result ≡ self.now.hca_handles }
     {
@@ -54,7 +55,8 @@ impl LinuxRdma {
         &mut self.hca_handles
     }
 
-    /// The largest number of objects of the host channel adapter that may be made; no limit where none is given.
+    /// The largest number of objects of the host channel adapter that may be made; no limit where none is given. At least one of both
+    /// limits MUST be there; not checked here.
     pub fn hca_objects(&self) -> Option<u32>
         ensures { result ≡ self.now.hca_objects }
     {
@@ -124,7 +126,8 @@ pub struct LinuxRdmaBuilder {
 impl LinuxRdmaBuilder {
     ghost use Rattle.std.specs.Prelude.{Some};
 
-    /// Sets `hca_handles`: the largest number of handles of the host channel adapter that may be open; no limit where none is given.
+    /// Sets `hca_handles`: the largest number of handles of the host channel adapter that may be open; no limit where none is given. At
+    /// least one of both limits MUST be there; not checked here.
     pub fn hca_handles(self, hca_handles: u32) -> Self
         ensures { result ≡ record self { hca_handles = Some hca_handles } }
     {
@@ -134,7 +137,8 @@ impl LinuxRdmaBuilder {
         }
     }
 
-    /// Sets `hca_objects`: the largest number of objects of the host channel adapter that may be made; no limit where none is given.
+    /// Sets `hca_objects`: the largest number of objects of the host channel adapter that may be made; no limit where none is given. At
+    /// least one of both limits MUST be there; not checked here.
     pub fn hca_objects(self, hca_objects: u32) -> Self
         ensures { result ≡ record self { hca_objects = Some hca_objects } }
     {

@@ -43,21 +43,21 @@ impl ErrorInfo {
         self.duplicate(alloc)
     }
 
-    /// The code, which says what went wrong.
+    /// The error's identifier. MUST be one of the specification's codes; any other is rejected.
     pub fn code(&self) -> &ErrorCode
         ensures { result.now ≡ self.now.code }
     {
         &self.code
     }
 
-    /// The error in words.
+    /// The error in words for a person. OPTIONAL, and MAY be empty.
     pub fn message(&self) -> &Option<String>
         ensures { result.now ≡ self.now.message }
     {
         &self.message
     }
 
-    /// More about the error: the compact text of any JSON value.
+    /// Data that helps to resolve the error: any JSON value, as compact text.
     pub fn detail(&self) -> &Option<String>
         ensures { result.now ≡ self.now.detail }
     {
@@ -136,7 +136,7 @@ impl ErrorInfoBuilder {
     ghost use Rattle.oci_json_model.specs.Built.{IsUnset};
     ghost use Rattle.oci_distribution.specs.ErrorInfoBuilder.{error_info_unset};
 
-    /// Sets `code`: the code, which says what went wrong.
+    /// Sets `code`: the error's identifier. MUST be one of the specification's codes; any other is rejected.
     pub fn code(self, code: ErrorCode) -> Self
         ensures { result ≡ record self { code = Some code } }
     {
@@ -146,7 +146,7 @@ impl ErrorInfoBuilder {
         }
     }
 
-    /// Sets `message`: the error in words.
+    /// Sets `message`: the error in words for a person. OPTIONAL, and MAY be empty.
     pub fn message(self, message: String) -> Self
         ensures { result ≡ record self { message = Some message } }
     {
@@ -156,7 +156,7 @@ impl ErrorInfoBuilder {
         }
     }
 
-    /// Sets `detail`: more about the error: the compact text of any JSON value.
+    /// Sets `detail`: data that helps to resolve the error: any JSON value, as compact text.
     pub fn detail(self, detail: String) -> Self
         ensures { result ≡ record self { detail = Some detail } }
     {

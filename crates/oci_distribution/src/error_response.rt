@@ -36,7 +36,7 @@ impl ErrorResponse {
         self.duplicate(alloc)
     }
 
-    /// The errors.
+    /// The errors, in the registry's order. None at all is not rejected.
     pub fn errors(&self) -> &Vec<ErrorInfo>
         ensures { result.now ≡ self.now.errors }
     {
@@ -93,7 +93,7 @@ impl ErrorResponseBuilder {
     ghost use Rattle.oci_json_model.specs.Built.{IsUnset};
     ghost use Rattle.oci_distribution.specs.ErrorResponseBuilder.{error_response_unset};
 
-    /// Sets `errors`: the errors.
+    /// Sets `errors`: the errors, in the registry's order. None at all is not rejected.
     pub fn errors(self, errors: Vec<ErrorInfo>) -> Self
         ensures { result ≡ record self { errors = Some errors } }
     {

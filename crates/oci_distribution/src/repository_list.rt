@@ -32,7 +32,7 @@ impl RepositoryList {
         self.duplicate(alloc)
     }
 
-    /// The names of the repositories.
+    /// The names of the repositories. Their grammar is not checked here.
     pub fn repositories(&self) -> &Vec<String>
         ensures { result.now ≡ self.now.repositories }
     {
@@ -97,7 +97,7 @@ impl RepositoryListBuilder {
     ghost use Rattle.oci_json_model.specs.Built.{IsUnset};
     ghost use Rattle.oci_distribution.specs.RepositoryListBuilder.{repository_list_unset};
 
-    /// Sets `repositories`: the names of the repositories.
+    /// Sets `repositories`: the names of the repositories. Their grammar is not checked here.
     pub fn repositories(self, repositories: Vec<String>) -> Self
         ensures { result ≡ record self { repositories = Some repositories } }
     {

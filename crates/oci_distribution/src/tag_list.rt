@@ -33,7 +33,7 @@ impl TagList {
         self.duplicate(alloc)
     }
 
-    /// The name of the repository.
+    /// The name of the repository. Its grammar is not checked here.
     pub fn name(&self) -> &String
         ensures { result.now ≡ self.now.name }
     {
@@ -49,7 +49,7 @@ impl TagList {
         self
     }
 
-    /// The tags.
+    /// The tags. MUST be in lexical order; neither that nor their grammar is checked here.
     pub fn tags(&self) -> &Vec<String>
         ensures { result.now ≡ self.now.tags }
     {
@@ -120,7 +120,7 @@ impl TagListBuilder {
     ghost use Rattle.oci_json_model.specs.Built.{IsUnset};
     ghost use Rattle.oci_distribution.specs.TagListBuilder.{tag_list_unset};
 
-    /// Sets `name`: the name of the repository.
+    /// Sets `name`: the name of the repository. Its grammar is not checked here.
     pub fn name(self, name: String) -> Self
         ensures { result ≡ record self { name = Some name } }
     {
@@ -130,7 +130,7 @@ impl TagListBuilder {
         }
     }
 
-    /// Sets `tags`: the tags.
+    /// Sets `tags`: the tags. MUST be in lexical order; neither that nor their grammar is checked here.
     pub fn tags(self, tags: Vec<String>) -> Self
         ensures { result ≡ record self { tags = Some tags } }
     {

@@ -69,7 +69,8 @@ impl Features {
         })
     }
 
-    /// The lowest version of the runtime specification that the runtime knows, as `1.0.0`.
+    /// The lowest version of the runtime specification that the runtime knows, as `1.0.0`; it MUST accept it as `ociVersion`. REQUIRED; the
+    /// form is not checked here.
     pub fn oci_version_min(&self) -> &String
         ensures { result.now ≡ self.now.oci_version_min }
     {
@@ -93,7 +94,8 @@ impl Features {
         self
     }
 
-    /// The highest version of the runtime specification that the runtime knows, as `1.1.0`.
+    /// The highest version of the runtime specification that the runtime knows, as `1.1.0`; it MUST accept it as `ociVersion`. REQUIRED; it
+    /// MUST NOT be less than `ociVersionMin`, which is not checked here.
     pub fn oci_version_max(&self) -> &String
         ensures { result.now ≡ self.now.oci_version_max }
     {
@@ -117,7 +119,7 @@ impl Features {
         self
     }
 
-    /// The kinds of hooks that the runtime knows, as `createRuntime`; none where they are not known.
+    /// The kinds of hooks that the runtime knows, as `createRuntime`; it MUST support them. None where they are not known.
     pub fn hooks(&self) -> &Option<Vec<String>>
         ensures { result.now ≡ self.now.hooks }
     {
@@ -141,7 +143,8 @@ impl Features {
         self
     }
 
-    /// The options of mounts that the runtime knows, as `ro`, without those of one file system; none where they are not known.
+    /// The options of mounts that the runtime knows, as `ro`; it MUST recognize them, and they SHOULD NOT be those of one file system. None
+    /// where they are not known.
     pub fn mount_options(&self) -> &Option<Vec<String>>
         ensures { result.now ≡ self.now.mount_options }
     {
@@ -363,7 +366,8 @@ impl FeaturesBuilder {
     ghost use Rattle.oci_json_model.specs.Plain as plain;
     ghost use Rattle.oci_json_model.specs.Types.{text_plain};
 
-    /// Sets `oci_version_min`: the lowest version of the runtime specification that the runtime knows, as `1.0.0`.
+    /// Sets `oci_version_min`: the lowest version of the runtime specification that the runtime knows, as `1.0.0`; it MUST accept it as
+    /// `ociVersion`. REQUIRED; the form is not checked here.
     pub fn oci_version_min(self, oci_version_min: String) -> Self
         ensures { result ≡ record self { oci_version_min = Some oci_version_min } }
     {
@@ -373,7 +377,8 @@ impl FeaturesBuilder {
         }
     }
 
-    /// Sets `oci_version_max`: the highest version of the runtime specification that the runtime knows, as `1.1.0`.
+    /// Sets `oci_version_max`: the highest version of the runtime specification that the runtime knows, as `1.1.0`; it MUST accept it as
+    /// `ociVersion`. REQUIRED; it MUST NOT be less than `ociVersionMin`, which is not checked here.
     pub fn oci_version_max(self, oci_version_max: String) -> Self
         ensures { result ≡ record self { oci_version_max = Some oci_version_max } }
     {
@@ -383,7 +388,7 @@ impl FeaturesBuilder {
         }
     }
 
-    /// Sets `hooks`: the kinds of hooks that the runtime knows, as `createRuntime`; none where they are not known.
+    /// Sets `hooks`: the kinds of hooks that the runtime knows, as `createRuntime`; it MUST support them. None where they are not known.
     pub fn hooks(self, hooks: Vec<String>) -> Self
         ensures { result ≡ record self { hooks = Some hooks } }
     {
@@ -393,7 +398,8 @@ impl FeaturesBuilder {
         }
     }
 
-    /// Sets `mount_options`: the options of mounts that the runtime knows, as `ro`, without those of one file system; none where they are not known.
+    /// Sets `mount_options`: the options of mounts that the runtime knows, as `ro`; it MUST recognize them, and they SHOULD NOT be those of
+    /// one file system. None where they are not known.
     pub fn mount_options(self, mount_options: Vec<String>) -> Self
         ensures { result ≡ record self { mount_options = Some mount_options } }
     {
@@ -423,7 +429,8 @@ impl FeaturesBuilder {
         }
     }
 
-    /// Sets `potentially_unsafe_config_annotations`: the annotations of a configuration that may change what the runtime does; one that ends in a full stop is the beginning of many.
+    /// Sets `potentially_unsafe_config_annotations`: the annotations of a configuration that may change what the runtime does; one that
+    /// ends in a full stop is the beginning of many.
     pub fn potentially_unsafe_config_annotations(
         self,
         potentially_unsafe_config_annotations: Vec<String>,

@@ -10,7 +10,8 @@ use std::alloc::Global;
 
 const NAME: &str = "IDMap";
 
-/// Whether a runtime has mounts with mapped IDs, whatever its host has (runtime specification, "Linux Features Structure", `mountExtensions`, `idmap`).
+/// Whether a runtime has mounts with mapped IDs, whatever its host has (runtime specification, "Linux Features Structure",
+/// `mountExtensions`, `idmap`).
 #[derive(Debug, PartialEq, Eq)]
 pub struct IDMap {
     enabled: Option<bool>,

@@ -9,7 +9,8 @@ use std::alloc::Global;
 
 const NAME: &str = "IntelRdt";
 
-/// What a runtime can do with Intel's Resource Director Technology, whatever its host has (runtime specification, "Linux Features Structure", `intelRdt`).
+/// What a runtime can do with Intel's Resource Director Technology, whatever its host has (runtime specification, "Linux Features
+/// Structure", `intelRdt`).
 #[derive(Debug, PartialEq, Eq)]
 pub struct IntelRdt {
     enabled: Option<bool>,

@@ -85,7 +85,7 @@ impl LinuxFeature {
         })
     }
 
-    /// The kinds of namespaces that the runtime knows; none where they are not known.
+    /// The kinds of namespaces that the runtime knows; it MUST recognize them in `config.json`. None where they are not known.
     pub fn namespaces(&self) -> &Option<Vec<LinuxNamespaceType>>
         ensures { result.now ≡ self.now.namespaces }
     {
@@ -109,7 +109,7 @@ impl LinuxFeature {
         self
     }
 
-    /// The capabilities that the runtime knows, as `CAP_SYS_ADMIN`; none where they are not known.
+    /// The capabilities that the runtime knows, as `CAP_SYS_ADMIN`; it MUST recognize them in `config.json`. None where they are not known.
     pub fn capabilities(&self) -> &Option<Vec<String>>
         ensures { result.now ≡ self.now.capabilities }
     {

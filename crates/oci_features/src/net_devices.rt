@@ -10,7 +10,8 @@ use std::alloc::Global;
 
 const NAME: &str = "NetDevices";
 
-/// Whether a runtime can move network devices into a container, whatever its host can (runtime specification, "Linux Features Structure", `netDevices`).
+/// Whether a runtime can move network devices into a container, whatever its host can (runtime specification, "Linux Features Structure",
+/// `netDevices`).
 #[derive(Debug, PartialEq, Eq)]
 pub struct NetDevices {
     enabled: Option<bool>,

@@ -86,7 +86,7 @@ impl Seccomp {
         self
     }
 
-    /// The actions that the runtime knows; none where they are not known.
+    /// The actions that the runtime knows; it MUST recognize them in `config.json`. None where they are not known.
     pub fn actions(&self) -> &Option<Vec<LinuxSeccompAction>>
         ensures { result.now ≡ self.now.actions }
     {
@@ -110,7 +110,7 @@ impl Seccomp {
         self
     }
 
-    /// The comparisons that the runtime knows, as `SCMP_CMP_NE`; none where they are not known.
+    /// The comparisons that the runtime knows, as `SCMP_CMP_NE`; it MUST recognize them in `config.json`. None where they are not known.
     pub fn operators(&self) -> &Option<Vec<String>>
         ensures { result.now ≡ self.now.operators }
     {
@@ -134,7 +134,7 @@ impl Seccomp {
         self
     }
 
-    /// The processors that the runtime knows; none where they are not known.
+    /// The processors that the runtime knows; it MUST recognize them in `config.json`. None where they are not known.
     pub fn archs(&self) -> &Option<Vec<SArch>>
         ensures { result.now ≡ self.now.archs }
     {
@@ -158,7 +158,8 @@ impl Seccomp {
         self
     }
 
-    /// The flags that the runtime knows, as `SECCOMP_FILTER_FLAG_LOG`; none where they are not known.
+    /// The flags that the runtime knows, as `SECCOMP_FILTER_FLAG_LOG`; it MUST recognize them in `config.json`. None where they are not
+    /// known.
     pub fn known_flags(&self) -> &Option<Vec<String>>
         ensures { result.now ≡ self.now.known_flags }
     {
@@ -182,7 +183,7 @@ impl Seccomp {
         self
     }
 
-    /// The flags that the runtime and its host can set, some of those that it knows; none where they are not known.
+    /// The flags that the runtime and its host can set, some of those that it knows; it MUST support them. None where they are not known.
     pub fn supported_flags(&self) -> &Option<Vec<String>>
         ensures { result.now ≡ self.now.supported_flags }
     {
@@ -315,7 +316,7 @@ impl SeccompBuilder {
         }
     }
 
-    /// Sets `actions`: the actions that the runtime knows; none where they are not known.
+    /// Sets `actions`: the actions that the runtime knows; it MUST recognize them in `config.json`. None where they are not known.
     pub fn actions(self, actions: Vec<LinuxSeccompAction>) -> Self
         ensures { result ≡ record self { actions = Some actions } }
     {
@@ -325,7 +326,8 @@ impl SeccompBuilder {
         }
     }
 
-    /// Sets `operators`: the comparisons that the runtime knows, as `SCMP_CMP_NE`; none where they are not known.
+    /// Sets `operators`: the comparisons that the runtime knows, as `SCMP_CMP_NE`; it MUST recognize them in `config.json`. None where they
+    /// are not known.
     pub fn operators(self, operators: Vec<String>) -> Self
         ensures { result ≡ record self { operators = Some operators } }
     {
@@ -335,7 +337,7 @@ impl SeccompBuilder {
         }
     }
 
-    /// Sets `archs`: the processors that the runtime knows; none where they are not known.
+    /// Sets `archs`: the processors that the runtime knows; it MUST recognize them in `config.json`. None where they are not known.
     pub fn archs(self, archs: Vec<SArch>) -> Self
         ensures { result ≡ record self { archs = Some archs } }
     {
@@ -345,7 +347,8 @@ impl SeccompBuilder {
         }
     }
 
-    /// Sets `known_flags`: the flags that the runtime knows, as `SECCOMP_FILTER_FLAG_LOG`; none where they are not known.
+    /// Sets `known_flags`: the flags that the runtime knows, as `SECCOMP_FILTER_FLAG_LOG`; it MUST recognize them in `config.json`. None
+    /// where they are not known.
     pub fn known_flags(self, known_flags: Vec<String>) -> Self
         ensures { result ≡ record self { known_flags = Some known_flags } }
     {
@@ -355,7 +358,8 @@ impl SeccompBuilder {
         }
     }
 
-    /// Sets `supported_flags`: the flags that the runtime and its host can set, some of those that it knows; none where they are not known.
+    /// Sets `supported_flags`: the flags that the runtime and its host can set, some of those that it knows; it MUST support them. None
+    /// where they are not known.
     pub fn supported_flags(self, supported_flags: Vec<String>) -> Self
         ensures { result ≡ record self { supported_flags = Some supported_flags } }
     {

@@ -77,7 +77,8 @@ impl Config {
         })
     }
 
-    /// The user, and the group behind a colon, that the container's process runs as.
+    /// The user that the process runs as unless the container sets one: on Linux a name or ID, and that of a group behind a colon, as
+    /// `user:gid`. The format is not checked here.
     pub fn user(&self) -> &Option<String>
         ensures { result.now ≡ self.now.user }
     {
@@ -93,7 +94,8 @@ impl Config {
         self
     }
 
-    /// The ports that a container exposes, as `8080/tcp`.
+    /// The ports that the container exposes beside its own, each as `port`, `port/tcp` or `port/udp`, of TCP where none is named. The
+    /// format is not checked here.
     pub fn exposed_ports(&self) -> &Option<Vec<String>>
         ensures { result.now ≡ self.now.exposed_ports }
     {
@@ -109,7 +111,7 @@ impl Config {
         self
     }
 
-    /// The environment variables, as `NAME=value`.
+    /// The environment variables, which are merged with those of the container, each as `NAME=value`. The format is not checked here.
     pub fn env(&self) -> &Option<Vec<String>>
         ensures { result.now ≡ self.now.env }
     {
@@ -125,7 +127,7 @@ impl Config {
         self
     }
 
-    /// The arguments that start the process, ahead of those of `cmd`.
+    /// The arguments of the command that runs when the container starts, its program first, unless the container sets others.
     pub fn entrypoint(&self) -> &Option<Vec<String>>
         ensures { result.now ≡ self.now.entrypoint }
     {
@@ -141,7 +143,8 @@ impl Config {
         self
     }
 
-    /// The default arguments of the process.
+    /// The default arguments of the entrypoint, unless the container sets others. Without `Entrypoint`, the first SHOULD be run as the
+    /// program.
     pub fn cmd(&self) -> &Option<Vec<String>>
         ensures { result.now ≡ self.now.cmd }
     {
@@ -157,7 +160,7 @@ impl Config {
         self
     }
 
-    /// The folders that hold data of the container alone.
+    /// The directories in which the process is likely to write data of this container alone.
     pub fn volumes(&self) -> &Option<Vec<String>>
         ensures { result.now ≡ self.now.volumes }
     {
@@ -173,7 +176,7 @@ impl Config {
         self
     }
 
-    /// The folder in which the process starts.
+    /// The working directory in which the entrypoint starts, unless the container sets one.
     pub fn working_dir(&self) -> &Option<String>
         ensures { result.now ≡ self.now.working_dir }
     {
@@ -189,7 +192,8 @@ impl Config {
         self
     }
 
-    /// Labels, by their keys.
+    /// Any metadata for the container, by its key. The rules of annotations MUST be kept: keys SHOULD be in reverse domain notation, and
+    /// `org.opencontainers` is reserved; not checked here.
     pub fn labels(&self) -> &Option<BTreeMap<String, String>>
         ensures { result.now ≡ self.now.labels }
     {
@@ -213,7 +217,8 @@ impl Config {
         self
     }
 
-    /// The signal that asks the process to end, as `SIGKILL`.
+    /// The signal that is sent to the container to make it exit, as `SIGKILL` or `SIGRTMIN+3`. That there is one of this name is not
+    /// checked here.
     pub fn stop_signal(&self) -> &Option<String>
         ensures { result.now ≡ self.now.stop_signal }
     {

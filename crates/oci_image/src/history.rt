@@ -58,7 +58,7 @@ impl History {
         })
     }
 
-    /// When the layer was made, as an RFC 3339 date and time.
+    /// When the layer was created, a date and time by RFC 3339, section 5.6. The format is not checked here.
     pub fn created(&self) -> &Option<String>
         ensures { result.now ≡ self.now.created }
     {
@@ -74,7 +74,7 @@ impl History {
         self
     }
 
-    /// Who made the layer.
+    /// Who made this step of the build.
     pub fn author(&self) -> &Option<String>
         ensures { result.now ≡ self.now.author }
     {
@@ -90,7 +90,7 @@ impl History {
         self
     }
 
-    /// The command that made the layer.
+    /// The command that created the layer.
     pub fn created_by(&self) -> &Option<String>
         ensures { result.now ≡ self.now.created_by }
     {
@@ -106,7 +106,7 @@ impl History {
         self
     }
 
-    /// A message that was set when the layer was made.
+    /// A message that was set when the layer was created.
     pub fn comment(&self) -> &Option<String>
         ensures { result.now ≡ self.now.comment }
     {
@@ -122,7 +122,7 @@ impl History {
         self
     }
 
-    /// Whether this entry has no layer of its own.
+    /// Whether the step made no layer: `true` where no entry of `rootfs` belongs to it, as for a change of the environment alone.
     pub fn empty_layer(&self) -> Option<bool>
         ensures { result ≡ self.now.empty_layer }
     {
@@ -230,7 +230,7 @@ pub struct HistoryBuilder {
 impl HistoryBuilder {
     ghost use Rattle.std.specs.Prelude.{Some};
 
-    /// Sets `created`: when the layer was made, as an RFC 3339 date and time.
+    /// Sets `created`: when the layer was created, a date and time by RFC 3339, section 5.6. The format is not checked here.
     pub fn created(self, created: String) -> Self
         ensures { result ≡ record self { created = Some created } }
     {
@@ -240,7 +240,7 @@ impl HistoryBuilder {
         }
     }
 
-    /// Sets `author`: who made the layer.
+    /// Sets `author`: who made this step of the build.
     pub fn author(self, author: String) -> Self
         ensures { result ≡ record self { author = Some author } }
     {
@@ -250,7 +250,7 @@ impl HistoryBuilder {
         }
     }
 
-    /// Sets `created_by`: the command that made the layer.
+    /// Sets `created_by`: the command that created the layer.
     pub fn created_by(self, created_by: String) -> Self
         ensures { result ≡ record self { created_by = Some created_by } }
     {
@@ -260,7 +260,7 @@ impl HistoryBuilder {
         }
     }
 
-    /// Sets `comment`: a message that was set when the layer was made.
+    /// Sets `comment`: a message that was set when the layer was created.
     pub fn comment(self, comment: String) -> Self
         ensures { result ≡ record self { comment = Some comment } }
     {
@@ -270,7 +270,8 @@ impl HistoryBuilder {
         }
     }
 
-    /// Sets `empty_layer`: whether this entry has no layer of its own.
+    /// Sets `empty_layer`: whether the step made no layer: `true` where no entry of `rootfs` belongs to it, as for a change of the
+    /// environment alone.
     pub fn empty_layer(self, empty_layer: bool) -> Self
         ensures { result ≡ record self { empty_layer = Some empty_layer } }
     {

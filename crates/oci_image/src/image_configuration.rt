@@ -86,7 +86,7 @@ impl ImageConfiguration {
         })
     }
 
-    /// When the image was made, as an RFC 3339 date and time.
+    /// When the image was created, a date and time by RFC 3339, section 5.6. The format is not checked here.
     pub fn created(&self) -> &Option<String>
         ensures { result.now ≡ self.now.created }
     {
@@ -102,7 +102,7 @@ impl ImageConfiguration {
         self
     }
 
-    /// Who made the image.
+    /// Who created the image and maintains it, by name or email address.
     pub fn author(&self) -> &Option<String>
         ensures { result.now ≡ self.now.author }
     {
@@ -118,7 +118,7 @@ impl ImageConfiguration {
         self
     }
 
-    /// The processor that the image is for, by its name in Go's `GOARCH` where that lists it.
+    /// The CPU architecture that the image's binaries are built for. SHOULD be a value of Go's `GOARCH`; any other string is read as well.
     pub fn architecture(&self) -> &Arch
         ensures { result.now ≡ self.now.architecture }
     {
@@ -134,7 +134,7 @@ impl ImageConfiguration {
         self
     }
 
-    /// The operating system that the image is for, by its name in Go's `GOOS` where that lists it.
+    /// The operating system that the image is built for. SHOULD be a value of Go's `GOOS`; any other string is read as well.
     pub fn os(&self) -> &Os
         ensures { result.now ≡ self.now.os }
     {
@@ -150,7 +150,8 @@ impl ImageConfiguration {
         self
     }
 
-    /// The version of the operating system that the image asks for.
+    /// The version of the operating system that the image targets, as `10.0.14393.1066` on Windows; which there are is left to
+    /// implementations.
     pub fn os_version(&self) -> &Option<String>
         ensures { result.now ≡ self.now.os_version }
     {
@@ -166,7 +167,8 @@ impl ImageConfiguration {
         self
     }
 
-    /// The features of the operating system that the image asks for.
+    /// Features of the operating system that the image requires. On Windows they SHOULD be of the specification's list, which has `win32k`;
+    /// not checked here.
     pub fn os_features(&self) -> &Option<Vec<String>>
         ensures { result.now ≡ self.now.os_features }
     {
@@ -182,7 +184,8 @@ impl ImageConfiguration {
         self
     }
 
-    /// The variant of the processor.
+    /// The variant of the CPU architecture. SHOULD be of the specification's table: `v6`, `v7` or `v8` of `arm`, `v8` of `arm64`; not
+    /// checked here.
     pub fn variant(&self) -> &Option<String>
         ensures { result.now ≡ self.now.variant }
     {
@@ -198,7 +201,7 @@ impl ImageConfiguration {
         self
     }
 
-    /// What a container of the image runs with.
+    /// The execution parameters that SHOULD be the base of the image's containers. Without them, all are given when a container is created.
     pub fn config(&self) -> &Option<Config>
         ensures { result.now ≡ self.now.config }
     {
@@ -214,7 +217,7 @@ impl ImageConfiguration {
         self
     }
 
-    /// The layers that make up the image's file system.
+    /// The layers of the image's file system, by the digests of their uncompressed content.
     pub fn rootfs(&self) -> &RootFs
         ensures { result.now ≡ self.now.rootfs }
     {
@@ -238,7 +241,7 @@ impl ImageConfiguration {
         self
     }
 
-    /// How the layers came about, the base layer first.
+    /// What made each layer, the first step first. Steps without a layer are marked `empty_layer`.
     pub fn history(&self) -> &Option<Vec<History>>
         ensures { result.now ≡ self.now.history }
     {

@@ -47,7 +47,7 @@ impl RootFs {
         })
     }
 
-    /// The kind of file system, which is `layers`.
+    /// The kind of file system. MUST be `layers`; not checked here.
     pub fn typ(&self) -> &String
         ensures { result.now ≡ self.now.typ }
     {
@@ -63,7 +63,7 @@ impl RootFs {
         self
     }
 
-    /// The digests of the layers' uncompressed content, the base layer first.
+    /// The digests of the uncompressed layers (`DiffID`), the base layer first. That each is a digest is not checked here.
     pub fn diff_ids(&self) -> &Vec<String>
         ensures { result.now ≡ self.now.diff_ids }
     {
@@ -147,7 +147,7 @@ impl RootFsBuilder {
     ghost use Rattle.oci_json_model.specs.Plain as plain;
     ghost use Rattle.oci_json_model.specs.Types.{text_plain, list_plain};
 
-    /// Sets `typ`: the kind of file system, which is `layers`.
+    /// Sets `typ`: the kind of file system. MUST be `layers`; not checked here.
     pub fn typ(self, typ: String) -> Self
         ensures { result ≡ record self { typ = Some typ } }
     {
@@ -157,7 +157,7 @@ impl RootFsBuilder {
         }
     }
 
-    /// Sets `diff_ids`: the digests of the layers' uncompressed content, the base layer first.
+    /// Sets `diff_ids`: the digests of the uncompressed layers (`DiffID`), the base layer first. That each is a digest is not checked here.
     pub fn diff_ids(self, diff_ids: Vec<String>) -> Self
         ensures { result ≡ record self { diff_ids = Some diff_ids } }
     {

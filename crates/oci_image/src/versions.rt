@@ -1,5 +1,5 @@
 //! The version of the image specification.
-ghost use Rattle.std.specs.Prelude.{◌≡◌, codes, IfOk, IfErr, string_bytes};
+ghost use Rattle.std.specs.Prelude.{◌≡◌, ◌++◌, codes, decimal, IfOk, IfErr, string_bytes};
 
 use oci_text_base::{OciSpecError, Result};
 use std::alloc::Global;
@@ -22,9 +22,10 @@ pub const VERSION: &str = "1.0.1";
 /// The `schemaVersion` of manifests and indexes.
 pub const SCHEMA_VERSION: u32 = 2;
 
-/// The text of `VERSION`.
+/// The text of `VERSION`: the major, the minor and the patch version with full stops between.
 pub fn version(alloc: Global) -> Result<String>
     ensures ok { IfOk result (λ t. string_bytes t ≡ codes "1.0.1") }
+    ensures numbers { IfOk result (λ t. string_bytes t ≡ decimal VERSION_MAJOR ++ (codes "." ++ (decimal VERSION_MINOR ++ (codes "." ++ decimal VERSION_PATCH)))) }
     ensures err { IfErr result (λ e. e ≡ OciSpecError.Memory) }
 {
     Ok(String::from_str(alloc, VERSION)?)

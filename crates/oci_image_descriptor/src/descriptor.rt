@@ -58,7 +58,7 @@ impl Descriptor {
         self.duplicate(alloc)
     }
 
-    /// The media type of the content.
+    /// The media type of the content. MUST be one by RFC 6838, section 4.2; not checked here.
     pub fn media_type(&self) -> &MediaType
         ensures { result.now ≡ self.now.media_type }
     {
@@ -74,7 +74,8 @@ impl Descriptor {
         self
     }
 
-    /// The digest of the content.
+    /// The digest of the content, whose grammar is checked. Content from an untrusted source SHOULD be verified against it, which is left
+    /// to the caller.
     pub fn digest(&self) -> &Digest
         ensures { result.now ≡ self.now.digest }
     {
@@ -90,7 +91,8 @@ impl Descriptor {
         self
     }
 
-    /// The size of the content in bytes.
+    /// The size of the content in bytes, an int64 in the specification; a larger one is not rejected here. Content of another length SHOULD
+    /// NOT be trusted.
     pub fn size(&self) -> u64
         ensures { result ≡ self.now.size }
     {
@@ -106,7 +108,7 @@ impl Descriptor {
         self
     }
 
-    /// Where the content may be had, as URIs.
+    /// Where the content may be downloaded. Each MUST be a URI by RFC 3986 and SHOULD use `http` or `https`; not checked here.
     pub fn urls(&self) -> &Option<Vec<String>>
         ensures { result.now ≡ self.now.urls }
     {
@@ -122,7 +124,8 @@ impl Descriptor {
         self
     }
 
-    /// Annotations, by their keys.
+    /// Any metadata for the descriptor, by its key. Keys SHOULD be in reverse domain notation, and `org.opencontainers` is reserved; not
+    /// checked here.
     pub fn annotations(&self) -> &Option<BTreeMap<String, String>>
         ensures { result.now ≡ self.now.annotations }
     {
@@ -138,7 +141,7 @@ impl Descriptor {
         self
     }
 
-    /// The platform that the content is for.
+    /// The platform that the content needs. SHOULD be set where the content is an image manifest; not checked here.
     pub fn platform(&self) -> &Option<Platform>
         ensures { result.now ≡ self.now.platform }
     {
@@ -154,7 +157,8 @@ impl Descriptor {
         self
     }
 
-    /// The type of the artifact that the content is.
+    /// The type of the artifact that the content is; of an image manifest, the media type of its `config`. MUST be one by RFC 6838, section
+    /// 4.2; not checked here.
     pub fn artifact_type(&self) -> &Option<MediaType>
         ensures { result.now ≡ self.now.artifact_type }
     {
@@ -170,7 +174,8 @@ impl Descriptor {
         self
     }
 
-    /// The content itself, in base64.
+    /// The content itself, in Base64 (RFC 4648, section 4). What it decodes to MUST be the content of `digest` and `size`; not checked
+    /// here.
     pub fn data(&self) -> &Option<String>
         ensures { result.now ≡ self.now.embedded_data }
     {

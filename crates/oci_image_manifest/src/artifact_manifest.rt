@@ -56,14 +56,15 @@ impl ArtifactManifest {
         self.duplicate(alloc)
     }
 
-    /// The media type of the manifest itself.
+    /// The media type of the manifest itself. MUST be `application/vnd.oci.artifact.manifest.v1+json`, which the builder sets; not checked
+    /// when read.
     pub fn media_type(&self) -> &MediaType
         ensures { result.now ≡ self.now.media_type }
     {
         &self.media_type
     }
 
-    /// The type of the artifact.
+    /// The media type of the artifact, which SHOULD be set and is required here. MUST be one by RFC 6838, section 4.2; not checked here.
     pub fn artifact_type(&self) -> &MediaType
         ensures { result.now ≡ self.now.artifact_type }
     {
@@ -79,7 +80,7 @@ impl ArtifactManifest {
         self
     }
 
-    /// The descriptors of the content.
+    /// The descriptors of the artifact's content, of any media types. OPTIONAL in the specification, and required here when read.
     pub fn blobs(&self) -> &Vec<Descriptor>
         ensures { result.now ≡ self.now.blobs }
     {
@@ -103,7 +104,7 @@ impl ArtifactManifest {
         self
     }
 
-    /// The descriptor of another manifest, to which this one is related.
+    /// The descriptor of another manifest to which this manifest is related. Registries list it among that manifest's referrers.
     pub fn subject(&self) -> &Option<Descriptor>
         ensures { result.now ≡ self.now.subject }
     {
@@ -119,7 +120,8 @@ impl ArtifactManifest {
         self
     }
 
-    /// Annotations, by their keys.
+    /// Any metadata for the artifact, by its key. Keys SHOULD be in reverse domain notation, and `org.opencontainers` is reserved; not
+    /// checked here.
     pub fn annotations(&self) -> &Option<BTreeMap<String, String>>
         ensures { result.now ≡ self.now.annotations }
     {
@@ -319,7 +321,8 @@ impl ArtifactManifestBuilder {
     ghost use Rattle.oci_json_model.specs.Types.{name_plain, list_plain};
     ghost use Rattle.oci_image_descriptor.specs.Descriptor.{descriptor_plain};
 
-    /// Sets `artifact_type`: the type of the artifact.
+    /// Sets `artifact_type`: the media type of the artifact, which SHOULD be set and is required here. MUST be one by RFC 6838, section
+    /// 4.2; not checked here.
     pub fn artifact_type(self, artifact_type: MediaType) -> Self
         ensures { result ≡ record self { artifact_type = Some artifact_type } }
     {
@@ -329,7 +332,8 @@ impl ArtifactManifestBuilder {
         }
     }
 
-    /// Sets `blobs`: the descriptors of the content.
+    /// Sets `blobs`: the descriptors of the artifact's content, of any media types. OPTIONAL in the specification, and required here when
+    /// read.
     pub fn blobs(self, blobs: Vec<Descriptor>) -> Self
         ensures { result ≡ record self { blobs = Some blobs } }
     {
@@ -339,7 +343,8 @@ impl ArtifactManifestBuilder {
         }
     }
 
-    /// Sets `subject`: the descriptor of another manifest, to which this one is related.
+    /// Sets `subject`: the descriptor of another manifest to which this manifest is related. Registries list it among that manifest's
+    /// referrers.
     pub fn subject(self, subject: Descriptor) -> Self
         ensures { result ≡ record self { subject = Some subject } }
     {
@@ -349,7 +354,8 @@ impl ArtifactManifestBuilder {
         }
     }
 
-    /// Sets `annotations`: annotations, by their keys.
+    /// Sets `annotations`: any metadata for the artifact, by its key. Keys SHOULD be in reverse domain notation, and `org.opencontainers`
+    /// is reserved; not checked here.
     pub fn annotations(self, annotations: BTreeMap<String, String>) -> Self
         ensures { result ≡ record self { annotations = Some annotations } }
     {

@@ -73,7 +73,7 @@ impl ImageIndex {
         })
     }
 
-    /// The version of the index's schema. The specification requires 2; this library does not check it.
+    /// The index schema version. MUST be 2; not checked here.
     pub fn schema_version(&self) -> u32
         ensures { result ≡ self.now.schema_version }
     {
@@ -89,7 +89,7 @@ impl ImageIndex {
         self
     }
 
-    /// The media type of the index itself.
+    /// The media type of the index itself. SHOULD be set, and MUST then be `application/vnd.oci.image.index.v1+json`; not checked here.
     pub fn media_type(&self) -> &Option<MediaType>
         ensures { result.now ≡ self.now.media_type }
     {
@@ -105,7 +105,7 @@ impl ImageIndex {
         self
     }
 
-    /// The type of the artifact, where the index is used for one.
+    /// The type of the artifact, where the index is used for one. MUST be one by RFC 6838, section 4.2; not checked here.
     pub fn artifact_type(&self) -> &Option<MediaType>
         ensures { result.now ≡ self.now.artifact_type }
     {
@@ -121,7 +121,8 @@ impl ImageIndex {
         self
     }
 
-    /// The descriptors of the manifests.
+    /// The descriptors of the manifests, perhaps none. Of several that match a platform, the first SHOULD be used. Each media type SHOULD
+    /// be a manifest's or an index's; not checked here.
     pub fn manifests(&self) -> &Vec<Descriptor>
         ensures { result.now ≡ self.now.manifests }
     {
@@ -137,7 +138,7 @@ impl ImageIndex {
         self
     }
 
-    /// The descriptor of another manifest, to which this index is related.
+    /// The descriptor of another manifest to which this index is related. Registries list it among that manifest's referrers.
     pub fn subject(&self) -> &Option<Descriptor>
         ensures { result.now ≡ self.now.subject }
     {
@@ -153,7 +154,8 @@ impl ImageIndex {
         self
     }
 
-    /// Annotations, by their keys.
+    /// Any metadata for the index, by its key. Keys SHOULD be in reverse domain notation, and `org.opencontainers` is reserved; not checked
+    /// here.
     pub fn annotations(&self) -> &Option<BTreeMap<String, String>>
         ensures { result.now ≡ self.now.annotations }
     {
@@ -375,7 +377,7 @@ impl ImageIndexBuilder {
     ghost use Rattle.oci_json_model.specs.Built.{IsUnset};
     ghost use Rattle.oci_image_manifest.specs.ImageIndexBuilder.{image_index_unset};
 
-    /// Sets `schema_version`: the version of the index's schema. The specification requires 2; this library does not check it.
+    /// Sets `schema_version`: the index schema version. MUST be 2; not checked here.
     pub fn schema_version(self, schema_version: u32) -> Self
         ensures { result ≡ record self { schema_version = Some schema_version } }
     {
@@ -385,7 +387,8 @@ impl ImageIndexBuilder {
         }
     }
 
-    /// Sets `media_type`: the media type of the index itself.
+    /// Sets `media_type`: the media type of the index itself. SHOULD be set, and MUST then be `application/vnd.oci.image.index.v1+json`;
+    /// not checked here.
     pub fn media_type(self, media_type: MediaType) -> Self
         ensures { result ≡ record self { media_type = Some media_type } }
     {
@@ -395,7 +398,8 @@ impl ImageIndexBuilder {
         }
     }
 
-    /// Sets `artifact_type`: the type of the artifact, where the index is used for one.
+    /// Sets `artifact_type`: the type of the artifact, where the index is used for one. MUST be one by RFC 6838, section 4.2; not checked
+    /// here.
     pub fn artifact_type(self, artifact_type: MediaType) -> Self
         ensures { result ≡ record self { artifact_type = Some artifact_type } }
     {
@@ -405,7 +409,8 @@ impl ImageIndexBuilder {
         }
     }
 
-    /// Sets `manifests`: the descriptors of the manifests.
+    /// Sets `manifests`: the descriptors of the manifests, perhaps none. Of several that match a platform, the first SHOULD be used. Each
+    /// media type SHOULD be a manifest's or an index's; not checked here.
     pub fn manifests(self, manifests: Vec<Descriptor>) -> Self
         ensures { result ≡ record self { manifests = Some manifests } }
     {
@@ -415,7 +420,8 @@ impl ImageIndexBuilder {
         }
     }
 
-    /// Sets `subject`: the descriptor of another manifest, to which this index is related.
+    /// Sets `subject`: the descriptor of another manifest to which this index is related. Registries list it among that manifest's
+    /// referrers.
     pub fn subject(self, subject: Descriptor) -> Self
         ensures { result ≡ record self { subject = Some subject } }
     {
@@ -425,7 +431,8 @@ impl ImageIndexBuilder {
         }
     }
 
-    /// Sets `annotations`: annotations, by their keys.
+    /// Sets `annotations`: any metadata for the index, by its key. Keys SHOULD be in reverse domain notation, and `org.opencontainers` is
+    /// reserved; not checked here.
     pub fn annotations(self, annotations: BTreeMap<String, String>) -> Self
         ensures { result ≡ record self { annotations = Some annotations } }
     {

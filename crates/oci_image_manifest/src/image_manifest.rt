@@ -64,7 +64,7 @@ impl ImageManifest {
         self.duplicate(alloc)
     }
 
-    /// The version of the manifest's schema. The specification requires 2; this library does not check it.
+    /// The manifest schema version. MUST be 2; not checked here.
     pub fn schema_version(&self) -> u32
         ensures { result ≡ self.now.schema_version }
     {
@@ -80,7 +80,8 @@ impl ImageManifest {
         self
     }
 
-    /// The media type of the manifest itself.
+    /// The media type of the manifest itself. SHOULD be set, and MUST then be `application/vnd.oci.image.manifest.v1+json`; not checked
+    /// here.
     pub fn media_type(&self) -> &Option<MediaType>
         ensures { result.now ≡ self.now.media_type }
     {
@@ -96,7 +97,8 @@ impl ImageManifest {
         self
     }
 
-    /// The type of the artifact, where the manifest is used for one.
+    /// The type of the artifact, where the manifest is used for one. MUST be set where `config` is the empty descriptor, to a media type by
+    /// RFC 6838, section 4.2; not checked here.
     pub fn artifact_type(&self) -> &Option<MediaType>
         ensures { result.now ≡ self.now.artifact_type }
     {
@@ -112,7 +114,8 @@ impl ImageManifest {
         self
     }
 
-    /// The descriptor of the configuration.
+    /// The descriptor of the configuration. For an image its media type SHOULD be `application/vnd.oci.image.config.v1+json`; not checked
+    /// here.
     pub fn config(&self) -> &Descriptor
         ensures { result.now ≡ self.now.config }
     {
@@ -128,7 +131,8 @@ impl ImageManifest {
         self
     }
 
-    /// The descriptors of the layers, the base layer first.
+    /// The descriptors of the layers, the base layer first. SHOULD have at least one, with a media type of the specification; not checked
+    /// here.
     pub fn layers(&self) -> &Vec<Descriptor>
         ensures { result.now ≡ self.now.layers }
     {
@@ -152,7 +156,7 @@ impl ImageManifest {
         self
     }
 
-    /// The descriptor of another manifest, to which this one is related.
+    /// The descriptor of another manifest to which this manifest is related. Registries list it among that manifest's referrers.
     pub fn subject(&self) -> &Option<Descriptor>
         ensures { result.now ≡ self.now.subject }
     {
@@ -168,7 +172,8 @@ impl ImageManifest {
         self
     }
 
-    /// Annotations, by their keys.
+    /// Any metadata for the manifest, by its key. Keys SHOULD be in reverse domain notation, and `org.opencontainers` is reserved; not
+    /// checked here.
     pub fn annotations(&self) -> &Option<BTreeMap<String, String>>
         ensures { result.now ≡ self.now.annotations }
     {

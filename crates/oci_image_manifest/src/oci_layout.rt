@@ -41,7 +41,7 @@ impl OciLayout {
         self.duplicate(alloc)
     }
 
-    /// The version of the layout.
+    /// The version of the image layout, as `1.0.0`. Any string is read.
     pub fn image_layout_version(&self) -> &String
         ensures { result.now ≡ self.now.image_layout_version }
     {
@@ -191,7 +191,7 @@ impl OciLayoutBuilder {
     ghost use Rattle.oci_json_model.specs.Built.{IsUnset};
     ghost use Rattle.oci_image_manifest.specs.OciLayoutBuilder.{oci_layout_unset};
 
-    /// Sets `image_layout_version`: the version of the layout.
+    /// Sets `image_layout_version`: the version of the image layout, as `1.0.0`. Any string is read.
     pub fn image_layout_version(self, image_layout_version: String) -> Self
         ensures { result ≡ record self { image_layout_version = Some image_layout_version } }
     {

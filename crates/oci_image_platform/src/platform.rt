@@ -63,7 +63,7 @@ impl Platform {
         })
     }
 
-    /// The processor, by its name in Go's `GOARCH` where that lists it.
+    /// The CPU architecture. SHOULD be a value of Go's `GOARCH`; any other string is read as well.
     pub fn architecture(&self) -> &Arch
         ensures { result.now ≡ self.now.architecture }
     {
@@ -79,7 +79,7 @@ impl Platform {
         self
     }
 
-    /// The operating system, by its name in Go's `GOOS` where that lists it.
+    /// The operating system. SHOULD be a value of Go's `GOOS`; any other string is read as well.
     pub fn os(&self) -> &Os
         ensures { result.now ≡ self.now.os }
     {
@@ -95,7 +95,8 @@ impl Platform {
         self
     }
 
-    /// The version of the operating system that the image asks for.
+    /// The version of the operating system that the image targets, as `10.0.14393.1066` on Windows; which there are is left to
+    /// implementations.
     pub fn os_version(&self) -> &Option<String>
         ensures { result.now ≡ self.now.os_version }
     {
@@ -111,7 +112,8 @@ impl Platform {
         self
     }
 
-    /// The features of the operating system that the image asks for.
+    /// Features of the operating system that the image requires. On Windows they SHOULD be of the specification's list, which has `win32k`;
+    /// not checked here.
     pub fn os_features(&self) -> &Option<Vec<String>>
         ensures { result.now ≡ self.now.os_features }
     {
@@ -127,7 +129,8 @@ impl Platform {
         self
     }
 
-    /// The variant of the processor.
+    /// The variant of the CPU architecture. SHOULD be of the specification's table: `v6`, `v7` or `v8` of `arm`, `v8` of `arm64`; not
+    /// checked here.
     pub fn variant(&self) -> &Option<String>
         ensures { result.now ≡ self.now.variant }
     {
@@ -143,7 +146,7 @@ impl Platform {
         self
     }
 
-    /// Reserved by the specification for features of the processor.
+    /// RESERVED for future versions of the specification; kept as it is read.
     pub fn features(&self) -> &Option<Vec<String>>
         ensures { result.now ≡ self.now.features }
     {
@@ -309,7 +312,7 @@ impl PlatformBuilder {
     ghost use Rattle.oci_json_model.specs.Built.{IsUnset};
     ghost use Rattle.oci_image_platform.specs.PlatformBuilder.{platform_unset};
 
-    /// Sets `architecture`: the processor, by its name in Go's `GOARCH` where that lists it.
+    /// Sets `architecture`: the CPU architecture. SHOULD be a value of Go's `GOARCH`; any other string is read as well.
     pub fn architecture(self, architecture: Arch) -> Self
         ensures { result ≡ record self { architecture = Some architecture } }
     {
@@ -319,7 +322,7 @@ impl PlatformBuilder {
         }
     }
 
-    /// Sets `os`: the operating system, by its name in Go's `GOOS` where that lists it.
+    /// Sets `os`: the operating system. SHOULD be a value of Go's `GOOS`; any other string is read as well.
     pub fn os(self, os: Os) -> Self
         ensures { result ≡ record self { os = Some os } }
     {
@@ -329,7 +332,8 @@ impl PlatformBuilder {
         }
     }
 
-    /// Sets `os_version`: the version of the operating system that the image asks for.
+    /// Sets `os_version`: the version of the operating system that the image targets, as `10.0.14393.1066` on Windows; which there are is
+    /// left to implementations.
     pub fn os_version(self, os_version: String) -> Self
         ensures { result ≡ record self { os_version = Some os_version } }
     {
@@ -339,7 +343,8 @@ impl PlatformBuilder {
         }
     }
 
-    /// Sets `os_features`: the features of the operating system that the image asks for.
+    /// Sets `os_features`: features of the operating system that the image requires. On Windows they SHOULD be of the specification's list,
+    /// which has `win32k`; not checked here.
     pub fn os_features(self, os_features: Vec<String>) -> Self
         ensures { result ≡ record self { os_features = Some os_features } }
     {
@@ -349,7 +354,8 @@ impl PlatformBuilder {
         }
     }
 
-    /// Sets `variant`: the variant of the processor.
+    /// Sets `variant`: the variant of the CPU architecture. SHOULD be of the specification's table: `v6`, `v7` or `v8` of `arm`, `v8` of
+    /// `arm64`; not checked here.
     pub fn variant(self, variant: String) -> Self
         ensures { result ≡ record self { variant = Some variant } }
     {
@@ -359,7 +365,7 @@ impl PlatformBuilder {
         }
     }
 
-    /// Sets `features`: reserved by the specification for features of the processor.
+    /// Sets `features`: RESERVED for future versions of the specification; kept as it is read.
     pub fn features(self, features: Vec<String>) -> Self
         ensures { result ≡ record self { features = Some features } }
     {

@@ -68,7 +68,7 @@ impl LinuxDevice {
         })
     }
 
-    /// The path of the file in the container.
+    /// The full path of the file in the container. REQUIRED; the empty string is read where it is absent, and the form is not checked here.
     pub fn path(&self) -> &String
         ensures { result.now ≡ self.now.path }
     {
@@ -92,7 +92,8 @@ impl LinuxDevice {
         self
     }
 
-    /// The kind of device.
+    /// The kind of device: `c`, `b`, `u` or `p`. REQUIRED. The same `type`, `major` and `minor` SHOULD NOT be used for several devices; not
+    /// checked here.
     pub fn typ(&self) -> LinuxDeviceType
         ensures { result ≡ self.now.typ }
     {
@@ -116,7 +117,7 @@ impl LinuxDevice {
         self
     }
 
-    /// The device's major number.
+    /// The device's major number. REQUIRED unless `type` is `p`; 0 is read where it is absent.
     pub fn major(&self) -> i64
         ensures { result ≡ self.now.major }
     {
@@ -140,7 +141,7 @@ impl LinuxDevice {
         self
     }
 
-    /// The device's minor number.
+    /// The device's minor number. REQUIRED unless `type` is `p`; 0 is read where it is absent.
     pub fn minor(&self) -> i64
         ensures { result ≡ self.now.minor }
     {
@@ -337,7 +338,8 @@ impl LinuxDeviceBuilder {
     ghost use Rattle.oci_json_model.specs.Types.{text_plain, integer_plain, variant_plain};
     ghost use Rattle.oci_linux_names.specs.LinuxDeviceType.{linux_device_type_name, linux_device_type_default};
 
-    /// Sets `path`: the path of the file in the container.
+    /// Sets `path`: the full path of the file in the container. REQUIRED; the empty string is read where it is absent, and the form is not
+    /// checked here.
     pub fn path(self, path: String) -> Self
         ensures { result ≡ record self { path = Some path } }
     {
@@ -347,7 +349,8 @@ impl LinuxDeviceBuilder {
         }
     }
 
-    /// Sets `typ`: the kind of device.
+    /// Sets `typ`: the kind of device: `c`, `b`, `u` or `p`. REQUIRED. The same `type`, `major` and `minor` SHOULD NOT be used for several
+    /// devices; not checked here.
     pub fn typ(self, typ: LinuxDeviceType) -> Self
         ensures { result ≡ record self { typ = Some typ } }
     {
@@ -357,7 +360,7 @@ impl LinuxDeviceBuilder {
         }
     }
 
-    /// Sets `major`: the device's major number.
+    /// Sets `major`: the device's major number. REQUIRED unless `type` is `p`; 0 is read where it is absent.
     pub fn major(self, major: i64) -> Self
         ensures { result ≡ record self { major = Some major } }
     {
@@ -367,7 +370,7 @@ impl LinuxDeviceBuilder {
         }
     }
 
-    /// Sets `minor`: the device's minor number.
+    /// Sets `minor`: the device's minor number. REQUIRED unless `type` is `p`; 0 is read where it is absent.
     pub fn minor(self, minor: i64) -> Self
         ensures { result ≡ record self { minor = Some minor } }
     {

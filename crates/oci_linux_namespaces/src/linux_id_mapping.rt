@@ -10,7 +10,8 @@ use std::alloc::Global;
 
 const NAME: &str = "LinuxIdMapping";
 
-/// A range of user or group IDs of a container, and the host's IDs that it is mapped to (runtime specification, "Linux Container Configuration", "User namespace mappings").
+/// A range of user or group IDs of a container, and the host's IDs that it is mapped to (runtime specification, "Linux Container
+/// Configuration", "User namespace mappings").
 #[derive(Clone, Copy, Debug, PartialEq, Eq)]
 pub struct LinuxIdMapping {
     host_id: u32,
@@ -41,21 +42,21 @@ impl LinuxIdMapping {
         })
     }
 
-    /// The first ID on the host.
+    /// The first ID on the host. REQUIRED; 0 is read where it is absent.
     pub fn host_id(&self) -> u32
         ensures { result ≡ self.now.host_id }
     {
         self.host_id
     }
 
-    /// The first ID in the container.
+    /// The first ID in the container. REQUIRED; 0 is read where it is absent.
     pub fn container_id(&self) -> u32
         ensures { result ≡ self.now.container_id }
     {
         self.container_id
     }
 
-    /// How many IDs there are from the first on.
+    /// How many IDs there are from the first on. REQUIRED; 0 is read where it is absent.
     pub fn size(&self) -> u32
         ensures { result ≡ self.now.size }
     {
@@ -125,7 +126,7 @@ impl LinuxIdMappingBuilder {
     ghost use Rattle.oci_json_model.specs.Plain as plain;
     ghost use Rattle.oci_json_model.specs.Types.{number_plain};
 
-    /// Sets `host_id`: the first ID on the host.
+    /// Sets `host_id`: the first ID on the host. REQUIRED; 0 is read where it is absent.
     pub fn host_id(self, host_id: u32) -> Self
         ensures { result ≡ record self { host_id = Some host_id } }
     {
@@ -135,7 +136,7 @@ impl LinuxIdMappingBuilder {
         }
     }
 
-    /// Sets `container_id`: the first ID in the container.
+    /// Sets `container_id`: the first ID in the container. REQUIRED; 0 is read where it is absent.
     pub fn container_id(self, container_id: u32) -> Self
         ensures { result ≡ record self { container_id = Some container_id } }
     {
@@ -145,7 +146,7 @@ impl LinuxIdMappingBuilder {
         }
     }
 
-    /// Sets `size`: how many IDs there are from the first on.
+    /// Sets `size`: how many IDs there are from the first on. REQUIRED; 0 is read where it is absent.
     pub fn size(self, size: u32) -> Self
         ensures { result ≡ record self { size = Some size } }
     {

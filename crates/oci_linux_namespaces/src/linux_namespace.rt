@@ -47,7 +47,7 @@ impl LinuxNamespace {
         })
     }
 
-    /// The kind of namespace.
+    /// The kind of namespace. REQUIRED.
     pub fn typ(&self) -> LinuxNamespaceType
         ensures { result ≡ self.now.typ }
     {
@@ -63,7 +63,8 @@ impl LinuxNamespace {
         self
     }
 
-    /// The file of the namespace to join, an absolute path; a new namespace is made where none is given.
+    /// The file of the namespace to join. It MUST be an absolute path of the runtime's, to a namespace of this type; not checked here.
+    /// Where none is given, a runtime MUST make a new namespace.
     pub fn path(&self) -> &Option<String>
         ensures { result.now ≡ self.now.path }
     {
@@ -138,7 +139,7 @@ impl LinuxNamespaceBuilder {
     ghost use Rattle.oci_json_model.specs.Types.{variant_plain};
     ghost use Rattle.oci_linux_names.specs.LinuxNamespaceType.{linux_namespace_type_name, linux_namespace_type_default};
 
-    /// Sets `typ`: the kind of namespace.
+    /// Sets `typ`: the kind of namespace. REQUIRED.
     pub fn typ(self, typ: LinuxNamespaceType) -> Self
         ensures { result ≡ record self { typ = Some typ } }
     {
@@ -148,7 +149,8 @@ impl LinuxNamespaceBuilder {
         }
     }
 
-    /// Sets `path`: the file of the namespace to join, an absolute path; a new namespace is made where none is given.
+    /// Sets `path`: the file of the namespace to join. It MUST be an absolute path of the runtime's, to a namespace of this type; not
+    /// checked here. Where none is given, a runtime MUST make a new namespace.
     pub fn path(self, path: String) -> Self
         ensures { result ≡ record self { path = Some path } }
     {

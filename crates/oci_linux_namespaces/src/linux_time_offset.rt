@@ -9,7 +9,8 @@ use std::alloc::Global;
 
 const NAME: &str = "LinuxTimeOffset";
 
-/// By how much a clock of a container's time namespace differs (runtime specification, "Linux Container Configuration", "Offset for Time Namespace").
+/// By how much a clock of a container's time namespace differs (runtime specification, "Linux Container Configuration", "Offset for Time
+/// Namespace").
 #[derive(Debug, PartialEq, Eq)]
 pub struct LinuxTimeOffset {
     secs: Option<i64>,

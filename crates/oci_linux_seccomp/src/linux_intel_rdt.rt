@@ -66,7 +66,7 @@ impl LinuxIntelRdt {
         })
     }
 
-    /// The name of the class of service.
+    /// The name of the class of service. Where none is given, a runtime MUST use the container's ID.
     pub fn clos_id(&self) -> &Option<String>
         ensures { result.now ≡ self.now.clos_id }
     {
@@ -114,7 +114,8 @@ impl LinuxIntelRdt {
         self
     }
 
-    /// The share of the caches of level 3, as `L3:0=7f0;1=1f`.
+    /// The share of the caches of level 3, as `L3:0=7f0;1=1f`. It SHOULD start with `L3:` and SHOULD NOT contain newlines; not checked
+    /// here.
     pub fn l3_cache_schema(&self) -> &Option<String>
         ensures { result.now ≡ self.now.l3_cache_schema }
     {
@@ -138,7 +139,8 @@ impl LinuxIntelRdt {
         self
     }
 
-    /// The share of the memory bandwidth, as `MB:0=20;1=70`, in percent or in megabytes per second.
+    /// The share of the memory bandwidth, as `MB:0=20;1=70`, in percent or in megabytes per second. It MUST start with `MB:` and MUST NOT
+    /// contain newlines; not checked here.
     pub fn mem_bw_schema(&self) -> &Option<String>
         ensures { result.now ≡ self.now.mem_bw_schema }
     {
@@ -344,7 +346,7 @@ pub struct LinuxIntelRdtBuilder {
 impl LinuxIntelRdtBuilder {
     ghost use Rattle.std.specs.Prelude.{Some};
 
-    /// Sets `clos_id`: the name of the class of service.
+    /// Sets `clos_id`: the name of the class of service. Where none is given, a runtime MUST use the container's ID.
     pub fn clos_id(self, clos_id: String) -> Self
         ensures { result ≡ record self { clos_id = Some clos_id } }
     {
@@ -364,7 +366,8 @@ impl LinuxIntelRdtBuilder {
         }
     }
 
-    /// Sets `l3_cache_schema`: the share of the caches of level 3, as `L3:0=7f0;1=1f`.
+    /// Sets `l3_cache_schema`: the share of the caches of level 3, as `L3:0=7f0;1=1f`. It SHOULD start with `L3:` and SHOULD NOT contain
+    /// newlines; not checked here.
     pub fn l3_cache_schema(self, l3_cache_schema: String) -> Self
         ensures { result ≡ record self { l3_cache_schema = Some l3_cache_schema } }
     {
@@ -374,7 +377,8 @@ impl LinuxIntelRdtBuilder {
         }
     }
 
-    /// Sets `mem_bw_schema`: the share of the memory bandwidth, as `MB:0=20;1=70`, in percent or in megabytes per second.
+    /// Sets `mem_bw_schema`: the share of the memory bandwidth, as `MB:0=20;1=70`, in percent or in megabytes per second. It MUST start
+    /// with `MB:` and MUST NOT contain newlines; not checked here.
     pub fn mem_bw_schema(self, mem_bw_schema: String) -> Self
         ensures { result ≡ record self { mem_bw_schema = Some mem_bw_schema } }
     {

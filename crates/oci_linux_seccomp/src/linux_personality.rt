@@ -47,7 +47,7 @@ impl LinuxPersonality {
         })
     }
 
-    /// The execution domain.
+    /// The execution domain. REQUIRED.
     pub fn domain(&self) -> LinuxPersonalityDomain
         ensures { result ≡ self.now.domain }
     {
@@ -138,7 +138,7 @@ impl LinuxPersonalityBuilder {
     ghost use Rattle.oci_json_model.specs.Types.{variant_plain};
     ghost use Rattle.oci_linux_names.specs.LinuxPersonalityDomain.{linux_personality_domain_name, linux_personality_domain_default};
 
-    /// Sets `domain`: the execution domain.
+    /// Sets `domain`: the execution domain. REQUIRED.
     pub fn domain(self, domain: LinuxPersonalityDomain) -> Self
         ensures { result ≡ record self { domain = Some domain } }
     {

@@ -67,7 +67,7 @@ impl LinuxSeccomp {
         })
     }
 
-    /// What is done about a call that no rule is for.
+    /// What is done about a call that no rule is for. REQUIRED.
     pub fn default_action(&self) -> LinuxSeccompAction
         ensures { result ≡ self.now.default_action }
     {
@@ -83,7 +83,7 @@ impl LinuxSeccomp {
         self
     }
 
-    /// The number that the default action hands on, where it does.
+    /// The number that the default action hands on, where it does. A runtime MUST fail where the action takes none; not checked here.
     pub fn default_errno_ret(&self) -> Option<u32>
         ensures { result ≡ self.now.default_errno_ret }
     {
@@ -131,7 +131,7 @@ impl LinuxSeccomp {
         self
     }
 
-    /// The path of the Unix socket of the program that is notified of calls whose action is `SCMP_ACT_NOTIFY`.
+    /// The path of the Unix stream socket of the program that is notified of calls whose action is `SCMP_ACT_NOTIFY`.
     pub fn listener_path(&self) -> &Option<String>
         ensures { result.now ≡ self.now.listener_path }
     {
@@ -147,7 +147,7 @@ impl LinuxSeccomp {
         self
     }
 
-    /// What is passed to the program at the listener's path, of any meaning.
+    /// What is passed to the program at the listener's path, of any meaning. It MUST NOT be set if `listenerPath` is not; not checked here.
     pub fn listener_metadata(&self) -> &Option<String>
         ensures { result.now ≡ self.now.listener_metadata }
     {
@@ -302,7 +302,7 @@ impl LinuxSeccompBuilder {
     ghost use Rattle.oci_json_model.specs.Types.{variant_plain};
     ghost use Rattle.oci_linux_names.specs.LinuxSeccompAction.{linux_seccomp_action_name, linux_seccomp_action_default};
 
-    /// Sets `default_action`: what is done about a call that no rule is for.
+    /// Sets `default_action`: what is done about a call that no rule is for. REQUIRED.
     pub fn default_action(self, default_action: LinuxSeccompAction) -> Self
         ensures { result ≡ record self { default_action = Some default_action } }
     {
@@ -312,7 +312,8 @@ impl LinuxSeccompBuilder {
         }
     }
 
-    /// Sets `default_errno_ret`: the number that the default action hands on, where it does.
+    /// Sets `default_errno_ret`: the number that the default action hands on, where it does. A runtime MUST fail where the action takes
+    /// none; not checked here.
     pub fn default_errno_ret(self, default_errno_ret: u32) -> Self
         ensures { result ≡ record self { default_errno_ret = Some default_errno_ret } }
     {
@@ -342,7 +343,7 @@ impl LinuxSeccompBuilder {
         }
     }
 
-    /// Sets `listener_path`: the path of the Unix socket of the program that is notified of calls whose action is `SCMP_ACT_NOTIFY`.
+    /// Sets `listener_path`: the path of the Unix stream socket of the program that is notified of calls whose action is `SCMP_ACT_NOTIFY`.
     pub fn listener_path(self, listener_path: String) -> Self
         ensures { result ≡ record self { listener_path = Some listener_path } }
     {
@@ -352,7 +353,8 @@ impl LinuxSeccompBuilder {
         }
     }
 
-    /// Sets `listener_metadata`: what is passed to the program at the listener's path, of any meaning.
+    /// Sets `listener_metadata`: what is passed to the program at the listener's path, of any meaning. It MUST NOT be set if `listenerPath`
+    /// is not; not checked here.
     pub fn listener_metadata(self, listener_metadata: String) -> Self
         ensures { result ≡ record self { listener_metadata = Some listener_metadata } }
     {

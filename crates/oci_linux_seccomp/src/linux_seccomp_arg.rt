@@ -45,14 +45,14 @@ impl LinuxSeccompArg {
         })
     }
 
-    /// The place of the argument, from 0 on.
+    /// The place of the argument, from 0 on. REQUIRED; Linux has arguments 0 to 5, which is not checked here.
     pub fn index(&self) -> usize
         ensures { result ≡ self.now.index }
     {
         self.index
     }
 
-    /// The value that the argument is compared with, or the mask where the comparison is a masked one.
+    /// The value that the argument is compared with, or the mask where the comparison is a masked one. REQUIRED.
     pub fn value(&self) -> u64
         ensures { result ≡ self.now.value }
     {
@@ -66,7 +66,7 @@ impl LinuxSeccompArg {
         self.value_two
     }
 
-    /// How the argument is compared.
+    /// How the argument is compared. REQUIRED.
     pub fn op(&self) -> LinuxSeccompOperator
         ensures { result ≡ self.now.op }
     {
@@ -142,7 +142,7 @@ impl LinuxSeccompArgBuilder {
     ghost use Rattle.oci_json_model.specs.Types.{number_plain, variant_plain};
     ghost use Rattle.oci_linux_names.specs.LinuxSeccompOperator.{linux_seccomp_operator_name, linux_seccomp_operator_default};
 
-    /// Sets `index`: the place of the argument, from 0 on.
+    /// Sets `index`: the place of the argument, from 0 on. REQUIRED; Linux has arguments 0 to 5, which is not checked here.
     pub fn index(self, index: usize) -> Self
         ensures { result ≡ record self { index = Some index } }
     {
@@ -152,7 +152,7 @@ impl LinuxSeccompArgBuilder {
         }
     }
 
-    /// Sets `value`: the value that the argument is compared with, or the mask where the comparison is a masked one.
+    /// Sets `value`: the value that the argument is compared with, or the mask where the comparison is a masked one. REQUIRED.
     pub fn value(self, value: u64) -> Self
         ensures { result ≡ record self { value = Some value } }
     {
@@ -172,7 +172,7 @@ impl LinuxSeccompArgBuilder {
         }
     }
 
-    /// Sets `op`: how the argument is compared.
+    /// Sets `op`: how the argument is compared. REQUIRED.
     pub fn op(self, op: LinuxSeccompOperator) -> Self
         ensures { result ≡ record self { op = Some op } }
     {

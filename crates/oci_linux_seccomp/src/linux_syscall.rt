@@ -58,7 +58,7 @@ impl LinuxSyscall {
         })
     }
 
-    /// The names of the calls that the rule is for.
+    /// The names of the calls that the rule is for. REQUIRED; it MUST have at least one entry, which is not checked here.
     pub fn names(&self) -> &Vec<String>
         ensures { result.now ≡ self.now.names }
     {
@@ -74,7 +74,7 @@ impl LinuxSyscall {
         self
     }
 
-    /// What is done about a call that the rule is for.
+    /// What is done about a call that the rule is for. REQUIRED.
     pub fn action(&self) -> LinuxSeccompAction
         ensures { result ≡ self.now.action }
     {
@@ -90,7 +90,8 @@ impl LinuxSyscall {
         self
     }
 
-    /// The number that the action hands on, where it does: an error's for `SCMP_ACT_ERRNO`, a tracer's for `SCMP_ACT_TRACE`.
+    /// The number that the action hands on, where it does: an error's for `SCMP_ACT_ERRNO`, a tracer's for `SCMP_ACT_TRACE`. A runtime MUST
+    /// fail where the action takes none; not checked here.
     pub fn errno_ret(&self) -> Option<u32>
         ensures { result ≡ self.now.errno_ret }
     {
@@ -198,7 +199,7 @@ impl LinuxSyscallBuilder {
     ghost use Rattle.oci_json_model.specs.Types.{text_plain, variant_plain, list_plain};
     ghost use Rattle.oci_linux_names.specs.LinuxSeccompAction.{linux_seccomp_action_name, linux_seccomp_action_default};
 
-    /// Sets `names`: the names of the calls that the rule is for.
+    /// Sets `names`: the names of the calls that the rule is for. REQUIRED; it MUST have at least one entry, which is not checked here.
     pub fn names(self, names: Vec<String>) -> Self
         ensures { result ≡ record self { names = Some names } }
     {
@@ -208,7 +209,7 @@ impl LinuxSyscallBuilder {
         }
     }
 
-    /// Sets `action`: what is done about a call that the rule is for.
+    /// Sets `action`: what is done about a call that the rule is for. REQUIRED.
     pub fn action(self, action: LinuxSeccompAction) -> Self
         ensures { result ≡ record self { action = Some action } }
     {
@@ -218,7 +219,8 @@ impl LinuxSyscallBuilder {
         }
     }
 
-    /// Sets `errno_ret`: the number that the action hands on, where it does: an error's for `SCMP_ACT_ERRNO`, a tracer's for `SCMP_ACT_TRACE`.
+    /// Sets `errno_ret`: the number that the action hands on, where it does: an error's for `SCMP_ACT_ERRNO`, a tracer's for
+    /// `SCMP_ACT_TRACE`. A runtime MUST fail where the action takes none; not checked here.
     pub fn errno_ret(self, errno_ret: u32) -> Self
         ensures { result ≡ record self { errno_ret = Some errno_ret } }
     {

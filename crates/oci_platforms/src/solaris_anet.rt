@@ -11,7 +11,8 @@ use std::alloc::Global;
 
 const NAME: &str = "SolarisAnet";
 
-/// A network interface that is made for a Solaris container (runtime specification, "Solaris Application Container Configuration", "Automatic Network (anet)").
+/// A network interface that is made for a Solaris container (runtime specification, "Solaris Application Container Configuration",
+/// "Automatic Network (anet)").
 #[derive(Debug, PartialEq, Eq)]
 pub struct SolarisAnet {
     linkname: Option<String>,
@@ -112,7 +113,7 @@ impl SolarisAnet {
         self
     }
 
-    /// Whether the allowed addresses are set on the interface at each start, as `true` or `false`.
+    /// Whether the allowed addresses are set on the interface at each start, as `true` or `false`. Any string is read.
     pub fn configure_allowed_address(&self) -> &Option<String>
         ensures { result.now ≡ self.now.configure_allowed_address }
     {
@@ -329,7 +330,8 @@ impl SolarisAnetBuilder {
         }
     }
 
-    /// Sets `configure_allowed_address`: whether the allowed addresses are set on the interface at each start, as `true` or `false`.
+    /// Sets `configure_allowed_address`: whether the allowed addresses are set on the interface at each start, as `true` or `false`. Any
+    /// string is read.
     pub fn configure_allowed_address(self, configure_allowed_address: String) -> Self
         ensures { result ≡ record self { configure_allowed_address = Some configure_allowed_address } }
     {

@@ -40,7 +40,7 @@ impl SolarisCappedCPU {
         Ok(SolarisCappedCPU { ncpus: None })
     }
 
-    /// The number of processors, with a fraction, as `1.25`.
+    /// The number of CPUs, with a fraction, as `1.25`. The form is not checked here.
     pub fn ncpus(&self) -> &Option<String>
         ensures { result.now ≡ self.now.ncpus }
     {
@@ -103,7 +103,7 @@ pub struct SolarisCappedCPUBuilder {
 impl SolarisCappedCPUBuilder {
     ghost use Rattle.std.specs.Prelude.{Some};
 
-    /// Sets `ncpus`: the number of processors, with a fraction, as `1.25`.
+    /// Sets `ncpus`: the number of CPUs, with a fraction, as `1.25`. The form is not checked here.
     pub fn ncpus(self, ncpus: String) -> Self
         ensures { result ≡ record self { ncpus = Some ncpus } }
     {

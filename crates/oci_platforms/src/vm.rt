@@ -72,7 +72,7 @@ impl VM {
         self
     }
 
-    /// The kernel that the machine runs.
+    /// The kernel that the machine runs. REQUIRED.
     pub fn kernel(&self) -> &VMKernel
         ensures { result.now ≡ self.now.kernel }
     {
@@ -187,7 +187,7 @@ impl VMBuilder {
         }
     }
 
-    /// Sets `kernel`: the kernel that the machine runs.
+    /// Sets `kernel`: the kernel that the machine runs. REQUIRED.
     pub fn kernel(self, kernel: VMKernel) -> Self
         ensures { result ≡ record self { kernel = Some kernel } }
     {

@@ -47,7 +47,7 @@ impl VMHypervisor {
         })
     }
 
-    /// The path of the hypervisor on the host.
+    /// The path of the hypervisor on the host. REQUIRED; it MUST be absolute, which is not checked here.
     pub fn path(&self) -> &String
         ensures { result.now ≡ self.now.path }
     {
@@ -137,7 +137,7 @@ impl VMHypervisorBuilder {
     ghost use Rattle.oci_json_model.specs.Plain as plain;
     ghost use Rattle.oci_json_model.specs.Types.{text_plain};
 
-    /// Sets `path`: the path of the hypervisor on the host.
+    /// Sets `path`: the path of the hypervisor on the host. REQUIRED; it MUST be absolute, which is not checked here.
     pub fn path(self, path: String) -> Self
         ensures { result ≡ record self { path = Some path } }
     {

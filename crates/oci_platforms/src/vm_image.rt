@@ -9,7 +9,8 @@ use std::alloc::Global;
 
 const NAME: &str = "VMImage";
 
-/// The image that a virtual machine's root is in (runtime specification, "Virtual-machine-specific Container Configuration", "Image Object").
+/// The image that a virtual machine's root is in (runtime specification, "Virtual-machine-specific Container Configuration", "Image
+/// Object").
 #[derive(Debug, PartialEq, Eq)]
 pub struct VMImage {
     path: String,
@@ -44,7 +45,7 @@ impl VMImage {
         })
     }
 
-    /// The path of the image on the host.
+    /// The path of the image on the host. REQUIRED; it MUST be absolute, which is not checked here.
     pub fn path(&self) -> &String
         ensures { result.now ≡ self.now.path }
     {
@@ -60,7 +61,7 @@ impl VMImage {
         self
     }
 
-    /// The image's format, as `raw`, `qcow2`, `vdi`, `vmdk` or `vhd`.
+    /// The image's format, as `raw`, `qcow2`, `vdi`, `vmdk` or `vhd`. REQUIRED; any string is read.
     pub fn format(&self) -> &String
         ensures { result.now ≡ self.now.format }
     {
@@ -131,7 +132,7 @@ impl VMImageBuilder {
     ghost use Rattle.oci_json_model.specs.Plain as plain;
     ghost use Rattle.oci_json_model.specs.Types.{text_plain};
 
-    /// Sets `path`: the path of the image on the host.
+    /// Sets `path`: the path of the image on the host. REQUIRED; it MUST be absolute, which is not checked here.
     pub fn path(self, path: String) -> Self
         ensures { result ≡ record self { path = Some path } }
     {
@@ -141,7 +142,7 @@ impl VMImageBuilder {
         }
     }
 
-    /// Sets `format`: the image's format, as `raw`, `qcow2`, `vdi`, `vmdk` or `vhd`.
+    /// Sets `format`: the image's format, as `raw`, `qcow2`, `vdi`, `vmdk` or `vhd`. REQUIRED; any string is read.
     pub fn format(self, format: String) -> Self
         ensures { result ≡ record self { format = Some format } }
     {

@@ -53,7 +53,7 @@ impl VMKernel {
         })
     }
 
-    /// The path of the kernel on the host.
+    /// The path of the kernel on the host. REQUIRED; it MUST be absolute, which is not checked here.
     pub fn path(&self) -> &String
         ensures { result.now ≡ self.now.path }
     {
@@ -85,7 +85,7 @@ impl VMKernel {
         self
     }
 
-    /// The path on the host of the kernel's initial memory disk.
+    /// The path on the host of the kernel's initial memory disk. It MUST be absolute; not checked here.
     pub fn initrd(&self) -> &Option<String>
         ensures { result.now ≡ self.now.initrd }
     {
@@ -172,7 +172,7 @@ impl VMKernelBuilder {
     ghost use Rattle.oci_json_model.specs.Plain as plain;
     ghost use Rattle.oci_json_model.specs.Types.{text_plain};
 
-    /// Sets `path`: the path of the kernel on the host.
+    /// Sets `path`: the path of the kernel on the host. REQUIRED; it MUST be absolute, which is not checked here.
     pub fn path(self, path: String) -> Self
         ensures { result ≡ record self { path = Some path } }
     {
@@ -192,7 +192,7 @@ impl VMKernelBuilder {
         }
     }
 
-    /// Sets `initrd`: the path on the host of the kernel's initial memory disk.
+    /// Sets `initrd`: the path on the host of the kernel's initial memory disk. It MUST be absolute; not checked here.
     pub fn initrd(self, initrd: String) -> Self
         ensures { result ≡ record self { initrd = Some initrd } }
     {

@@ -105,7 +105,8 @@ impl Windows {
         })
     }
 
-    /// The folders of the image's layers, from the topmost layer to the base layer, the scratch folder last.
+    /// The folders of the image's layers, from the topmost layer to the base layer, the scratch folder last. REQUIRED, with at least one
+    /// entry; neither is checked here.
     pub fn layer_folders(&self) -> &Option<Vec<String>>
         ensures { result.now ≡ self.now.layer_folders }
     {
@@ -121,7 +122,7 @@ impl Windows {
         self
     }
 
-    /// The devices of the host that the container has.
+    /// The devices of the host that MUST be available in the container.
     pub fn devices(&self) -> &Option<Vec<WindowsDevice>>
         ensures { result.now ≡ self.now.devices }
     {
@@ -207,7 +208,8 @@ impl Windows {
         self
     }
 
-    /// What the container has if Hyper-V keeps it apart.
+    /// What the container has if Hyper-V keeps it apart. Where it is there, the container MUST run with Hyper-V isolation, else as a
+    /// Windows Server container.
     pub fn hyperv(&self) -> &Option<WindowsHyperV>
         ensures { result.now ≡ self.now.hyperv }
     {
@@ -362,6 +364,7 @@ impl WindowsBuilder {
     ghost use Rattle.std.specs.Prelude.{Some};
 
     /// Sets `layer_folders`: the folders of the image's layers, from the topmost layer to the base layer, the scratch folder last.
+    /// REQUIRED, with at least one entry; neither is checked here.
     pub fn layer_folders(self, layer_folders: Vec<String>) -> Self
         ensures { result ≡ record self { layer_folders = Some layer_folders } }
     {
@@ -371,7 +374,7 @@ impl WindowsBuilder {
         }
     }
 
-    /// Sets `devices`: the devices of the host that the container has.
+    /// Sets `devices`: the devices of the host that MUST be available in the container.
     pub fn devices(self, devices: Vec<WindowsDevice>) -> Self
         ensures { result ≡ record self { devices = Some devices } }
     {
@@ -421,7 +424,8 @@ impl WindowsBuilder {
         }
     }
 
-    /// Sets `hyperv`: what the container has if Hyper-V keeps it apart.
+    /// Sets `hyperv`: what the container has if Hyper-V keeps it apart. Where it is there, the container MUST run with Hyper-V isolation,
+    /// else as a Windows Server container.
     pub fn hyperv(self, hyperv: WindowsHyperV) -> Self
         ensures { result ≡ record self { hyperv = Some hyperv } }
     {

@@ -72,7 +72,7 @@ impl WindowsCPUResources {
         self
     }
 
-    /// The largest part of the processors' time, in hundredths of a percent: 10000 is all of it.
+    /// The largest part of the processors' time, in hundredths of a percent: 10000 is all of it. The range is not checked here.
     pub fn maximum(&self) -> Option<u16>
         ensures { result ≡ self.now.maximum }
     {
@@ -168,7 +168,8 @@ impl WindowsCPUResourcesBuilder {
         }
     }
 
-    /// Sets `maximum`: the largest part of the processors' time, in hundredths of a percent: 10000 is all of it.
+    /// Sets `maximum`: the largest part of the processors' time, in hundredths of a percent: 10000 is all of it. The range is not checked
+    /// here.
     pub fn maximum(self, maximum: u16) -> Self
         ensures { result ≡ record self { maximum = Some maximum } }
     {

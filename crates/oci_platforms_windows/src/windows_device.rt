@@ -44,7 +44,7 @@ impl WindowsDevice {
         })
     }
 
-    /// Which device it is: for the type `class` the GUID of its interface class.
+    /// Which device it is: for the type `class` the GUID of its interface class. REQUIRED; the form is not checked here.
     pub fn id(&self) -> &String
         ensures { result.now ≡ self.now.id }
     {
@@ -60,7 +60,7 @@ impl WindowsDevice {
         self
     }
 
-    /// How `id` is read, as `class`.
+    /// How `id` is read. REQUIRED; the specification knows `class` alone, and any string is read.
     pub fn id_type(&self) -> &String
         ensures { result.now ≡ self.now.id_type }
     {
@@ -131,7 +131,7 @@ impl WindowsDeviceBuilder {
     ghost use Rattle.oci_json_model.specs.Plain as plain;
     ghost use Rattle.oci_json_model.specs.Types.{text_plain};
 
-    /// Sets `id`: which device it is: for the type `class` the GUID of its interface class.
+    /// Sets `id`: which device it is: for the type `class` the GUID of its interface class. REQUIRED; the form is not checked here.
     pub fn id(self, id: String) -> Self
         ensures { result ≡ record self { id = Some id } }
     {
@@ -141,7 +141,7 @@ impl WindowsDeviceBuilder {
         }
     }
 
-    /// Sets `id_type`: how `id` is read, as `class`.
+    /// Sets `id_type`: how `id` is read. REQUIRED; the specification knows `class` alone, and any string is read.
     pub fn id_type(self, id_type: String) -> Self
         ensures { result ≡ record self { id_type = Some id_type } }
     {

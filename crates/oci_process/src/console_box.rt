@@ -39,14 +39,14 @@ impl Box {
         })
     }
 
-    /// The height in characters.
+    /// The height in characters. REQUIRED; absent, it is read as 0.
     pub fn height(&self) -> u64
         ensures { result ≡ self.now.height }
     {
         self.height
     }
 
-    /// The width in characters.
+    /// The width in characters. REQUIRED; absent, it is read as 0.
     pub fn width(&self) -> u64
         ensures { result ≡ self.now.width }
     {
@@ -108,7 +108,7 @@ impl BoxBuilder {
     ghost use Rattle.oci_json_model.specs.Plain as plain;
     ghost use Rattle.oci_json_model.specs.Types.{number_plain};
 
-    /// Sets `height`: the height in characters.
+    /// Sets `height`: the height in characters. REQUIRED; absent, it is read as 0.
     pub fn height(self, height: u64) -> Self
         ensures { result ≡ record self { height = Some height } }
     {
@@ -118,7 +118,7 @@ impl BoxBuilder {
         }
     }
 
-    /// Sets `width`: the width in characters.
+    /// Sets `width`: the width in characters. REQUIRED; absent, it is read as 0.
     pub fn width(self, width: u64) -> Self
         ensures { result ≡ record self { width = Some width } }
     {

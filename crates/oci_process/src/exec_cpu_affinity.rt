@@ -13,7 +13,8 @@ use std::alloc::Global;
 
 const NAME: &str = "ExecCPUAffinity";
 
-/// The processors on which a program runs that is started in a running container (runtime specification, "Configuration", "Linux Process", `execCPUAffinity`).
+/// The processors on which a program runs that is started in a running container (runtime specification, "Configuration", "Linux Process",
+/// `execCPUAffinity`).
 #[derive(Debug, PartialEq, Eq)]
 pub struct ExecCPUAffinity {
     initial: Option<String>,
@@ -51,7 +52,8 @@ impl ExecCPUAffinity {
         })
     }
 
-    /// The processors before the program is moved into the container's control group, as `0-3,7`.
+    /// The CPUs for the time before the move into the container's cgroup, as `0-3,7`. A string that is no CPU list is rejected when read or
+    /// written.
     pub fn initial(&self) -> &Option<String>
         ensures { result.now ≡ self.now.initial }
     {
@@ -67,7 +69,8 @@ impl ExecCPUAffinity {
         self
     }
 
-    /// The processors once the program is in the container's control group, as `0-3,7`; the kernel's choice where none is given.
+    /// The CPUs after the move into the container's cgroup, as `0-3,7`; the kernel decides where none are given. A string that is no CPU
+    /// list is rejected when read or written.
     pub fn cpu_affinity_final(&self) -> &Option<String>
         ensures { result.now ≡ self.now.cpu_affinity_final }
     {
@@ -157,7 +160,8 @@ pub struct ExecCPUAffinityBuilder {
 impl ExecCPUAffinityBuilder {
     ghost use Rattle.std.specs.Prelude.{Some};
 
-    /// Sets `initial`: the processors before the program is moved into the container's control group, as `0-3,7`.
+    /// Sets `initial`: the CPUs for the time before the move into the container's cgroup, as `0-3,7`. A string that is no CPU list is
+    /// rejected when read or written.
     pub fn initial(self, initial: String) -> Self
         ensures { result ≡ record self { initial = Some initial } }
     {
@@ -167,7 +171,8 @@ impl ExecCPUAffinityBuilder {
         }
     }
 
-    /// Sets `cpu_affinity_final`: the processors once the program is in the container's control group, as `0-3,7`; the kernel's choice where none is given.
+    /// Sets `cpu_affinity_final`: the CPUs after the move into the container's cgroup, as `0-3,7`; the kernel decides where none are given.
+    /// A string that is no CPU list is rejected when read or written.
     pub fn cpu_affinity_final(self, cpu_affinity_final: String) -> Self
         ensures { result ≡ record self { cpu_affinity_final = Some cpu_affinity_final } }
     {

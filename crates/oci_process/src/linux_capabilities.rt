@@ -66,7 +66,7 @@ impl LinuxCapabilities {
         })
     }
 
-    /// The capabilities that starting a program can give the process at most.
+    /// The bounding capabilities that are kept: the most that starting a program can give the process.
     pub fn bounding(&self) -> &Option<HashSet<Capability>>
         ensures { result.now ≡ self.now.bounding }
     {
@@ -82,7 +82,7 @@ impl LinuxCapabilities {
         self
     }
 
-    /// The capabilities that the kernel grants the process.
+    /// The effective capabilities that are kept: those that the kernel grants the process.
     pub fn effective(&self) -> &Option<HashSet<Capability>>
         ensures { result.now ≡ self.now.effective }
     {
@@ -98,7 +98,7 @@ impl LinuxCapabilities {
         self
     }
 
-    /// The capabilities that a started program keeps if its file allows them.
+    /// The inheritable capabilities that are kept: those that a started program keeps if its file allows them.
     pub fn inheritable(&self) -> &Option<HashSet<Capability>>
         ensures { result.now ≡ self.now.inheritable }
     {
@@ -114,7 +114,7 @@ impl LinuxCapabilities {
         self
     }
 
-    /// The capabilities that the process may put into effect.
+    /// The permitted capabilities that are kept: those that the process may make effective.
     pub fn permitted(&self) -> &Option<HashSet<Capability>>
         ensures { result.now ≡ self.now.permitted }
     {
@@ -130,7 +130,7 @@ impl LinuxCapabilities {
         self
     }
 
-    /// The capabilities that a started program keeps if its file has no privileges of its own.
+    /// The ambient capabilities that are kept: those that a started program keeps if its file has no privileges of its own.
     pub fn ambient(&self) -> &Option<HashSet<Capability>>
         ensures { result.now ≡ self.now.ambient }
     {
@@ -264,7 +264,7 @@ impl LinuxCapabilitiesBuilder {
     ghost use Rattle.oci_process_names.specs.CapabilitySets.{default_set};
     ghost use Rattle.oci_json_model.specs.Types.{perhaps};
 
-    /// Sets `bounding`: the capabilities that starting a program can give the process at most.
+    /// Sets `bounding`: the bounding capabilities that are kept: the most that starting a program can give the process.
     pub fn bounding(self, bounding: HashSet<Capability>) -> Self
         ensures { result ≡ record self { bounding = Some bounding } }
     {
@@ -274,7 +274,7 @@ impl LinuxCapabilitiesBuilder {
         }
     }
 
-    /// Sets `effective`: the capabilities that the kernel grants the process.
+    /// Sets `effective`: the effective capabilities that are kept: those that the kernel grants the process.
     pub fn effective(self, effective: HashSet<Capability>) -> Self
         ensures { result ≡ record self { effective = Some effective } }
     {
@@ -284,7 +284,7 @@ impl LinuxCapabilitiesBuilder {
         }
     }
 
-    /// Sets `inheritable`: the capabilities that a started program keeps if its file allows them.
+    /// Sets `inheritable`: the inheritable capabilities that are kept: those that a started program keeps if its file allows them.
     pub fn inheritable(self, inheritable: HashSet<Capability>) -> Self
         ensures { result ≡ record self { inheritable = Some inheritable } }
     {
@@ -294,7 +294,7 @@ impl LinuxCapabilitiesBuilder {
         }
     }
 
-    /// Sets `permitted`: the capabilities that the process may put into effect.
+    /// Sets `permitted`: the permitted capabilities that are kept: those that the process may make effective.
     pub fn permitted(self, permitted: HashSet<Capability>) -> Self
         ensures { result ≡ record self { permitted = Some permitted } }
     {
@@ -304,7 +304,7 @@ impl LinuxCapabilitiesBuilder {
         }
     }
 
-    /// Sets `ambient`: the capabilities that a started program keeps if its file has no privileges of its own.
+    /// Sets `ambient`: the ambient capabilities that are kept: those that a started program keeps if its file has no privileges of its own.
     pub fn ambient(self, ambient: HashSet<Capability>) -> Self
         ensures { result ≡ record self { ambient = Some ambient } }
     {

@@ -40,14 +40,15 @@ impl LinuxIOPriority {
         })
     }
 
-    /// The class, which counts before the priority.
+    /// The I/O scheduling class, which counts before the priority. REQUIRED; absent, it is read as `IOPRIO_CLASS_BE`.
     pub fn class(&self) -> IOPriorityClass
         ensures { result ≡ self.now.class }
     {
         self.class
     }
 
-    /// The priority in its class, from 0, which is served first, to 7.
+    /// The priority within the class. REQUIRED (absent, it is read as 0), and should be from 0, the highest, to 7; the range is not checked
+    /// here.
     pub fn priority(&self) -> i64
         ensures { result ≡ self.now.priority }
     {
@@ -111,7 +112,7 @@ impl LinuxIOPriorityBuilder {
     ghost use Rattle.oci_json_model.specs.Types.{integer_plain, variant_plain};
     ghost use Rattle.oci_process_names.specs.IOPriorityClass.{io_priority_class_name, io_priority_class_default};
 
-    /// Sets `class`: the class, which counts before the priority.
+    /// Sets `class`: the I/O scheduling class, which counts before the priority. REQUIRED; absent, it is read as `IOPRIO_CLASS_BE`.
     pub fn class(self, class: IOPriorityClass) -> Self
         ensures { result ≡ record self { class = Some class } }
     {
@@ -121,7 +122,8 @@ impl LinuxIOPriorityBuilder {
         }
     }
 
-    /// Sets `priority`: the priority in its class, from 0, which is served first, to 7.
+    /// Sets `priority`: the priority within the class. REQUIRED (absent, it is read as 0), and should be from 0, the highest, to 7; the
+    /// range is not checked here.
     pub fn priority(self, priority: i64) -> Self
         ensures { result ≡ record self { priority = Some priority } }
     {

@@ -42,21 +42,22 @@ impl PosixRlimit {
         })
     }
 
-    /// What is limited.
+    /// The resource that is limited, by its name in getrlimit(2). REQUIRED; absent, it is read as `RLIMIT_CPU`.
     pub fn typ(&self) -> PosixRlimitType
         ensures { result ≡ self.now.typ }
     {
         self.typ
     }
 
-    /// The limit up to which a process without privileges may raise its own.
+    /// The ceiling up to which a process without privileges may raise its soft limit, in the resource's unit. REQUIRED; absent, it is read
+    /// as 0.
     pub fn hard(&self) -> u64
         ensures { result ≡ self.now.hard }
     {
         self.hard
     }
 
-    /// The limit that the kernel enforces.
+    /// The limit that the kernel enforces, in the resource's unit. REQUIRED; absent, it is read as 0.
     pub fn soft(&self) -> u64
         ensures { result ≡ self.now.soft }
     {
@@ -124,7 +125,7 @@ impl PosixRlimitBuilder {
     ghost use Rattle.oci_json_model.specs.Types.{number_plain, variant_plain};
     ghost use Rattle.oci_process_names.specs.PosixRlimitType.{posix_rlimit_type_name, posix_rlimit_type_default};
 
-    /// Sets `typ`: what is limited.
+    /// Sets `typ`: the resource that is limited, by its name in getrlimit(2). REQUIRED; absent, it is read as `RLIMIT_CPU`.
     pub fn typ(self, typ: PosixRlimitType) -> Self
         ensures { result ≡ record self { typ = Some typ } }
     {
@@ -134,7 +135,8 @@ impl PosixRlimitBuilder {
         }
     }
 
-    /// Sets `hard`: the limit up to which a process without privileges may raise its own.
+    /// Sets `hard`: the ceiling up to which a process without privileges may raise its soft limit, in the resource's unit. REQUIRED;
+    /// absent, it is read as 0.
     pub fn hard(self, hard: u64) -> Self
         ensures { result ≡ record self { hard = Some hard } }
     {
@@ -144,7 +146,7 @@ impl PosixRlimitBuilder {
         }
     }
 
-    /// Sets `soft`: the limit that the kernel enforces.
+    /// Sets `soft`: the limit that the kernel enforces, in the resource's unit. REQUIRED; absent, it is read as 0.
     pub fn soft(self, soft: u64) -> Self
         ensures { result ≡ record self { soft = Some soft } }
     {

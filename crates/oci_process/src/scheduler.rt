@@ -66,7 +66,7 @@ impl Scheduler {
         })
     }
 
-    /// The policy by which the process is chosen.
+    /// The scheduling policy, by its name in sched(7).
     pub fn policy(&self) -> &LinuxSchedulerPolicy
         ensures { result.now ≡ self.now.policy }
     {
@@ -82,7 +82,7 @@ impl Scheduler {
         self
     }
 
-    /// The nice value, from -20, which is served best, to 19.
+    /// The nice value, from -20, the highest priority, to 19; 0 where none is given. The range is not checked here.
     pub fn nice(&self) -> &Option<i32>
         ensures { result.now ≡ self.now.nice }
     {
@@ -98,7 +98,7 @@ impl Scheduler {
         self
     }
 
-    /// The static priority, from 1 to 99, for `SCHED_FIFO` and `SCHED_RR`.
+    /// The static priority for `SCHED_FIFO` and `SCHED_RR`, from 1 to 99; 0 where none is given. The range is not checked here.
     pub fn priority(&self) -> &Option<i32>
         ensures { result.now ≡ self.now.priority }
     {
@@ -114,7 +114,7 @@ impl Scheduler {
         self
     }
 
-    /// The flags with which the policy is set.
+    /// The flags with which the policy is set, by their names in sched_setattr(2).
     pub fn flags(&self) -> &Option<Vec<LinuxSchedulerFlag>>
         ensures { result.now ≡ self.now.flags }
     {
@@ -130,7 +130,7 @@ impl Scheduler {
         self
     }
 
-    /// The time that the process may run in a period, in nanoseconds, for `SCHED_DEADLINE`.
+    /// The time in nanoseconds that the process may run in each period, for `SCHED_DEADLINE`; 0 where none is given.
     pub fn runtime(&self) -> &Option<u64>
         ensures { result.now ≡ self.now.runtime }
     {
@@ -146,7 +146,7 @@ impl Scheduler {
         self
     }
 
-    /// The time from the beginning of a period in which the running has to be done, in nanoseconds, for `SCHED_DEADLINE`.
+    /// The time in nanoseconds by which the process has to be done, for `SCHED_DEADLINE`; 0 where none is given.
     pub fn deadline(&self) -> &Option<u64>
         ensures { result.now ≡ self.now.deadline }
     {
@@ -162,7 +162,7 @@ impl Scheduler {
         self
     }
 
-    /// The length of a period in nanoseconds, for `SCHED_DEADLINE`.
+    /// The length of a period in nanoseconds, for `SCHED_DEADLINE`; 0 where none is given.
     pub fn period(&self) -> &Option<u64>
         ensures { result.now ≡ self.now.period }
     {
@@ -279,7 +279,7 @@ impl SchedulerBuilder {
     ghost use Rattle.oci_json_model.specs.Types.{variant_plain};
     ghost use Rattle.oci_process_names.specs.LinuxSchedulerPolicy.{linux_scheduler_policy_name, linux_scheduler_policy_default};
 
-    /// Sets `policy`: the policy by which the process is chosen.
+    /// Sets `policy`: the scheduling policy, by its name in sched(7).
     pub fn policy(self, policy: LinuxSchedulerPolicy) -> Self
         ensures { result ≡ record self { policy = Some policy } }
     {
@@ -289,7 +289,7 @@ impl SchedulerBuilder {
         }
     }
 
-    /// Sets `nice`: the nice value, from -20, which is served best, to 19.
+    /// Sets `nice`: the nice value, from -20, the highest priority, to 19; 0 where none is given. The range is not checked here.
     pub fn nice(self, nice: i32) -> Self
         ensures { result ≡ record self { nice = Some nice } }
     {
@@ -299,7 +299,8 @@ impl SchedulerBuilder {
         }
     }
 
-    /// Sets `priority`: the static priority, from 1 to 99, for `SCHED_FIFO` and `SCHED_RR`.
+    /// Sets `priority`: the static priority for `SCHED_FIFO` and `SCHED_RR`, from 1 to 99; 0 where none is given. The range is not checked
+    /// here.
     pub fn priority(self, priority: i32) -> Self
         ensures { result ≡ record self { priority = Some priority } }
     {
@@ -309,7 +310,7 @@ impl SchedulerBuilder {
         }
     }
 
-    /// Sets `flags`: the flags with which the policy is set.
+    /// Sets `flags`: the flags with which the policy is set, by their names in sched_setattr(2).
     pub fn flags(self, flags: Vec<LinuxSchedulerFlag>) -> Self
         ensures { result ≡ record self { flags = Some flags } }
     {
@@ -319,7 +320,7 @@ impl SchedulerBuilder {
         }
     }
 
-    /// Sets `runtime`: the time that the process may run in a period, in nanoseconds, for `SCHED_DEADLINE`.
+    /// Sets `runtime`: the time in nanoseconds that the process may run in each period, for `SCHED_DEADLINE`; 0 where none is given.
     pub fn runtime(self, runtime: u64) -> Self
         ensures { result ≡ record self { runtime = Some runtime } }
     {
@@ -329,7 +330,7 @@ impl SchedulerBuilder {
         }
     }
 
-    /// Sets `deadline`: the time from the beginning of a period in which the running has to be done, in nanoseconds, for `SCHED_DEADLINE`.
+    /// Sets `deadline`: the time in nanoseconds by which the process has to be done, for `SCHED_DEADLINE`; 0 where none is given.
     pub fn deadline(self, deadline: u64) -> Self
         ensures { result ≡ record self { deadline = Some deadline } }
     {
@@ -339,7 +340,7 @@ impl SchedulerBuilder {
         }
     }
 
-    /// Sets `period`: the length of a period in nanoseconds, for `SCHED_DEADLINE`.
+    /// Sets `period`: the length of a period in nanoseconds, for `SCHED_DEADLINE`; 0 where none is given.
     pub fn period(self, period: u64) -> Self
         ensures { result ≡ record self { period = Some period } }
     {

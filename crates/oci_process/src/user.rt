@@ -60,7 +60,7 @@ impl User {
         })
     }
 
-    /// The ID of the user, in the container.
+    /// The user ID in the container namespace. REQUIRED on POSIX platforms; absent, it is read as 0, which is root.
     pub fn uid(&self) -> u32
         ensures { result ≡ self.now.uid }
     {
@@ -84,7 +84,7 @@ impl User {
         self
     }
 
-    /// The ID of the group, in the container.
+    /// The group ID in the container namespace. REQUIRED on POSIX platforms; absent, it is read as 0, which is root's group.
     pub fn gid(&self) -> u32
         ensures { result ≡ self.now.gid }
     {
@@ -108,7 +108,7 @@ impl User {
         self
     }
 
-    /// The permission bits that new files do not get; the runtime's own where none is given.
+    /// The umask of the user, the permission bits that new files do not get. Without one, that of the calling process is kept.
     pub fn umask(&self) -> Option<u32>
         ensures { result ≡ self.now.umask }
     {
@@ -132,7 +132,7 @@ impl User {
         self
     }
 
-    /// The IDs of further groups, in the container.
+    /// The IDs of further groups in the container namespace.
     pub fn additional_gids(&self) -> &Option<Vec<u32>>
         ensures { result.now ≡ self.now.additional_gids }
     {
@@ -156,7 +156,7 @@ impl User {
         self
     }
 
-    /// The name of the user, for Windows.
+    /// The name of the user, on Windows.
     pub fn username(&self) -> &Option<String>
         ensures { result.now ≡ self.now.username }
     {
@@ -263,7 +263,7 @@ impl UserBuilder {
     ghost use Rattle.oci_json_model.specs.Plain as plain;
     ghost use Rattle.oci_json_model.specs.Types.{number_plain};
 
-    /// Sets `uid`: the ID of the user, in the container.
+    /// Sets `uid`: the user ID in the container namespace. REQUIRED on POSIX platforms; absent, it is read as 0, which is root.
     pub fn uid(self, uid: u32) -> Self
         ensures { result ≡ record self { uid = Some uid } }
     {
@@ -273,7 +273,7 @@ impl UserBuilder {
         }
     }
 
-    /// Sets `gid`: the ID of the group, in the container.
+    /// Sets `gid`: the group ID in the container namespace. REQUIRED on POSIX platforms; absent, it is read as 0, which is root's group.
     pub fn gid(self, gid: u32) -> Self
         ensures { result ≡ record self { gid = Some gid } }
     {
@@ -283,7 +283,8 @@ impl UserBuilder {
         }
     }
 
-    /// Sets `umask`: the permission bits that new files do not get; the runtime's own where none is given.
+    /// Sets `umask`: the umask of the user, the permission bits that new files do not get. Without one, that of the calling process is
+    /// kept.
     pub fn umask(self, umask: u32) -> Self
         ensures { result ≡ record self { umask = Some umask } }
     {
@@ -293,7 +294,7 @@ impl UserBuilder {
         }
     }
 
-    /// Sets `additional_gids`: the IDs of further groups, in the container.
+    /// Sets `additional_gids`: the IDs of further groups in the container namespace.
     pub fn additional_gids(self, additional_gids: Vec<u32>) -> Self
         ensures { result ≡ record self { additional_gids = Some additional_gids } }
     {
@@ -303,7 +304,7 @@ impl UserBuilder {
         }
     }
 
-    /// Sets `username`: the name of the user, for Windows.
+    /// Sets `username`: the name of the user, on Windows.
     pub fn username(self, username: String) -> Self
         ensures { result ≡ record self { username = Some username } }
     {

@@ -46,7 +46,8 @@ impl SpecBuilder {
     ghost use Rattle.oci_process.specs.Process.{process_plain, default_process};
     ghost use Rattle.oci_linux.specs.Linux.{linux_plain, default_linux};
 
-    /// Sets `version`: the version of the runtime specification that the bundle keeps to.
+    /// Sets `version`: the version of the runtime specification with which the bundle complies. REQUIRED, and MUST be in the format of
+    /// SemVer 2.0.0, which is not checked here; absent, it is read as empty.
     pub fn version(self, version: String) -> Self
         ensures { result ≡ record self { version = Some version } }
     {
@@ -56,7 +57,7 @@ impl SpecBuilder {
         }
     }
 
-    /// Sets `root`: the root of the container's file system.
+    /// Sets `root`: the container's root file system. REQUIRED, but for Hyper-V containers it MUST NOT be set; not checked here.
     pub fn root(self, root: Root) -> Self
         ensures { result ≡ record self { root = Some root } }
     {
@@ -66,7 +67,7 @@ impl SpecBuilder {
         }
     }
 
-    /// Sets `mounts`: the mounts that the container has beside its root, in the order in which they are made.
+    /// Sets `mounts`: the mounts beside the root, which runtimes MUST make in the listed order.
     pub fn mounts(self, mounts: Vec<Mount>) -> Self
         ensures { result ≡ record self { mounts = Some mounts } }
     {
@@ -76,7 +77,7 @@ impl SpecBuilder {
         }
     }
 
-    /// Sets `process`: the program that the container runs, and what it runs with.
+    /// Sets `process`: the container's process. REQUIRED when the container is started; not checked here.
     pub fn process(self, process: Process) -> Self
         ensures { result ≡ record self { process = Some process } }
     {
@@ -86,7 +87,7 @@ impl SpecBuilder {
         }
     }
 
-    /// Sets `hostname`: the name of the host, as the container sees it.
+    /// Sets `hostname`: the host name that processes in the container see. On Linux it is set in the container's UTS namespace.
     pub fn hostname(self, hostname: String) -> Self
         ensures { result ≡ record self { hostname = Some hostname } }
     {
@@ -96,7 +97,7 @@ impl SpecBuilder {
         }
     }
 
-    /// Sets `domainname`: the name of the host's domain, as the container sees it.
+    /// Sets `domainname`: the domain name that processes in the container see. On Linux it is set in the container's UTS namespace.
     pub fn domainname(self, domainname: String) -> Self
         ensures { result ≡ record self { domainname = Some domainname } }
     {
@@ -106,7 +107,7 @@ impl SpecBuilder {
         }
     }
 
-    /// Sets `hooks`: the programs that are run at the turns of the container's life.
+    /// Sets `hooks`: the programs that are run at events of the container's lifecycle, on POSIX platforms.
     pub fn hooks(self, hooks: Hooks) -> Self
         ensures { result ≡ record self { hooks = Some hooks } }
     {
@@ -116,7 +117,8 @@ impl SpecBuilder {
         }
     }
 
-    /// Sets `annotations`: annotations, by their keys.
+    /// Sets `annotations`: any metadata for the container, by its key. Keys MUST NOT be empty and SHOULD be in reverse domain notation, and
+    /// `org.opencontainers` is reserved; not checked here.
     pub fn annotations(self, annotations: BTreeMap<String, String>) -> Self
         ensures { result ≡ record self { annotations = Some annotations } }
     {
@@ -126,7 +128,7 @@ impl SpecBuilder {
         }
     }
 
-    /// Sets `linux`: what only a Linux container has.
+    /// Sets `linux`: the configuration for Linux. MAY be set if that is the target platform.
     pub fn linux(self, linux: Linux) -> Self
         ensures { result ≡ record self { linux = Some linux } }
     {
@@ -136,7 +138,7 @@ impl SpecBuilder {
         }
     }
 
-    /// Sets `solaris`: what only a Solaris container has.
+    /// Sets `solaris`: the configuration for Solaris. MAY be set if that is the target platform.
     pub fn solaris(self, solaris: Solaris) -> Self
         ensures { result ≡ record self { solaris = Some solaris } }
     {
@@ -146,7 +148,7 @@ impl SpecBuilder {
         }
     }
 
-    /// Sets `windows`: what only a Windows container has.
+    /// Sets `windows`: the configuration for Windows. MUST be set if that is the target platform; not checked here.
     pub fn windows(self, windows: Windows) -> Self
         ensures { result ≡ record self { windows = Some windows } }
     {
@@ -156,7 +158,8 @@ impl SpecBuilder {
         }
     }
 
-    /// Sets `vm`: the virtual machine that the container runs in.
+    /// Sets `vm`: the configuration of a virtual machine. MAY be set if the target platform and architecture support hardware
+    /// virtualization.
     pub fn vm(self, vm: VM) -> Self
         ensures { result ≡ record self { vm = Some vm } }
     {
@@ -166,7 +169,7 @@ impl SpecBuilder {
         }
     }
 
-    /// Sets `zos`: what only a z/OS container has.
+    /// Sets `zos`: the configuration for z/OS. MAY be set if that is the target platform.
     pub fn zos(self, zos: ZOS) -> Self
         ensures { result ≡ record self { zos = Some zos } }
     {
@@ -176,7 +179,7 @@ impl SpecBuilder {
         }
     }
 
-    /// Sets `uid_mappings`: mappings of user IDs for mounts (deprecated; a mount has its own).
+    /// Sets `uid_mappings`: mappings of user IDs for mounts, which the specification does not have (deprecated; a mount has its own).
     pub fn uid_mappings(self, uid_mappings: Vec<LinuxIdMapping>) -> Self
         ensures { result ≡ record self { uid_mappings = Some uid_mappings } }
     {
@@ -186,7 +189,7 @@ impl SpecBuilder {
         }
     }
 
-    /// Sets `gid_mappings`: mappings of group IDs for mounts (deprecated; a mount has its own).
+    /// Sets `gid_mappings`: mappings of group IDs for mounts, which the specification does not have (deprecated; a mount has its own).
     pub fn gid_mappings(self, gid_mappings: Vec<LinuxIdMapping>) -> Self
         ensures { result ≡ record self { gid_mappings = Some gid_mappings } }
     {

@@ -1,5 +1,5 @@
 //! The version of the runtime specification.
-ghost use Rattle.std.specs.Prelude.{◌≡◌, codes, IfOk, IfErr, string_bytes};
+ghost use Rattle.std.specs.Prelude.{◌≡◌, ◌++◌, codes, decimal, IfOk, IfErr, string_bytes};
 
 use oci_text_base::{OciSpecError, Result};
 use std::alloc::Global;
@@ -19,9 +19,10 @@ pub const VERSION_DEV: &str = "";
 /// The whole version.
 pub const VERSION: &str = "1.1.0";
 
-/// The text of `VERSION`.
+/// The text of `VERSION`: the major, the minor and the patch version with full stops between.
 pub fn version(alloc: Global) -> Result<String>
     ensures ok { IfOk result (λ t. string_bytes t ≡ codes "1.1.0") }
+    ensures numbers { IfOk result (λ t. string_bytes t ≡ decimal VERSION_MAJOR ++ (codes "." ++ (decimal VERSION_MINOR ++ (codes "." ++ decimal VERSION_PATCH)))) }
     ensures err { IfErr result (λ e. e ≡ OciSpecError.Memory) }
 {
     Ok(String::from_str(alloc, VERSION)?)

@@ -15,7 +15,8 @@ use std::alloc::Global;
 
 const NAME: &str = "ContainerProcessState";
 
-/// The state that is sent to the program that listens to a container's system calls (runtime specification, "Linux Container Configuration", "The Container Process State").
+/// The state that is sent to the program that listens to a container's system calls (runtime specification, "Linux Container
+/// Configuration", "The Container Process State").
 #[derive(Debug, PartialEq, Eq)]
 pub struct ContainerProcessState {
     version: String,
@@ -63,7 +64,7 @@ impl ContainerProcessState {
         })
     }
 
-    /// The version of the runtime specification that the state keeps to.
+    /// The version of the runtime specification with which the state complies. REQUIRED; absent, it is read as empty.
     pub fn version(&self) -> &String
         ensures { result.now ≡ self.now.version }
     {
@@ -87,7 +88,8 @@ impl ContainerProcessState {
         self
     }
 
-    /// The names of the open files that are handed over beside the state, in the files' order.
+    /// The names of the file descriptors that are sent with the state, in the order of the `SCM_RIGHTS` array, as `seccompFd`; none where
+    /// absent.
     pub fn fds(&self) -> &Vec<String>
         ensures { result.now ≡ self.now.fds }
     {
@@ -111,7 +113,7 @@ impl ContainerProcessState {
         self
     }
 
-    /// The ID of the process, as the runtime sees it.
+    /// The ID of the container's process, as the runtime sees it. REQUIRED; absent, it is read as 0.
     pub fn pid(&self) -> &i32
         ensures { result.now ≡ self.now.pid }
     {
@@ -135,7 +137,7 @@ impl ContainerProcessState {
         self
     }
 
-    /// What the container's configuration passes to the listening program, of any meaning.
+    /// Opaque metadata for the seccomp agent, the `listenerMetadata` of the configuration.
     pub fn metadata(&self) -> &Option<String>
         ensures { result.now ≡ self.now.metadata }
     {
@@ -159,7 +161,7 @@ impl ContainerProcessState {
         self
     }
 
-    /// The state of the container.
+    /// The state of the container. REQUIRED; absent, it is read as a state whose members are absent.
     pub fn state(&self) -> &State
         ensures { result.now ≡ self.now.state }
     {
@@ -272,7 +274,7 @@ impl ContainerProcessStateBuilder {
     ghost use Rattle.oci_shapes.specs.State.{default_state};
     ghost use Rattle.oci_runtime_records.specs.State.{state_plain};
 
-    /// Sets `version`: the version of the runtime specification that the state keeps to.
+    /// Sets `version`: the version of the runtime specification with which the state complies. REQUIRED; absent, it is read as empty.
     pub fn version(self, version: String) -> Self
         ensures { result ≡ record self { version = Some version } }
     {
@@ -282,7 +284,8 @@ impl ContainerProcessStateBuilder {
         }
     }
 
-    /// Sets `fds`: the names of the open files that are handed over beside the state, in the files' order.
+    /// Sets `fds`: the names of the file descriptors that are sent with the state, in the order of the `SCM_RIGHTS` array, as `seccompFd`;
+    /// none where absent.
     pub fn fds(self, fds: Vec<String>) -> Self
         ensures { result ≡ record self { fds = Some fds } }
     {
@@ -292,7 +295,7 @@ impl ContainerProcessStateBuilder {
         }
     }
 
-    /// Sets `pid`: the ID of the process, as the runtime sees it.
+    /// Sets `pid`: the ID of the container's process, as the runtime sees it. REQUIRED; absent, it is read as 0.
     pub fn pid(self, pid: i32) -> Self
         ensures { result ≡ record self { pid = Some pid } }
     {
@@ -302,7 +305,7 @@ impl ContainerProcessStateBuilder {
         }
     }
 
-    /// Sets `metadata`: what the container's configuration passes to the listening program, of any meaning.
+    /// Sets `metadata`: opaque metadata for the seccomp agent, the `listenerMetadata` of the configuration.
     pub fn metadata(self, metadata: String) -> Self
         ensures { result ≡ record self { metadata = Some metadata } }
     {
@@ -312,7 +315,7 @@ impl ContainerProcessStateBuilder {
         }
     }
 
-    /// Sets `state`: the state of the container.
+    /// Sets `state`: the state of the container. REQUIRED; absent, it is read as a state whose members are absent.
     pub fn state(self, state: State) -> Self
         ensures { result ≡ record self { state = Some state } }
     {

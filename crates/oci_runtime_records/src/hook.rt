@@ -57,7 +57,7 @@ impl Hook {
         })
     }
 
-    /// The program, an absolute path.
+    /// The program. MUST be an absolute path; not checked here.
     pub fn path(&self) -> &String
         ensures { result.now ≡ self.now.path }
     {
@@ -81,7 +81,7 @@ impl Hook {
         self
     }
 
-    /// The program's arguments, its own name first.
+    /// The program's arguments, as the `argv` of execv(3), its own name first.
     pub fn args(&self) -> &Option<Vec<String>>
         ensures { result.now ≡ self.now.args }
     {
@@ -105,7 +105,7 @@ impl Hook {
         self
     }
 
-    /// The environment variables, as `NAME=value`.
+    /// The environment variables, each as `NAME=value`. The format is not checked here.
     pub fn env(&self) -> &Option<Vec<String>>
         ensures { result.now ≡ self.now.env }
     {
@@ -129,7 +129,7 @@ impl Hook {
         self
     }
 
-    /// The time in seconds after which the program is ended, more than 0; no limit where none is given.
+    /// The time in seconds after which the hook is aborted; never where not given. MUST be greater than 0; not checked here.
     pub fn timeout(&self) -> Option<i64>
         ensures { result ≡ self.now.timeout }
     {
@@ -230,7 +230,7 @@ impl HookBuilder {
     ghost use Rattle.oci_json_model.specs.Plain as plain;
     ghost use Rattle.oci_json_model.specs.Types.{text_plain};
 
-    /// Sets `path`: the program, an absolute path.
+    /// Sets `path`: the program. MUST be an absolute path; not checked here.
     pub fn path(self, path: String) -> Self
         ensures { result ≡ record self { path = Some path } }
     {
@@ -240,7 +240,7 @@ impl HookBuilder {
         }
     }
 
-    /// Sets `args`: the program's arguments, its own name first.
+    /// Sets `args`: the program's arguments, as the `argv` of execv(3), its own name first.
     pub fn args(self, args: Vec<String>) -> Self
         ensures { result ≡ record self { args = Some args } }
     {
@@ -250,7 +250,7 @@ impl HookBuilder {
         }
     }
 
-    /// Sets `env`: the environment variables, as `NAME=value`.
+    /// Sets `env`: the environment variables, each as `NAME=value`. The format is not checked here.
     pub fn env(self, env: Vec<String>) -> Self
         ensures { result ≡ record self { env = Some env } }
     {
@@ -260,7 +260,8 @@ impl HookBuilder {
         }
     }
 
-    /// Sets `timeout`: the time in seconds after which the program is ended, more than 0; no limit where none is given.
+    /// Sets `timeout`: the time in seconds after which the hook is aborted; never where not given. MUST be greater than 0; not checked
+    /// here.
     pub fn timeout(self, timeout: i64) -> Self
         ensures { result ≡ record self { timeout = Some timeout } }
     {

@@ -12,7 +12,8 @@ use std::alloc::Global;
 
 const NAME: &str = "Hooks";
 
-/// The programs that are run at the turns of a container's life, each list in its order (runtime specification, "Configuration", "POSIX-platform Hooks").
+/// The programs that are run at the turns of a container's life, each list in its order (runtime specification, "Configuration",
+/// "POSIX-platform Hooks").
 #[derive(Debug, PartialEq, Eq)]
 pub struct Hooks {
     prestart: Option<Vec<Hook>>,
@@ -63,7 +64,8 @@ impl Hooks {
         })
     }
 
-    /// What is run in the runtime's namespace before the container's program starts (deprecated).
+    /// The hooks that MUST run in the runtime namespace when the container is created, before those of `createRuntime`. DEPRECATED for the
+    /// three that follow.
     pub fn prestart(&self) -> &Option<Vec<Hook>>
         ensures { result.now ≡ self.now.prestart }
     {
@@ -87,7 +89,8 @@ impl Hooks {
         self
     }
 
-    /// What is run in the runtime's namespace when the container is created, before its root is set.
+    /// The hooks that MUST run in the runtime namespace when the container is created, after its environment is made and before its root is
+    /// changed (`pivot_root`).
     pub fn create_runtime(&self) -> &Option<Vec<Hook>>
         ensures { result.now ≡ self.now.create_runtime }
     {
@@ -111,7 +114,8 @@ impl Hooks {
         self
     }
 
-    /// What is run in the container's namespace when the container is created, before its root is set.
+    /// The hooks that MUST run in the container namespace when the container is created, after those of `createRuntime` and before its root
+    /// is changed; their paths are of the runtime namespace.
     pub fn create_container(&self) -> &Option<Vec<Hook>>
         ensures { result.now ≡ self.now.create_container }
     {
@@ -135,7 +139,8 @@ impl Hooks {
         self
     }
 
-    /// What is run in the container's namespace just before its program starts.
+    /// The hooks that MUST run in the container namespace when the container is started, before its program; their paths are of the
+    /// container namespace.
     pub fn start_container(&self) -> &Option<Vec<Hook>>
         ensures { result.now ≡ self.now.start_container }
     {
@@ -159,7 +164,7 @@ impl Hooks {
         self
     }
 
-    /// What is run in the runtime's namespace after the container's program has started.
+    /// The hooks that MUST run in the runtime namespace when the container is started, after its program has been.
     pub fn poststart(&self) -> &Option<Vec<Hook>>
         ensures { result.now ≡ self.now.poststart }
     {
@@ -183,7 +188,7 @@ impl Hooks {
         self
     }
 
-    /// What is run in the runtime's namespace after the container was deleted.
+    /// The hooks that MUST run in the runtime namespace after the container is deleted.
     pub fn poststop(&self) -> &Option<Vec<Hook>>
         ensures { result.now ≡ self.now.poststop }
     {
@@ -317,7 +322,8 @@ pub struct HooksBuilder {
 impl HooksBuilder {
     ghost use Rattle.std.specs.Prelude.{Some};
 
-    /// Sets `prestart`: what is run in the runtime's namespace before the container's program starts (deprecated).
+    /// Sets `prestart`: the hooks that MUST run in the runtime namespace when the container is created, before those of `createRuntime`.
+    /// DEPRECATED for the three that follow.
     pub fn prestart(self, prestart: Vec<Hook>) -> Self
         ensures { result ≡ record self { prestart = Some prestart } }
     {
@@ -327,7 +333,8 @@ impl HooksBuilder {
         }
     }
 
-    /// Sets `create_runtime`: what is run in the runtime's namespace when the container is created, before its root is set.
+    /// Sets `create_runtime`: the hooks that MUST run in the runtime namespace when the container is created, after its environment is made
+    /// and before its root is changed (`pivot_root`).
     pub fn create_runtime(self, create_runtime: Vec<Hook>) -> Self
         ensures { result ≡ record self { create_runtime = Some create_runtime } }
     {
@@ -337,7 +344,8 @@ impl HooksBuilder {
         }
     }
 
-    /// Sets `create_container`: what is run in the container's namespace when the container is created, before its root is set.
+    /// Sets `create_container`: the hooks that MUST run in the container namespace when the container is created, after those of
+    /// `createRuntime` and before its root is changed; their paths are of the runtime namespace.
     pub fn create_container(self, create_container: Vec<Hook>) -> Self
         ensures { result ≡ record self { create_container = Some create_container } }
     {
@@ -347,7 +355,8 @@ impl HooksBuilder {
         }
     }
 
-    /// Sets `start_container`: what is run in the container's namespace just before its program starts.
+    /// Sets `start_container`: the hooks that MUST run in the container namespace when the container is started, before its program; their
+    /// paths are of the container namespace.
     pub fn start_container(self, start_container: Vec<Hook>) -> Self
         ensures { result ≡ record self { start_container = Some start_container } }
     {
@@ -357,7 +366,7 @@ impl HooksBuilder {
         }
     }
 
-    /// Sets `poststart`: what is run in the runtime's namespace after the container's program has started.
+    /// Sets `poststart`: the hooks that MUST run in the runtime namespace when the container is started, after its program has been.
     pub fn poststart(self, poststart: Vec<Hook>) -> Self
         ensures { result ≡ record self { poststart = Some poststart } }
     {
@@ -367,7 +376,7 @@ impl HooksBuilder {
         }
     }
 
-    /// Sets `poststop`: what is run in the runtime's namespace after the container was deleted.
+    /// Sets `poststop`: the hooks that MUST run in the runtime namespace after the container is deleted.
     pub fn poststop(self, poststop: Vec<Hook>) -> Self
         ensures { result ≡ record self { poststop = Some poststop } }
     {

@@ -6,7 +6,7 @@ mod build;
 mod rows;
 
 use oci_json_model::{
-    OciMember, OciRecord, copy_optional, fault, optional, required, try_join2, try_join3,
+    OciMember, OciRecord, copy_optional, fault, optional, required, taken, try_join2, try_join3,
     write_optional, write_required,
 };
 use oci_linux_namespaces::LinuxIdMapping;
@@ -67,7 +67,8 @@ impl Mount {
         })
     }
 
-    /// The path in the container at which the mount is.
+    /// The mount point, a path inside the container. MUST be absolute, but on Linux only SHOULD, where a relative path is taken from `/`
+    /// (deprecated); not checked here.
     pub fn destination(&self) -> &String
         ensures { result.now ≡ self.now.destination }
     {
@@ -91,7 +92,7 @@ impl Mount {
         self
     }
 
-    /// The kind of file system, as `proc`.
+    /// The type of the file system, as `proc`. Of a bind mount it is a dummy, often `none`.
     pub fn typ(&self) -> &Option<String>
         ensures { result.now ≡ self.now.typ }
     {
@@ -115,7 +116,7 @@ impl Mount {
         self
     }
 
-    /// What is mounted: a device's name or a path on the host, absolute or from the bundle on.
+    /// What is mounted: the name of a device, a path of the host for a bind mount, absolute or relative to the bundle, or a dummy.
     pub fn source(&self) -> &Option<String>
         ensures { result.now ≡ self.now.source }
     {
@@ -139,7 +140,8 @@ impl Mount {
         self
     }
 
-    /// The options of the mount, as `nosuid`.
+    /// The mount options, as `nosuid`. With `bind` or `rbind` it is a bind mount; those that a runtime does not know SHOULD be passed to
+    /// the file system.
     pub fn options(&self) -> &Option<Vec<String>>
         ensures { result.now ≡ self.now.options }
     {
@@ -163,7 +165,8 @@ impl Mount {
         self
     }
 
-    /// The mappings of the mounted file system's user IDs to those of the mount.
+    /// The mappings of the file system's user IDs to those of the mount point. MUST be set together with `gidMappings`, and `options`
+    /// SHOULD then have `idmap` or `ridmap`; not checked here.
     pub fn uid_mappings(&self) -> &Option<Vec<LinuxIdMapping>>
         ensures { result.now ≡ self.now.uid_mappings }
     {
@@ -187,7 +190,8 @@ impl Mount {
         self
     }
 
-    /// The mappings of the mounted file system's group IDs to those of the mount.
+    /// The mappings of the file system's group IDs to those of the mount point. MUST be set together with `uidMappings`, and `options`
+    /// SHOULD then have `idmap` or `ridmap`; not checked here.
     pub fn gid_mappings(&self) -> &Option<Vec<LinuxIdMapping>>
         ensures { result.now ≡ self.now.gid_mappings }
     {
@@ -315,7 +319,8 @@ pub struct MountBuilder {
 impl MountBuilder {
     ghost use Rattle.std.specs.Prelude.{Some};
 
-    /// Sets `destination`: the path in the container at which the mount is.
+    /// Sets `destination`: the mount point, a path inside the container. MUST be absolute, but on Linux only SHOULD, where a relative path
+    /// is taken from `/` (deprecated); not checked here.
     pub fn destination(self, destination: String) -> Self
         ensures { result ≡ record self { destination = Some destination } }
     {
@@ -325,7 +330,7 @@ impl MountBuilder {
         }
     }
 
-    /// Sets `typ`: the kind of file system, as `proc`.
+    /// Sets `typ`: the type of the file system, as `proc`. Of a bind mount it is a dummy, often `none`.
     pub fn typ(self, typ: String) -> Self
         ensures { result ≡ record self { typ = Some typ } }
     {
@@ -335,7 +340,8 @@ impl MountBuilder {
         }
     }
 
-    /// Sets `source`: what is mounted: a device's name or a path on the host, absolute or from the bundle on.
+    /// Sets `source`: what is mounted: the name of a device, a path of the host for a bind mount, absolute or relative to the bundle, or a
+    /// dummy.
     pub fn source(self, source: String) -> Self
         ensures { result ≡ record self { source = Some source } }
     {
@@ -345,7 +351,8 @@ impl MountBuilder {
         }
     }
 
-    /// Sets `options`: the options of the mount, as `nosuid`.
+    /// Sets `options`: the mount options, as `nosuid`. With `bind` or `rbind` it is a bind mount; those that a runtime does not know SHOULD
+    /// be passed to the file system.
     pub fn options(self, options: Vec<String>) -> Self
         ensures { result ≡ record self { options = Some options } }
     {
@@ -355,7 +362,8 @@ impl MountBuilder {
         }
     }
 
-    /// Sets `uid_mappings`: the mappings of the mounted file system's user IDs to those of the mount.
+    /// Sets `uid_mappings`: the mappings of the file system's user IDs to those of the mount point. MUST be set together with
+    /// `gidMappings`, and `options` SHOULD then have `idmap` or `ridmap`; not checked here.
     pub fn uid_mappings(self, uid_mappings: Vec<LinuxIdMapping>) -> Self
         ensures { result ≡ record self { uid_mappings = Some uid_mappings } }
     {
@@ -365,7 +373,8 @@ impl MountBuilder {
         }
     }
 
-    /// Sets `gid_mappings`: the mappings of the mounted file system's group IDs to those of the mount.
+    /// Sets `gid_mappings`: the mappings of the file system's group IDs to those of the mount point. MUST be set together with
+    /// `uidMappings`, and `options` SHOULD then have `idmap` or `ridmap`; not checked here.
     pub fn gid_mappings(self, gid_mappings: Vec<LinuxIdMapping>) -> Self
         ensures { result ≡ record self { gid_mappings = Some gid_mappings } }
     {

@@ -47,7 +47,8 @@ impl Root {
         })
     }
 
-    /// The path of the root on the host, absolute or from the bundle on.
+    /// The path of the root file system, where a directory MUST exist: absolute or relative to the bundle, SHOULD be `rootfs`, and on
+    /// Windows MUST be a volume GUID path. REQUIRED; absent, it is read as empty. Not checked here.
     pub fn path(&self) -> &String
         ensures { result.now ≡ self.now.path }
     {
@@ -63,7 +64,8 @@ impl Root {
         self
     }
 
-    /// Whether the container cannot write to its root.
+    /// Whether the root file system MUST be read-only in the container; false where not given. On Windows it MUST be absent or false; not
+    /// checked here.
     pub fn readonly(&self) -> Option<bool>
         ensures { result ≡ self.now.readonly }
     {
@@ -138,7 +140,8 @@ impl RootBuilder {
     ghost use Rattle.oci_json_model.specs.Plain.{filled};
     ghost use Rattle.oci_json_model.specs.Types.{perhaps, text_plain, truth_plain};
 
-    /// Sets `path`: the path of the root on the host, absolute or from the bundle on.
+    /// Sets `path`: the path of the root file system, where a directory MUST exist: absolute or relative to the bundle, SHOULD be `rootfs`,
+    /// and on Windows MUST be a volume GUID path. REQUIRED; absent, it is read as empty. Not checked here.
     pub fn path(self, path: String) -> Self
         ensures { result ≡ record self { path = Some path } }
     {
@@ -148,7 +151,8 @@ impl RootBuilder {
         }
     }
 
-    /// Sets `readonly`: whether the container cannot write to its root.
+    /// Sets `readonly`: whether the root file system MUST be read-only in the container; false where not given. On Windows it MUST be
+    /// absent or false; not checked here.
     pub fn readonly(self, readonly: bool) -> Self
         ensures { result ≡ record self { readonly = Some readonly } }
     {

@@ -69,7 +69,7 @@ impl State {
         })
     }
 
-    /// The version of the runtime specification that the state keeps to.
+    /// The version of the runtime specification with which the state complies. REQUIRED; absent, it is read as empty.
     pub fn version(&self) -> &String
         ensures { result.now ≡ self.now.version }
     {
@@ -93,7 +93,8 @@ impl State {
         self
     }
 
-    /// The container's ID, which no other container of the host has.
+    /// The container's ID. MUST be unique across all containers of the host, which is not checked here. REQUIRED; absent, it is read as
+    /// empty.
     pub fn id(&self) -> &String
         ensures { result.now ≡ self.now.id }
     {
@@ -117,7 +118,8 @@ impl State {
         self
     }
 
-    /// Where the container is in its life.
+    /// The state of the container in its lifecycle. A runtime MAY define further values, which are rejected here. REQUIRED; absent, it is
+    /// read as `stopped`.
     pub fn status(&self) -> &ContainerState
         ensures { result.now ≡ self.now.status }
     {
@@ -141,7 +143,8 @@ impl State {
         self
     }
 
-    /// The ID of the container's process, as the host sees it.
+    /// The ID of the container's process, as the hook sees it that gets the state. REQUIRED on Linux while `status` is `created` or
+    /// `running`; not checked here.
     pub fn pid(&self) -> &Option<i32>
         ensures { result.now ≡ self.now.pid }
     {
@@ -165,7 +168,7 @@ impl State {
         self
     }
 
-    /// The folder of the container's bundle, an absolute path.
+    /// The absolute path of the container's bundle; that it is absolute is not checked here. REQUIRED; absent, it is read as empty.
     pub fn bundle(&self) -> &String
         ensures { result.now ≡ self.now.bundle }
     {
@@ -189,7 +192,7 @@ impl State {
         self
     }
 
-    /// Annotations, by their keys.
+    /// The annotations of the container, by their keys.
     pub fn annotations(&self) -> &Option<BTreeMap<String, String>>
         ensures { result.now ≡ self.now.annotations }
     {
@@ -314,7 +317,7 @@ impl StateBuilder {
     ghost use Rattle.oci_json_model.specs.Types.{text_plain, variant_plain};
     ghost use Rattle.oci_runtime_names.specs.ContainerState.{container_state_name, container_state_default};
 
-    /// Sets `version`: the version of the runtime specification that the state keeps to.
+    /// Sets `version`: the version of the runtime specification with which the state complies. REQUIRED; absent, it is read as empty.
     pub fn version(self, version: String) -> Self
         ensures { result ≡ record self { version = Some version } }
     {
@@ -324,7 +327,8 @@ impl StateBuilder {
         }
     }
 
-    /// Sets `id`: the container's ID, which no other container of the host has.
+    /// Sets `id`: the container's ID. MUST be unique across all containers of the host, which is not checked here. REQUIRED; absent, it is
+    /// read as empty.
     pub fn id(self, id: String) -> Self
         ensures { result ≡ record self { id = Some id } }
     {
@@ -334,7 +338,8 @@ impl StateBuilder {
         }
     }
 
-    /// Sets `status`: where the container is in its life.
+    /// Sets `status`: the state of the container in its lifecycle. A runtime MAY define further values, which are rejected here. REQUIRED;
+    /// absent, it is read as `stopped`.
     pub fn status(self, status: ContainerState) -> Self
         ensures { result ≡ record self { status = Some status } }
     {
@@ -344,7 +349,8 @@ impl StateBuilder {
         }
     }
 
-    /// Sets `pid`: the ID of the container's process, as the host sees it.
+    /// Sets `pid`: the ID of the container's process, as the hook sees it that gets the state. REQUIRED on Linux while `status` is
+    /// `created` or `running`; not checked here.
     pub fn pid(self, pid: i32) -> Self
         ensures { result ≡ record self { pid = Some pid } }
     {
@@ -354,7 +360,8 @@ impl StateBuilder {
         }
     }
 
-    /// Sets `bundle`: the folder of the container's bundle, an absolute path.
+    /// Sets `bundle`: the absolute path of the container's bundle; that it is absolute is not checked here. REQUIRED; absent, it is read as
+    /// empty.
     pub fn bundle(self, bundle: String) -> Self
         ensures { result ≡ record self { bundle = Some bundle } }
     {
@@ -364,7 +371,7 @@ impl StateBuilder {
         }
     }
 
-    /// Sets `annotations`: annotations, by their keys.
+    /// Sets `annotations`: the annotations of the container, by their keys.
     pub fn annotations(self, annotations: BTreeMap<String, String>) -> Self
         ensures { result ≡ record self { annotations = Some annotations } }
     {

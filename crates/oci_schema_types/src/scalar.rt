@@ -1,4 +1,9 @@
 //! Values with no members or items of their own in a schema, and whether a member is required.
+ghost use Rattle.std.specs.Prelude.{Some, codes};
+ghost use Rattle.std.specs.Fmt.{DisplaysOnOk};
+ghost use Rattle.oci_schema_types.specs.Shapes.{names_of};
+ghost use Rattle.oci_schema_types.specs.Texts.{listed};
+
 use std::fmt;
 
 /// A value with no members or items that a schema describes.
@@ -65,6 +70,12 @@ pub enum Presence {
 }
 
 impl fmt::Display for Scalar {
+    ghost use Rattle.std.specs.Prelude.{Some};
+    ghost use Rattle.oci_schema_types.specs.Shapes.{scalar_shape};
+    ghost use Rattle.oci_schema_types.specs.Texts.{shape_text};
+
+    ghost output = { λ x. Some (shape_text (scalar_shape x)) };
+
     fn fmt<W: fmt::Write>(&self, f: &mut fmt::Formatter<W>) -> fmt::Result {
         match self {
             Scalar::String | Scalar::MediaType | Scalar::Os | Scalar::Arch => {
@@ -74,13 +85,7 @@ impl fmt::Display for Scalar {
             Scalar::Integer(low, high) => write!(f, "an integer from {low} to {high}"),
             Scalar::Enum(table) => {
                 f.write_str("one of the strings")?;
-                let mut mark = " ";
-                for name in table.iter() {
-                    f.write_str(mark)?;
-                    f.write_str(name)?;
-                    mark = ", ";
-                }
-                Ok(())
+                write_names(table, f)
             }
             Scalar::Digest => f.write_str("a digest"),
             Scalar::CpuList => f.write_str("a CPU list as a string"),
@@ -92,4 +97,17 @@ impl fmt::Display for Scalar {
             Scalar::FreeValues => f.write_str("an object whose numbers are 64-bit integers"),
         }
     }
+}
+
+/// Writes the names, with commas between them.
+fn write_names<W: fmt::Write>(table: &[&str], f: &mut fmt::Formatter<W>) -> fmt::Result
+    ensures { DisplaysOnOk W.write_str_gives f.old result (Some (listed (codes " ") (names_of table.now))) f.new }
+{
+    let mut mark = " ";
+    for name in table {
+        f.write_str(mark)?;
+        f.write_str(name)?;
+        mark = ", ";
+    }
+    Ok(())
 }

@@ -1,8 +1,10 @@
 pub mod Accepted
+pub mod Complete
 pub mod Decides
 pub mod DefaultValues
 pub mod Empty
 pub mod Filled
+pub mod Found
 pub mod Given
 pub mod GivenSmaller
 pub mod Listed
@@ -15,5 +17,6 @@ pub mod Parts
 pub mod Pointers
 pub mod Replacing
 pub mod Sizes
+pub mod Sound
 pub mod Texts
 pub mod Ways

@@ -18,6 +18,7 @@ use Rattle.serde_json.specs.Events.{items_len}
 use Rattle.serde_json.specs.Read.{is_integer}
 use Rattle.serde_json.specs.Find.{get_item, get_member, unescape, index_of, step, walk, pointer}
 use Rattle.serde_json.proofs.Paths.{Lacks, walk_part, walk_last}
+use Rattle.oci_json.specs.Readable.{IsBefore, IsInOrder}
 use Rattle.oci_schema_walks.specs.Places.{escaped, under_name, under_index}
 use Rattle.oci_schema_walks.specs.Leads.{Step, to_member, to_item, spelled, Have, HasMember, HasItem, Goes, LeadsTo, IsOrderly, AreOrderly, HoldOrderly}
 
@@ -50,13 +51,13 @@ lacks_cons c x xs h hs (suc i) less = hs i (omega arith)
 lacks_none : (c : ℕ) → Lacks c []
 lacks_none c i less = absurd (omega arith)
 
-name_lacks : (name : List ℕ) → Lacks 47 (escaped name)
+pub name_lacks : (name : List ℕ) → Lacks 47 (escaped name)
 name_lacks = bytes (λ t s. Lacks 47 s) (lacks_none 47)
     (λ t h. lacks_cons 47 126 (48 ∷ escaped t) (λ e. cc) (lacks_cons 47 48 (escaped t) (λ e. cc) h))
     (λ t h. lacks_cons 47 126 (49 ∷ escaped t) (λ e. cc) (lacks_cons 47 49 (escaped t) (λ e. cc) h))
     (λ b t h k hs. lacks_cons 47 b (escaped t) k hs)
 
-name_back : (name : List ℕ) → unescape (escaped name) ≡ name
+pub name_back : (name : List ℕ) → unescape (escaped name) ≡ name
 unfolding unescape
 name_back = bytes (λ t s. unescape s ≡ t) refl (λ t h. ap (λ r. 126 ∷ r) h) (λ t h. ap (λ r. 47 ∷ r) h) (λ b t h k hs. unescape_other b (escaped t) h ∙ ap (λ r. b ∷ r) hs)
 
@@ -112,16 +113,20 @@ passes name k d c ms Less is other e = e
 passes name k d c ms Equal is other e = absurd (other (exact_bytes name k is))
 passes name k d c ms Greater is other e = e
 
-member_found : (name : List ℕ) (c : Data) (ms : Members) → HoldOrderly ms → Have ms name c → (get_member name ms ≡ Some c) × IsOrderly c
-member_found name c no_members orderly has = absurd has
-member_found name c (member k d ms) orderly (inl is) =
-    let (apart, inner, more) = orderly in
+-- a name that stands before all others is none of them
+not_after : (k name : List ℕ) (c : Data) (ms : Members) → IsBefore k ms → Have ms name c → name ≡ k → ⊥
+not_after k name c no_members before has e = has
+not_after k name c (member l d ms) before (inl is) e = let same : slice_cmp nat_cmp k l ≡ Equal = ap (slice_cmp nat_cmp k) (sym is.0 ∙ e) ∙ same_text k in let less = before.0 in cc
+not_after k name c (member l d ms) before (inr has) e = not_after k name c ms before.1 has e
+
+member_found : (name : List ℕ) (c : Data) (ms : Members) → IsInOrder ms → HoldOrderly ms → Have ms name c → (get_member name ms ≡ Some c) × IsOrderly c
+member_found name c no_members order orderly has = absurd has
+member_found name c (member k d ms) order orderly (inl is) =
     let same : slice_cmp nat_cmp name k ≡ Equal = ap (slice_cmp nat_cmp name) (sym is.0) ∙ same_text name in
-    (ap (λ o. match_ordering o (get_member name ms) (Some d) (get_member name ms)) same ∙ ap Some (sym is.1), subst IsOrderly (sym is.1) inner)
-member_found name c (member k d ms) orderly (inr has) =
-    let (apart, inner, more) = orderly in
-    let later = member_found name c ms more has in
-    (passes name k d c ms (slice_cmp nat_cmp name k) refl (λ e. apart c (subst (λ n. Have ms n c) e has)) later.0, later.1)
+    (ap (λ o. match_ordering o (get_member name ms) (Some d) (get_member name ms)) same ∙ ap Some (sym is.1), subst IsOrderly (sym is.1) orderly.0)
+member_found name c (member k d ms) order orderly (inr has) =
+    let later = member_found name c ms order.1 orderly.1 has in
+    (passes name k d c ms (slice_cmp nat_cmp name k) refl (not_after k name c ms order.0 has) later.0, later.1)
 
 to_the_member : (name : List ℕ) (d c : Data) → IsOrderly d → HasMember d name c → (step (escaped name) d ≡ Some c) × IsOrderly c
 to_the_member name null c orderly has = let (ms, is, have) = has in none_some ms is
@@ -132,7 +137,7 @@ to_the_member name (array ds) c orderly has = let (ms, is, have) = has in none_s
 to_the_member name (object ns) c orderly has =
     let (ms, is, have) = has in
     let same : ms ≡ ns = cc in
-    let there = member_found name c ns orderly (subst (λ m. Have m name c) same have) in
+    let there = member_found name c ns orderly.0 orderly.1 (subst (λ m. Have m name c) same have) in
     (ap (λ t. get_member t ns) (name_back name) ∙ there.0, there.1)
 
 item_found : (i : ℕ) (c : Data) (ds : Items) → AreOrderly ds → get_item i ds ≡ Some c → (i < items_len ds) × IsOrderly c
@@ -158,23 +163,23 @@ to_the_item i (array es) c orderly has =
 
 -- ---- all steps
 
-abbrev token : Step → List ℕ
+abbrev pub token : Step → List ℕ
 token (to_member name) = escaped name
 token (to_item i) = decimal i
 
-abbrev tokens : List Step → List ℕ
+abbrev pub tokens : List Step → List ℕ
 tokens [] = []
 tokens (x ∷ way) = 47 ∷ (token x ++ tokens way)
 
-spelled_tokens : (way : List Step) (at : List ℕ) → spelled at way ≡ at ++ tokens way
+pub spelled_tokens : (way : List Step) (at : List ℕ) → spelled at way ≡ at ++ tokens way
 spelled_tokens [] at = sym (append-nil at)
 spelled_tokens (to_member name ∷ way) at = spelled_tokens way (under_name at name) ∙ append_assoc at (47 ∷ escaped name) (tokens way)
 spelled_tokens (to_item i ∷ way) at = spelled_tokens way (under_index at i) ∙ append_assoc at (47 ∷ decimal i) (tokens way)
 
-abbrev Took : Step → List Step → Data → Data → Type 0
+abbrev pub Took : Step → List Step → Data → Data → Type 0
 Took x way d part = Lacks 47 (token x) × ((c : Data) × (step (token x) d ≡ Some c) × IsOrderly c × Goes way c part)
 
-took : (x : Step) (way : List Step) (d part : Data) → IsOrderly d → Goes (x ∷ way) d part → Took x way d part
+pub took : (x : Step) (way : List Step) (d part : Data) → IsOrderly d → Goes (x ∷ way) d part → Took x way d part
 took (to_member name) way d part orderly goes =
     let (c, has, more) = goes in
     let there = to_the_member name d c orderly has in
@@ -194,7 +199,7 @@ walks x (y ∷ way) d part orderly goes =
     let (c, there, inner, more) = rest in
     walk_part (token x) (token y ++ tokens way) d lacks ∙ ap (option_and_then (walk [] (token y ++ tokens way))) there ∙ walks y way c part inner more
 
-reads : (way : List Step) (d part : Data) → IsOrderly d → Goes way d part → pointer (tokens way) d ≡ Some part
+pub reads : (way : List Step) (d part : Data) → IsOrderly d → Goes way d part → pointer (tokens way) d ≡ Some part
 reads [] d part orderly same = ap Some same
 reads (x ∷ way) d part orderly goes = walks x way d part orderly goes
 

@@ -4,6 +4,7 @@ use Rattle.serde_json.specs.Data.{Data, null, boolean, number, string, array, ob
 use Rattle.serde_json.specs.Events.{items_len}
 use Rattle.serde_json.specs.Find.{as_array, as_object, get, get_item}
 use Rattle.oci_json_model.specs.Means.{is_object}
+use Rattle.oci_json.specs.Readable.{IsInOrder}
 use Rattle.oci_schema_walks.specs.Places.{under_name, under_index}
 use Rattle.oci_schema_walks.specs.Violations.{Expectation, is_of_kind, a_value, a_member, no_alias, Report}
 
@@ -56,7 +57,7 @@ HoldsAt d at (no_alias alias) =
 abbrev pub IsSo : Data → Report → Type 0
 IsSo d x = HoldsAt d x.0 x.1
 
--- no object has a name twice, and each item has an index of 64 bits
+-- the names of each object are in order, so that none is there twice, and each item has an index of 64 bits
 abbrev mutual
   pub IsOrderly : Data → Type 0
   IsOrderly null = ⊤
@@ -64,7 +65,7 @@ abbrev mutual
   IsOrderly (number n) = ⊤
   IsOrderly (string t) = ⊤
   IsOrderly (array ds) = (items_len ds ≤ 2 ^ 64) × AreOrderly ds
-  IsOrderly (object ms) = HoldOrderly ms
+  IsOrderly (object ms) = IsInOrder ms × HoldOrderly ms
 
   pub AreOrderly : Items → Type 0
   AreOrderly no_items = ⊤
@@ -72,4 +73,4 @@ abbrev mutual
 
   pub HoldOrderly : Members → Type 0
   HoldOrderly no_members = ⊤
-  HoldOrderly (member name d ms) = ((c : Data) → Have ms name c → ⊥) × IsOrderly d × HoldOrderly ms
+  HoldOrderly (member name d ms) = IsOrderly d × HoldOrderly ms

@@ -1,8 +1,10 @@
 pub mod Allows
 pub mod Given
 pub mod Leads
+pub mod Lines
 pub mod Normal
 pub mod Normalized
 pub mod Places
 pub mod Plain
 pub mod Violations
+pub mod Wants

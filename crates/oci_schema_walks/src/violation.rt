@@ -72,6 +72,12 @@ fn record_kind<T: Records>(records: &T, place: usize) -> Kind
 }
 
 impl fmt::Display for Kind {
+    ghost use Rattle.std.specs.Prelude.{Some};
+    ghost use Rattle.oci_schema_walks.specs.Lines.{kind_text};
+    ghost use Rattle.oci_schema_walks.specs.Violations.{value_kind};
+
+    ghost output = { λ x. Some (kind_text (value_kind x)) };
+
     fn fmt<W: fmt::Write>(&self, f: &mut fmt::Formatter<W>) -> fmt::Result {
         match self {
             Kind::Scalar(scalar) => write!(f, "{scalar}"),
@@ -82,11 +88,31 @@ impl fmt::Display for Kind {
 }
 
 impl fmt::Display for Expected {
+    ghost use Rattle.std.specs.Prelude.{Some};
+    ghost use Rattle.oci_schema_walks.specs.Lines.{expectation_text};
+    ghost use Rattle.oci_schema_walks.specs.Violations.{expectation_of};
+
+    ghost output = { λ x. Some (expectation_text (expectation_of x)) };
+
     fn fmt<W: fmt::Write>(&self, f: &mut fmt::Formatter<W>) -> fmt::Result {
         match self {
             Expected::Value(kind) => write!(f, "{kind}"),
             Expected::Member(kind) => write!(f, "required member is missing ({kind})"),
             Expected::NoAlias(alias) => write!(f, "no member {alias} beside it"),
         }
+    }
+}
+
+impl fmt::Display for Violation {
+    ghost use Rattle.std.specs.Prelude.{Some};
+    ghost use Rattle.oci_schema_walks.specs.Lines.{line};
+    ghost use Rattle.oci_schema_walks.specs.Violations.{reported};
+
+    ghost output = { λ x. Some (line (reported x)) };
+
+    fn fmt<W: fmt::Write>(&self, f: &mut fmt::Formatter<W>) -> fmt::Result {
+        let pointer = self.pointer.as_str();
+        let expected = self.expected;
+        write!(f, "{pointer}: {expected}")
     }
 }

@@ -33,7 +33,8 @@ impl LinuxCpuBuilder {
         }
     }
 
-    /// Sets `quota`: the time in microseconds that all tasks together may run in one period; a negative one is no limit.
+    /// Sets `quota`: the time in microseconds that all tasks together may run in one period; a negative one is no limit. If positive, it
+    /// MUST be no smaller than `burst`; not checked here.
     pub fn quota(self, quota: i64) -> Self
         ensures { result ≡ record self { quota = Some quota } }
     {
@@ -43,7 +44,7 @@ impl LinuxCpuBuilder {
         }
     }
 
-    /// Sets `idle`: whether the tasks run only where nothing else does: 1 for that, 0 for the usual order.
+    /// Sets `idle`: whether the tasks run only where nothing else does: 1 for that, 0 for the usual order. Other numbers are read too.
     pub fn idle(self, idle: i64) -> Self
         ensures { result ≡ record self { idle = Some idle } }
     {
@@ -53,7 +54,8 @@ impl LinuxCpuBuilder {
         }
     }
 
-    /// Sets `burst`: the unused time in microseconds that may be saved up and run beyond the quota in one period.
+    /// Sets `burst`: the unused time in microseconds that may be saved up and run beyond the quota in one period. It MUST be no larger than
+    /// a positive `quota`; not checked here.
     pub fn burst(self, burst: u64) -> Self
         ensures { result ≡ record self { burst = Some burst } }
     {
@@ -93,7 +95,8 @@ impl LinuxCpuBuilder {
         }
     }
 
-    /// Sets `cpus`: the processors that the container may run on, as `0-3,7`; all of them where none is given.
+    /// Sets `cpus`: the CPUs that the container may run on, a list as `0-3,7`; all of them where none is given. The form is not checked
+    /// here.
     pub fn cpus(self, cpus: String) -> Self
         ensures { result ≡ record self { cpus = Some cpus } }
     {
@@ -103,7 +106,8 @@ impl LinuxCpuBuilder {
         }
     }
 
-    /// Sets `mems`: the memory nodes that the container may use, as `0-3,7`; all of them where none is given.
+    /// Sets `mems`: the memory nodes that the container may use, a list as `0-3,7`; all of them where none is given. The form is not
+    /// checked here.
     pub fn mems(self, mems: String) -> Self
         ensures { result ≡ record self { mems = Some mems } }
     {

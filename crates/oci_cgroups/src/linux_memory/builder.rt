@@ -53,7 +53,7 @@ impl LinuxMemoryBuilder {
         }
     }
 
-    /// Sets `kernel`: the limit of the kernel's memory in bytes, which the specification advises against; -1 is no limit.
+    /// Sets `kernel`: the limit of the kernel's memory in bytes; -1 is no limit. The specification has it as NOT RECOMMENDED.
     pub fn kernel(self, kernel: i64) -> Self
         ensures { result ≡ record self { kernel = Some kernel } }
     {
@@ -63,7 +63,7 @@ impl LinuxMemoryBuilder {
         }
     }
 
-    /// Sets `kernel_tcp`: the limit of the kernel's buffers for TCP in bytes, which the specification advises against; -1 is no limit.
+    /// Sets `kernel_tcp`: the limit of the kernel's buffers for TCP in bytes; -1 is no limit. The specification has it as NOT RECOMMENDED.
     pub fn kernel_tcp(self, kernel_tcp: i64) -> Self
         ensures { result ≡ record self { kernel_tcp = Some kernel_tcp } }
     {
@@ -73,7 +73,7 @@ impl LinuxMemoryBuilder {
         }
     }
 
-    /// Sets `swappiness`: how readily the kernel swaps pages out, from 0 to 100.
+    /// Sets `swappiness`: how readily the kernel swaps pages out, from 0 to 100. The range is not checked here.
     pub fn swappiness(self, swappiness: u64) -> Self
         ensures { result ≡ record self { swappiness = Some swappiness } }
     {
@@ -103,7 +103,8 @@ impl LinuxMemoryBuilder {
         }
     }
 
-    /// Sets `check_before_update`: whether a new limit that is lower than what is in use is to be refused.
+    /// Sets `check_before_update`: whether a runtime that updates the container MAY compare a new limit with what is in use; if it does, it
+    /// MUST refuse a lower one.
     pub fn check_before_update(self, check_before_update: bool) -> Self
         ensures { result ≡ record self { check_before_update = Some check_before_update } }
     {

@@ -31,7 +31,7 @@ pub struct LinuxResourcesBuilder {
 impl LinuxResourcesBuilder {
     ghost use Rattle.std.specs.Prelude.{Some};
 
-    /// Sets `devices`: the rules for devices, which are applied in their order.
+    /// Sets `devices`: the rules for devices. A runtime MUST apply them in their order.
     pub fn devices(self, devices: Vec<LinuxDeviceCgroup>) -> Self
         ensures { result ≡ record self { devices = Some devices } }
     {
@@ -111,7 +111,8 @@ impl LinuxResourcesBuilder {
         }
     }
 
-    /// Sets `unified`: what is written to files of the unified hierarchy (version 2), by the files' names.
+    /// Sets `unified`: what is written to files of the unified hierarchy (cgroup v2), by the files' names. A runtime MUST write entries
+    /// that it does not know, too.
     pub fn unified(self, unified: BTreeMap<String, String>) -> Self
         ensures { result ≡ record self { unified = Some unified } }
     {

@@ -33,7 +33,8 @@ pub struct LinuxFeatureBuilder {
 impl LinuxFeatureBuilder {
     ghost use Rattle.std.specs.Prelude.{Some};
 
-    /// Sets `namespaces`: the kinds of namespaces that the runtime knows; none where they are not known.
+    /// Sets `namespaces`: the kinds of namespaces that the runtime knows; it MUST recognize them in `config.json`. None where they are not
+    /// known.
     pub fn namespaces(self, namespaces: Vec<LinuxNamespaceType>) -> Self
         ensures { result ≡ record self { namespaces = Some namespaces } }
     {
@@ -43,7 +44,8 @@ impl LinuxFeatureBuilder {
         }
     }
 
-    /// Sets `capabilities`: the capabilities that the runtime knows, as `CAP_SYS_ADMIN`; none where they are not known.
+    /// Sets `capabilities`: the capabilities that the runtime knows, as `CAP_SYS_ADMIN`; it MUST recognize them in `config.json`. None
+    /// where they are not known.
     pub fn capabilities(self, capabilities: Vec<String>) -> Self
         ensures { result ≡ record self { capabilities = Some capabilities } }
     {

@@ -24,7 +24,8 @@ pub struct ConfigBuilder {
 impl ConfigBuilder {
     ghost use Rattle.std.specs.Prelude.{Some};
 
-    /// Sets `user`: the user, and the group behind a colon, that the container's process runs as.
+    /// Sets `user`: the user that the process runs as unless the container sets one: on Linux a name or ID, and that of a group behind a
+    /// colon, as `user:gid`. The format is not checked here.
     pub fn user(self, user: String) -> Self
         ensures { result ≡ record self { user = Some user } }
     {
@@ -34,7 +35,8 @@ impl ConfigBuilder {
         }
     }
 
-    /// Sets `exposed_ports`: the ports that a container exposes, as `8080/tcp`.
+    /// Sets `exposed_ports`: the ports that the container exposes beside its own, each as `port`, `port/tcp` or `port/udp`, of TCP where
+    /// none is named. The format is not checked here.
     pub fn exposed_ports(self, exposed_ports: Vec<String>) -> Self
         ensures { result ≡ record self { exposed_ports = Some exposed_ports } }
     {
@@ -44,7 +46,8 @@ impl ConfigBuilder {
         }
     }
 
-    /// Sets `env`: the environment variables, as `NAME=value`.
+    /// Sets `env`: the environment variables, which are merged with those of the container, each as `NAME=value`. The format is not checked
+    /// here.
     pub fn env(self, env: Vec<String>) -> Self
         ensures { result ≡ record self { env = Some env } }
     {
@@ -54,7 +57,8 @@ impl ConfigBuilder {
         }
     }
 
-    /// Sets `entrypoint`: the arguments that start the process, ahead of those of `cmd`.
+    /// Sets `entrypoint`: the arguments of the command that runs when the container starts, its program first, unless the container sets
+    /// others.
     pub fn entrypoint(self, entrypoint: Vec<String>) -> Self
         ensures { result ≡ record self { entrypoint = Some entrypoint } }
     {
@@ -64,7 +68,8 @@ impl ConfigBuilder {
         }
     }
 
-    /// Sets `cmd`: the default arguments of the process.
+    /// Sets `cmd`: the default arguments of the entrypoint, unless the container sets others. Without `Entrypoint`, the first SHOULD be run
+    /// as the program.
     pub fn cmd(self, cmd: Vec<String>) -> Self
         ensures { result ≡ record self { cmd = Some cmd } }
     {
@@ -74,7 +79,7 @@ impl ConfigBuilder {
         }
     }
 
-    /// Sets `volumes`: the folders that hold data of the container alone.
+    /// Sets `volumes`: the directories in which the process is likely to write data of this container alone.
     pub fn volumes(self, volumes: Vec<String>) -> Self
         ensures { result ≡ record self { volumes = Some volumes } }
     {
@@ -84,7 +89,7 @@ impl ConfigBuilder {
         }
     }
 
-    /// Sets `working_dir`: the folder in which the process starts.
+    /// Sets `working_dir`: the working directory in which the entrypoint starts, unless the container sets one.
     pub fn working_dir(self, working_dir: String) -> Self
         ensures { result ≡ record self { working_dir = Some working_dir } }
     {
@@ -94,7 +99,8 @@ impl ConfigBuilder {
         }
     }
 
-    /// Sets `labels`: labels, by their keys.
+    /// Sets `labels`: any metadata for the container, by its key. The rules of annotations MUST be kept: keys SHOULD be in reverse domain
+    /// notation, and `org.opencontainers` is reserved; not checked here.
     pub fn labels(self, labels: BTreeMap<String, String>) -> Self
         ensures { result ≡ record self { labels = Some labels } }
     {
@@ -104,7 +110,8 @@ impl ConfigBuilder {
         }
     }
 
-    /// Sets `stop_signal`: the signal that asks the process to end, as `SIGKILL`.
+    /// Sets `stop_signal`: the signal that is sent to the container to make it exit, as `SIGKILL` or `SIGRTMIN+3`. That there is one of
+    /// this name is not checked here.
     pub fn stop_signal(self, stop_signal: String) -> Self
         ensures { result ≡ record self { stop_signal = Some stop_signal } }
     {

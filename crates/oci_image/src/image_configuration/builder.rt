@@ -33,7 +33,7 @@ impl ImageConfigurationBuilder {
     ghost use Rattle.oci_json_model.specs.Types.{name_plain};
     ghost use Rattle.oci_image.specs.RootFs.{root_fs_plain, default_root_fs};
 
-    /// Sets `created`: when the image was made, as an RFC 3339 date and time.
+    /// Sets `created`: when the image was created, a date and time by RFC 3339, section 5.6. The format is not checked here.
     pub fn created(self, created: String) -> Self
         ensures { result ≡ record self { created = Some created } }
     {
@@ -43,7 +43,7 @@ impl ImageConfigurationBuilder {
         }
     }
 
-    /// Sets `author`: who made the image.
+    /// Sets `author`: who created the image and maintains it, by name or email address.
     pub fn author(self, author: String) -> Self
         ensures { result ≡ record self { author = Some author } }
     {
@@ -53,7 +53,8 @@ impl ImageConfigurationBuilder {
         }
     }
 
-    /// Sets `architecture`: the processor that the image is for, by its name in Go's `GOARCH` where that lists it.
+    /// Sets `architecture`: the CPU architecture that the image's binaries are built for. SHOULD be a value of Go's `GOARCH`; any other
+    /// string is read as well.
     pub fn architecture(self, architecture: Arch) -> Self
         ensures { result ≡ record self { architecture = Some architecture } }
     {
@@ -63,7 +64,7 @@ impl ImageConfigurationBuilder {
         }
     }
 
-    /// Sets `os`: the operating system that the image is for, by its name in Go's `GOOS` where that lists it.
+    /// Sets `os`: the operating system that the image is built for. SHOULD be a value of Go's `GOOS`; any other string is read as well.
     pub fn os(self, os: Os) -> Self
         ensures { result ≡ record self { os = Some os } }
     {
@@ -73,7 +74,8 @@ impl ImageConfigurationBuilder {
         }
     }
 
-    /// Sets `os_version`: the version of the operating system that the image asks for.
+    /// Sets `os_version`: the version of the operating system that the image targets, as `10.0.14393.1066` on Windows; which there are is
+    /// left to implementations.
     pub fn os_version(self, os_version: String) -> Self
         ensures { result ≡ record self { os_version = Some os_version } }
     {
@@ -83,7 +85,8 @@ impl ImageConfigurationBuilder {
         }
     }
 
-    /// Sets `os_features`: the features of the operating system that the image asks for.
+    /// Sets `os_features`: features of the operating system that the image requires. On Windows they SHOULD be of the specification's list,
+    /// which has `win32k`; not checked here.
     pub fn os_features(self, os_features: Vec<String>) -> Self
         ensures { result ≡ record self { os_features = Some os_features } }
     {
@@ -93,7 +96,8 @@ impl ImageConfigurationBuilder {
         }
     }
 
-    /// Sets `variant`: the variant of the processor.
+    /// Sets `variant`: the variant of the CPU architecture. SHOULD be of the specification's table: `v6`, `v7` or `v8` of `arm`, `v8` of
+    /// `arm64`; not checked here.
     pub fn variant(self, variant: String) -> Self
         ensures { result ≡ record self { variant = Some variant } }
     {
@@ -103,7 +107,8 @@ impl ImageConfigurationBuilder {
         }
     }
 
-    /// Sets `config`: what a container of the image runs with.
+    /// Sets `config`: the execution parameters that SHOULD be the base of the image's containers. Without them, all are given when a
+    /// container is created.
     pub fn config(self, config: Config) -> Self
         ensures { result ≡ record self { config = Some config } }
     {
@@ -113,7 +118,7 @@ impl ImageConfigurationBuilder {
         }
     }
 
-    /// Sets `rootfs`: the layers that make up the image's file system.
+    /// Sets `rootfs`: the layers of the image's file system, by the digests of their uncompressed content.
     pub fn rootfs(self, rootfs: RootFs) -> Self
         ensures { result ≡ record self { rootfs = Some rootfs } }
     {
@@ -123,7 +128,7 @@ impl ImageConfigurationBuilder {
         }
     }
 
-    /// Sets `history`: how the layers came about, the base layer first.
+    /// Sets `history`: what made each layer, the first step first. Steps without a layer are marked `empty_layer`.
     pub fn history(self, history: Vec<History>) -> Self
         ensures { result ≡ record self { history = Some history } }
     {

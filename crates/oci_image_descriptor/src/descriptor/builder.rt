@@ -27,7 +27,7 @@ impl DescriptorBuilder {
     ghost use Rattle.oci_json_model.specs.Built.{IsUnset};
     ghost use Rattle.oci_image_descriptor.specs.DescriptorBuilder.{descriptor_unset};
 
-    /// Sets `media_type`: the media type of the content.
+    /// Sets `media_type`: the media type of the content. MUST be one by RFC 6838, section 4.2; not checked here.
     pub fn media_type(self, media_type: MediaType) -> Self
         ensures { result ≡ record self { media_type = Some media_type } }
     {
@@ -37,7 +37,8 @@ impl DescriptorBuilder {
         }
     }
 
-    /// Sets `digest`: the digest of the content.
+    /// Sets `digest`: the digest of the content, whose grammar is checked. Content from an untrusted source SHOULD be verified against it,
+    /// which is left to the caller.
     pub fn digest(self, digest: Digest) -> Self
         ensures { result ≡ record self { digest = Some digest } }
     {
@@ -47,7 +48,8 @@ impl DescriptorBuilder {
         }
     }
 
-    /// Sets `size`: the size of the content in bytes.
+    /// Sets `size`: the size of the content in bytes, an int64 in the specification; a larger one is not rejected here. Content of another
+    /// length SHOULD NOT be trusted.
     pub fn size(self, size: u64) -> Self
         ensures { result ≡ record self { size = Some size } }
     {
@@ -57,7 +59,7 @@ impl DescriptorBuilder {
         }
     }
 
-    /// Sets `urls`: where the content may be had, as URIs.
+    /// Sets `urls`: where the content may be downloaded. Each MUST be a URI by RFC 3986 and SHOULD use `http` or `https`; not checked here.
     pub fn urls(self, urls: Vec<String>) -> Self
         ensures { result ≡ record self { urls = Some urls } }
     {
@@ -67,7 +69,8 @@ impl DescriptorBuilder {
         }
     }
 
-    /// Sets `annotations`: annotations, by their keys.
+    /// Sets `annotations`: any metadata for the descriptor, by its key. Keys SHOULD be in reverse domain notation, and `org.opencontainers`
+    /// is reserved; not checked here.
     pub fn annotations(self, annotations: BTreeMap<String, String>) -> Self
         ensures { result ≡ record self { annotations = Some annotations } }
     {
@@ -77,7 +80,7 @@ impl DescriptorBuilder {
         }
     }
 
-    /// Sets `platform`: the platform that the content is for.
+    /// Sets `platform`: the platform that the content needs. SHOULD be set where the content is an image manifest; not checked here.
     pub fn platform(self, platform: Platform) -> Self
         ensures { result ≡ record self { platform = Some platform } }
     {
@@ -87,7 +90,8 @@ impl DescriptorBuilder {
         }
     }
 
-    /// Sets `artifact_type`: the type of the artifact that the content is.
+    /// Sets `artifact_type`: the type of the artifact that the content is; of an image manifest, the media type of its `config`. MUST be
+    /// one by RFC 6838, section 4.2; not checked here.
     pub fn artifact_type(self, artifact_type: MediaType) -> Self
         ensures { result ≡ record self { artifact_type = Some artifact_type } }
     {
@@ -97,7 +101,8 @@ impl DescriptorBuilder {
         }
     }
 
-    /// Sets `data`: the content itself, in base64.
+    /// Sets `data`: the content itself, in Base64 (RFC 4648, section 4). What it decodes to MUST be the content of `digest` and `size`; not
+    /// checked here.
     pub fn data(self, data: String) -> Self
         ensures { result ≡ record self { embedded_data = Some «data» } }
     {

@@ -26,7 +26,7 @@ impl ImageManifestBuilder {
     ghost use Rattle.oci_json_model.specs.Built.{IsUnset};
     ghost use Rattle.oci_image_manifest.specs.ImageManifestBuilder.{image_manifest_unset};
 
-    /// Sets `schema_version`: the version of the manifest's schema. The specification requires 2; this library does not check it.
+    /// Sets `schema_version`: the manifest schema version. MUST be 2; not checked here.
     pub fn schema_version(self, schema_version: u32) -> Self
         ensures { result ≡ record self { schema_version = Some schema_version } }
     {
@@ -36,7 +36,8 @@ impl ImageManifestBuilder {
         }
     }
 
-    /// Sets `media_type`: the media type of the manifest itself.
+    /// Sets `media_type`: the media type of the manifest itself. SHOULD be set, and MUST then be
+    /// `application/vnd.oci.image.manifest.v1+json`; not checked here.
     pub fn media_type(self, media_type: MediaType) -> Self
         ensures { result ≡ record self { media_type = Some media_type } }
     {
@@ -46,7 +47,8 @@ impl ImageManifestBuilder {
         }
     }
 
-    /// Sets `artifact_type`: the type of the artifact, where the manifest is used for one.
+    /// Sets `artifact_type`: the type of the artifact, where the manifest is used for one. MUST be set where `config` is the empty
+    /// descriptor, to a media type by RFC 6838, section 4.2; not checked here.
     pub fn artifact_type(self, artifact_type: MediaType) -> Self
         ensures { result ≡ record self { artifact_type = Some artifact_type } }
     {
@@ -56,7 +58,8 @@ impl ImageManifestBuilder {
         }
     }
 
-    /// Sets `config`: the descriptor of the configuration.
+    /// Sets `config`: the descriptor of the configuration. For an image its media type SHOULD be
+    /// `application/vnd.oci.image.config.v1+json`; not checked here.
     pub fn config(self, config: Descriptor) -> Self
         ensures { result ≡ record self { config = Some config } }
     {
@@ -66,7 +69,8 @@ impl ImageManifestBuilder {
         }
     }
 
-    /// Sets `layers`: the descriptors of the layers, the base layer first.
+    /// Sets `layers`: the descriptors of the layers, the base layer first. SHOULD have at least one, with a media type of the
+    /// specification; not checked here.
     pub fn layers(self, layers: Vec<Descriptor>) -> Self
         ensures { result ≡ record self { layers = Some layers } }
     {
@@ -76,7 +80,8 @@ impl ImageManifestBuilder {
         }
     }
 
-    /// Sets `subject`: the descriptor of another manifest, to which this one is related.
+    /// Sets `subject`: the descriptor of another manifest to which this manifest is related. Registries list it among that manifest's
+    /// referrers.
     pub fn subject(self, subject: Descriptor) -> Self
         ensures { result ≡ record self { subject = Some subject } }
     {
@@ -86,7 +91,8 @@ impl ImageManifestBuilder {
         }
     }
 
-    /// Sets `annotations`: annotations, by their keys.
+    /// Sets `annotations`: any metadata for the manifest, by its key. Keys SHOULD be in reverse domain notation, and `org.opencontainers`
+    /// is reserved; not checked here.
     pub fn annotations(self, annotations: BTreeMap<String, String>) -> Self
         ensures { result ≡ record self { annotations = Some annotations } }
     {

@@ -58,7 +58,7 @@ impl LinuxBuilder {
         }
     }
 
-    /// Sets `uid_mappings`: the mappings of the container's user IDs to those of the host.
+    /// Sets `uid_mappings`: the mappings of the container's user IDs to those of the host, for a user namespace.
     pub fn uid_mappings(self, uid_mappings: Vec<LinuxIdMapping>) -> Self
         ensures { result ≡ record self { uid_mappings = Some uid_mappings } }
     {
@@ -68,7 +68,7 @@ impl LinuxBuilder {
         }
     }
 
-    /// Sets `gid_mappings`: the mappings of the container's group IDs to those of the host.
+    /// Sets `gid_mappings`: the mappings of the container's group IDs to those of the host, for a user namespace.
     pub fn gid_mappings(self, gid_mappings: Vec<LinuxIdMapping>) -> Self
         ensures { result ≡ record self { gid_mappings = Some gid_mappings } }
     {
@@ -98,7 +98,8 @@ impl LinuxBuilder {
         }
     }
 
-    /// Sets `cgroups_path`: the path of the container's control group: from where these are mounted if it is absolute, else from where the runtime chooses.
+    /// Sets `cgroups_path`: the path of the container's control group: from where these are mounted if it is absolute, else from where the
+    /// runtime chooses. A runtime MUST attach to the same place each time it is given the same path.
     pub fn cgroups_path(self, cgroups_path: String) -> Self
         ensures { result ≡ record self { cgroups_path = Some cgroups_path } }
     {
@@ -108,7 +109,8 @@ impl LinuxBuilder {
         }
     }
 
-    /// Sets `namespaces`: the namespaces that the container has of its own or joins.
+    /// Sets `namespaces`: the namespaces that the container has of its own or joins; where a type is absent it MUST inherit that of the
+    /// runtime. A runtime MUST refuse a type that stands twice; not checked here.
     pub fn namespaces(self, namespaces: Vec<LinuxNamespace>) -> Self
         ensures { result ≡ record self { namespaces = Some namespaces } }
     {
@@ -118,7 +120,7 @@ impl LinuxBuilder {
         }
     }
 
-    /// Sets `devices`: the device files that the container has.
+    /// Sets `devices`: the device files that MUST be available in the container, beside the default ones that each runtime MUST supply.
     pub fn devices(self, devices: Vec<LinuxDevice>) -> Self
         ensures { result ≡ record self { devices = Some devices } }
     {
@@ -138,7 +140,8 @@ impl LinuxBuilder {
         }
     }
 
-    /// Sets `rootfs_propagation`: how mounts below the container's root are passed on: `shared`, `slave`, `private` or `unbindable`.
+    /// Sets `rootfs_propagation`: how mounts below the container's root are passed on: `shared`, `slave`, `private` or `unbindable`. Any
+    /// string is read.
     pub fn rootfs_propagation(self, rootfs_propagation: String) -> Self
         ensures { result ≡ record self { rootfs_propagation = Some rootfs_propagation } }
     {
@@ -148,7 +151,7 @@ impl LinuxBuilder {
         }
     }
 
-    /// Sets `masked_paths`: the absolute paths that the container cannot read.
+    /// Sets `masked_paths`: the paths that the container cannot read. They MUST be absolute, in the container; not checked here.
     pub fn masked_paths(self, masked_paths: Vec<String>) -> Self
         ensures { result ≡ record self { masked_paths = Some masked_paths } }
     {
@@ -158,7 +161,7 @@ impl LinuxBuilder {
         }
     }
 
-    /// Sets `readonly_paths`: the absolute paths that the container cannot write to.
+    /// Sets `readonly_paths`: the paths that the container cannot write to. They MUST be absolute, in the container; not checked here.
     pub fn readonly_paths(self, readonly_paths: Vec<String>) -> Self
         ensures { result ≡ record self { readonly_paths = Some readonly_paths } }
     {
@@ -178,7 +181,8 @@ impl LinuxBuilder {
         }
     }
 
-    /// Sets `intel_rdt`: the container's share of the processor's caches and memory bandwidth.
+    /// Sets `intel_rdt`: the container's share of the processor's caches and memory bandwidth. A runtime MUST NOT touch `resctrl` where it
+    /// is absent.
     pub fn intel_rdt(self, intel_rdt: LinuxIntelRdt) -> Self
         ensures { result ≡ record self { intel_rdt = Some intel_rdt } }
     {

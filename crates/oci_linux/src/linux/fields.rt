@@ -41,7 +41,7 @@ impl Linux {
         self
     }
 
-    /// The mappings of the container's user IDs to those of the host.
+    /// The mappings of the container's user IDs to those of the host, for a user namespace.
     pub fn uid_mappings(&self) -> &Option<Vec<LinuxIdMapping>>
         ensures { result.now ≡ self.now.uid_mappings }
     {
@@ -65,7 +65,7 @@ impl Linux {
         self
     }
 
-    /// The mappings of the container's group IDs to those of the host.
+    /// The mappings of the container's group IDs to those of the host, for a user namespace.
     pub fn gid_mappings(&self) -> &Option<Vec<LinuxIdMapping>>
         ensures { result.now ≡ self.now.gid_mappings }
     {
@@ -137,7 +137,8 @@ impl Linux {
         self
     }
 
-    /// The path of the container's control group: from where these are mounted if it is absolute, else from where the runtime chooses.
+    /// The path of the container's control group: from where these are mounted if it is absolute, else from where the runtime chooses. A
+    /// runtime MUST attach to the same place each time it is given the same path.
     pub fn cgroups_path(&self) -> &Option<String>
         ensures { result.now ≡ self.now.cgroups_path }
     {
@@ -161,7 +162,8 @@ impl Linux {
         self
     }
 
-    /// The namespaces that the container has of its own or joins.
+    /// The namespaces that the container has of its own or joins; where a type is absent it MUST inherit that of the runtime. A runtime
+    /// MUST refuse a type that stands twice; not checked here.
     pub fn namespaces(&self) -> &Option<Vec<LinuxNamespace>>
         ensures { result.now ≡ self.now.namespaces }
     {
@@ -185,7 +187,7 @@ impl Linux {
         self
     }
 
-    /// The device files that the container has.
+    /// The device files that MUST be available in the container, beside the default ones that each runtime MUST supply.
     pub fn devices(&self) -> &Option<Vec<LinuxDevice>>
         ensures { result.now ≡ self.now.devices }
     {
@@ -233,7 +235,7 @@ impl Linux {
         self
     }
 
-    /// How mounts below the container's root are passed on: `shared`, `slave`, `private` or `unbindable`.
+    /// How mounts below the container's root are passed on: `shared`, `slave`, `private` or `unbindable`. Any string is read.
     pub fn rootfs_propagation(&self) -> &Option<String>
         ensures { result.now ≡ self.now.rootfs_propagation }
     {
@@ -257,7 +259,7 @@ impl Linux {
         self
     }
 
-    /// The absolute paths that the container cannot read.
+    /// The paths that the container cannot read. They MUST be absolute, in the container; not checked here.
     pub fn masked_paths(&self) -> &Option<Vec<String>>
         ensures { result.now ≡ self.now.masked_paths }
     {
@@ -281,7 +283,7 @@ impl Linux {
         self
     }
 
-    /// The absolute paths that the container cannot write to.
+    /// The paths that the container cannot write to. They MUST be absolute, in the container; not checked here.
     pub fn readonly_paths(&self) -> &Option<Vec<String>>
         ensures { result.now ≡ self.now.readonly_paths }
     {
@@ -329,7 +331,7 @@ impl Linux {
         self
     }
 
-    /// The container's share of the processor's caches and memory bandwidth.
+    /// The container's share of the processor's caches and memory bandwidth. A runtime MUST NOT touch `resctrl` where it is absent.
     pub fn intel_rdt(&self) -> &Option<LinuxIntelRdt>
         ensures { result.now ≡ self.now.intel_rdt }
     {

@@ -46,7 +46,7 @@ impl ProcessBuilder {
     ghost use Rattle.oci_process.specs.LinuxCapabilities.{linux_capabilities_plain, default_linux_capabilities};
     ghost use Rattle.oci_process.specs.PosixRlimit.{posix_rlimit_plain};
 
-    /// Sets `terminal`: whether the process has a terminal.
+    /// Sets `terminal`: whether a terminal is attached to the process; false where not given.
     pub fn terminal(self, terminal: bool) -> Self
         ensures { result ≡ record self { terminal = Some terminal } }
     {
@@ -56,7 +56,7 @@ impl ProcessBuilder {
         }
     }
 
-    /// Sets `console_size`: the size of the terminal.
+    /// Sets `console_size`: the size of the terminal. Runtimes MUST ignore it unless `terminal` is true.
     pub fn console_size(self, console_size: Box) -> Self
         ensures { result ≡ record self { console_size = Some console_size } }
     {
@@ -66,7 +66,7 @@ impl ProcessBuilder {
         }
     }
 
-    /// Sets `user`: the user that the process runs as.
+    /// Sets `user`: the user and groups that the process runs as.
     pub fn user(self, user: User) -> Self
         ensures { result ≡ record self { user = Some user } }
     {
@@ -76,7 +76,8 @@ impl ProcessBuilder {
         }
     }
 
-    /// Sets `args`: the program and its arguments.
+    /// Sets `args`: the program and its arguments, as the `argv` of execvp(3). On other platforms than Windows at least one entry is
+    /// REQUIRED; not checked here.
     pub fn args(self, args: Vec<String>) -> Self
         ensures { result ≡ record self { args = Some args } }
     {
@@ -86,7 +87,8 @@ impl ProcessBuilder {
         }
     }
 
-    /// Sets `command_line`: the whole command line, for Windows; `args` are used where none is given.
+    /// Sets `command_line`: the whole command line, on Windows. REQUIRED there if `args` is absent, which is not checked here; without it
+    /// the runtime escapes and joins `args`.
     pub fn command_line(self, command_line: String) -> Self
         ensures { result ≡ record self { command_line = Some command_line } }
     {
@@ -96,7 +98,7 @@ impl ProcessBuilder {
         }
     }
 
-    /// Sets `env`: the environment variables, as `NAME=value`.
+    /// Sets `env`: the environment variables, each as `NAME=value`. The format is not checked here.
     pub fn env(self, env: Vec<String>) -> Self
         ensures { result ≡ record self { env = Some env } }
     {
@@ -106,7 +108,7 @@ impl ProcessBuilder {
         }
     }
 
-    /// Sets `cwd`: the folder in which the process starts, an absolute path in the container.
+    /// Sets `cwd`: the working directory of the process. MUST be an absolute path; not checked here.
     pub fn cwd(self, cwd: String) -> Self
         ensures { result ≡ record self { cwd = Some cwd } }
     {
@@ -116,7 +118,8 @@ impl ProcessBuilder {
         }
     }
 
-    /// Sets `capabilities`: the capabilities of the process.
+    /// Sets `capabilities`: the capabilities of the process, on Linux. A name that is no capability is rejected, where a runtime MUST only
+    /// log a warning.
     pub fn capabilities(self, capabilities: LinuxCapabilities) -> Self
         ensures { result ≡ record self { capabilities = Some capabilities } }
     {
@@ -126,7 +129,7 @@ impl ProcessBuilder {
         }
     }
 
-    /// Sets `rlimits`: the limits on what the process may use, each kind once.
+    /// Sets `rlimits`: the resource limits of the process. A runtime MUST reject two of one `type`; not checked here.
     pub fn rlimits(self, rlimits: Vec<PosixRlimit>) -> Self
         ensures { result ≡ record self { rlimits = Some rlimits } }
     {
@@ -136,7 +139,7 @@ impl ProcessBuilder {
         }
     }
 
-    /// Sets `no_new_privileges`: whether the process is kept from gaining privileges.
+    /// Sets `no_new_privileges`: whether the process is kept from gaining privileges, on Linux by `no_new_privs`.
     pub fn no_new_privileges(self, no_new_privileges: bool) -> Self
         ensures { result ≡ record self { no_new_privileges = Some no_new_privileges } }
     {
@@ -146,7 +149,7 @@ impl ProcessBuilder {
         }
     }
 
-    /// Sets `apparmor_profile`: the name of the process's AppArmor profile.
+    /// Sets `apparmor_profile`: the name of the process's AppArmor profile, on Linux.
     pub fn apparmor_profile(self, apparmor_profile: String) -> Self
         ensures { result ≡ record self { apparmor_profile = Some apparmor_profile } }
     {
@@ -156,7 +159,8 @@ impl ProcessBuilder {
         }
     }
 
-    /// Sets `oom_score_adj`: how readily the kernel ends the process where memory is short, from -1000, which is never, to 1000.
+    /// Sets `oom_score_adj`: the `oom_score_adj` of the process, from -1000, never killed, to 1000, which a runtime MUST set if given and
+    /// else MUST NOT change. The range is not checked here.
     pub fn oom_score_adj(self, oom_score_adj: i32) -> Self
         ensures { result ≡ record self { oom_score_adj = Some oom_score_adj } }
     {
@@ -166,7 +170,7 @@ impl ProcessBuilder {
         }
     }
 
-    /// Sets `selinux_label`: the SELinux label of the process.
+    /// Sets `selinux_label`: the SELinux label of the process, on Linux.
     pub fn selinux_label(self, selinux_label: String) -> Self
         ensures { result ≡ record self { selinux_label = Some selinux_label } }
     {
@@ -176,7 +180,7 @@ impl ProcessBuilder {
         }
     }
 
-    /// Sets `io_priority`: how soon the process's input and output is served.
+    /// Sets `io_priority`: the I/O priority of the container's processes, on Linux.
     pub fn io_priority(self, io_priority: LinuxIOPriority) -> Self
         ensures { result ≡ record self { io_priority = Some io_priority } }
     {
@@ -186,7 +190,7 @@ impl ProcessBuilder {
         }
     }
 
-    /// Sets `scheduler`: when the process may run.
+    /// Sets `scheduler`: the scheduling policy of the process and its parameters, on Linux.
     pub fn scheduler(self, scheduler: Scheduler) -> Self
         ensures { result ≡ record self { scheduler = Some scheduler } }
     {
@@ -196,7 +200,8 @@ impl ProcessBuilder {
         }
     }
 
-    /// Sets `exec_cpu_affinity`: the processors on which a program runs that is started in the running container.
+    /// Sets `exec_cpu_affinity`: the CPUs of a program that is started in the running container, on Linux; not those of the container's
+    /// first process.
     pub fn exec_cpu_affinity(self, exec_cpu_affinity: ExecCPUAffinity) -> Self
         ensures { result ≡ record self { exec_cpu_affinity = Some exec_cpu_affinity } }
     {

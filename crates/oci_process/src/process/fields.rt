@@ -15,7 +15,7 @@ impl Process {
     ghost use Rattle.std.specs.Borrow.{sem};
     ghost use Rattle.oci_process.specs.Process.{lends_user, lends_command_line, lends_env};
 
-    /// Whether the process has a terminal.
+    /// Whether a terminal is attached to the process; false where not given.
     pub fn terminal(&self) -> Option<bool>
         ensures { result ≡ self.now.terminal }
     {
@@ -31,7 +31,7 @@ impl Process {
         self
     }
 
-    /// The size of the terminal.
+    /// The size of the terminal. Runtimes MUST ignore it unless `terminal` is true.
     pub fn console_size(&self) -> Option<Box>
         ensures { result ≡ self.now.console_size }
     {
@@ -47,7 +47,7 @@ impl Process {
         self
     }
 
-    /// The user that the process runs as.
+    /// The user and groups that the process runs as.
     pub fn user(&self) -> &User
         ensures { result.now ≡ self.now.user }
     {
@@ -71,7 +71,8 @@ impl Process {
         self
     }
 
-    /// The program and its arguments.
+    /// The program and its arguments, as the `argv` of execvp(3). On other platforms than Windows at least one entry is REQUIRED; not
+    /// checked here.
     pub fn args(&self) -> &Option<Vec<String>>
         ensures { result.now ≡ self.now.args }
     {
@@ -87,7 +88,8 @@ impl Process {
         self
     }
 
-    /// The whole command line, for Windows; `args` are used where none is given.
+    /// The whole command line, on Windows. REQUIRED there if `args` is absent, which is not checked here; without it the runtime escapes
+    /// and joins `args`.
     pub fn command_line(&self) -> &Option<String>
         ensures { result.now ≡ self.now.command_line }
     {
@@ -111,7 +113,7 @@ impl Process {
         self
     }
 
-    /// The environment variables, as `NAME=value`.
+    /// The environment variables, each as `NAME=value`. The format is not checked here.
     pub fn env(&self) -> &Option<Vec<String>>
         ensures { result.now ≡ self.now.env }
     {
@@ -135,7 +137,7 @@ impl Process {
         self
     }
 
-    /// The folder in which the process starts, an absolute path in the container.
+    /// The working directory of the process. MUST be an absolute path; not checked here.
     pub fn cwd(&self) -> &String
         ensures { result.now ≡ self.now.cwd }
     {
@@ -151,7 +153,7 @@ impl Process {
         self
     }
 
-    /// The capabilities of the process.
+    /// The capabilities of the process, on Linux. A name that is no capability is rejected, where a runtime MUST only log a warning.
     pub fn capabilities(&self) -> &Option<LinuxCapabilities>
         ensures { result.now ≡ self.now.capabilities }
     {
@@ -167,7 +169,7 @@ impl Process {
         self
     }
 
-    /// The limits on what the process may use, each kind once.
+    /// The resource limits of the process. A runtime MUST reject two of one `type`; not checked here.
     pub fn rlimits(&self) -> &Option<Vec<PosixRlimit>>
         ensures { result.now ≡ self.now.rlimits }
     {
@@ -183,7 +185,7 @@ impl Process {
         self
     }
 
-    /// Whether the process is kept from gaining privileges.
+    /// Whether the process is kept from gaining privileges, on Linux by `no_new_privs`.
     pub fn no_new_privileges(&self) -> Option<bool>
         ensures { result ≡ self.now.no_new_privileges }
     {
@@ -199,7 +201,7 @@ impl Process {
         self
     }
 
-    /// The name of the process's AppArmor profile.
+    /// The name of the process's AppArmor profile, on Linux.
     pub fn apparmor_profile(&self) -> &Option<String>
         ensures { result.now ≡ self.now.apparmor_profile }
     {
@@ -215,7 +217,8 @@ impl Process {
         self
     }
 
-    /// How readily the kernel ends the process where memory is short, from -1000, which is never, to 1000.
+    /// The `oom_score_adj` of the process, from -1000, never killed, to 1000, which a runtime MUST set if given and else MUST NOT change.
+    /// The range is not checked here.
     pub fn oom_score_adj(&self) -> Option<i32>
         ensures { result ≡ self.now.oom_score_adj }
     {
@@ -231,7 +234,7 @@ impl Process {
         self
     }
 
-    /// The SELinux label of the process.
+    /// The SELinux label of the process, on Linux.
     pub fn selinux_label(&self) -> &Option<String>
         ensures { result.now ≡ self.now.selinux_label }
     {
@@ -247,7 +250,7 @@ impl Process {
         self
     }
 
-    /// How soon the process's input and output is served.
+    /// The I/O priority of the container's processes, on Linux.
     pub fn io_priority(&self) -> &Option<LinuxIOPriority>
         ensures { result.now ≡ self.now.io_priority }
     {
@@ -263,7 +266,7 @@ impl Process {
         self
     }
 
-    /// When the process may run.
+    /// The scheduling policy of the process and its parameters, on Linux.
     pub fn scheduler(&self) -> &Option<Scheduler>
         ensures { result.now ≡ self.now.scheduler }
     {
@@ -279,7 +282,7 @@ impl Process {
         self
     }
 
-    /// The processors on which a program runs that is started in the running container.
+    /// The CPUs of a program that is started in the running container, on Linux; not those of the container's first process.
     pub fn exec_cpu_affinity(&self) -> &Option<ExecCPUAffinity>
         ensures { result.now ≡ self.now.exec_cpu_affinity }
     {

@@ -15,7 +15,8 @@ impl Spec {
     ghost use Rattle.std.specs.Borrow.{sem};
     ghost use Rattle.oci_runtime_spec.specs.Spec.{lends_version, lends_root, lends_mounts, lends_process, lends_hostname, lends_domainname, lends_hooks, lends_annotations, lends_linux, lends_solaris, lends_windows, lends_vm, lends_zos, lends_uid_mappings, lends_gid_mappings};
 
-    /// The version of the runtime specification that the bundle keeps to.
+    /// The version of the runtime specification with which the bundle complies. REQUIRED, and MUST be in the format of SemVer 2.0.0, which
+    /// is not checked here; absent, it is read as empty.
     pub fn version(&self) -> &String
         ensures { result.now ≡ self.now.version }
     {
@@ -39,7 +40,7 @@ impl Spec {
         self
     }
 
-    /// The root of the container's file system.
+    /// The container's root file system. REQUIRED, but for Hyper-V containers it MUST NOT be set; not checked here.
     pub fn root(&self) -> &Option<Root>
         ensures { result.now ≡ self.now.root }
     {
@@ -63,7 +64,7 @@ impl Spec {
         self
     }
 
-    /// The mounts that the container has beside its root, in the order in which they are made.
+    /// The mounts beside the root, which runtimes MUST make in the listed order.
     pub fn mounts(&self) -> &Option<Vec<Mount>>
         ensures { result.now ≡ self.now.mounts }
     {
@@ -87,7 +88,7 @@ impl Spec {
         self
     }
 
-    /// The program that the container runs, and what it runs with.
+    /// The container's process. REQUIRED when the container is started; not checked here.
     pub fn process(&self) -> &Option<Process>
         ensures { result.now ≡ self.now.process }
     {
@@ -111,7 +112,7 @@ impl Spec {
         self
     }
 
-    /// The name of the host, as the container sees it.
+    /// The host name that processes in the container see. On Linux it is set in the container's UTS namespace.
     pub fn hostname(&self) -> &Option<String>
         ensures { result.now ≡ self.now.hostname }
     {
@@ -135,7 +136,7 @@ impl Spec {
         self
     }
 
-    /// The name of the host's domain, as the container sees it.
+    /// The domain name that processes in the container see. On Linux it is set in the container's UTS namespace.
     pub fn domainname(&self) -> &Option<String>
         ensures { result.now ≡ self.now.domainname }
     {
@@ -159,7 +160,7 @@ impl Spec {
         self
     }
 
-    /// The programs that are run at the turns of the container's life.
+    /// The programs that are run at events of the container's lifecycle, on POSIX platforms.
     pub fn hooks(&self) -> &Option<Hooks>
         ensures { result.now ≡ self.now.hooks }
     {
@@ -183,7 +184,8 @@ impl Spec {
         self
     }
 
-    /// Annotations, by their keys.
+    /// Any metadata for the container, by its key. Keys MUST NOT be empty and SHOULD be in reverse domain notation, and
+    /// `org.opencontainers` is reserved; not checked here.
     pub fn annotations(&self) -> &Option<BTreeMap<String, String>>
         ensures { result.now ≡ self.now.annotations }
     {
@@ -207,7 +209,7 @@ impl Spec {
         self
     }
 
-    /// What only a Linux container has.
+    /// The configuration for Linux. MAY be set if that is the target platform.
     pub fn linux(&self) -> &Option<Linux>
         ensures { result.now ≡ self.now.linux }
     {
@@ -231,7 +233,7 @@ impl Spec {
         self
     }
 
-    /// What only a Solaris container has.
+    /// The configuration for Solaris. MAY be set if that is the target platform.
     pub fn solaris(&self) -> &Option<Solaris>
         ensures { result.now ≡ self.now.solaris }
     {
@@ -255,7 +257,7 @@ impl Spec {
         self
     }
 
-    /// What only a Windows container has.
+    /// The configuration for Windows. MUST be set if that is the target platform; not checked here.
     pub fn windows(&self) -> &Option<Windows>
         ensures { result.now ≡ self.now.windows }
     {
@@ -279,7 +281,7 @@ impl Spec {
         self
     }
 
-    /// The virtual machine that the container runs in.
+    /// The configuration of a virtual machine. MAY be set if the target platform and architecture support hardware virtualization.
     pub fn vm(&self) -> &Option<VM>
         ensures { result.now ≡ self.now.vm }
     {
@@ -303,7 +305,7 @@ impl Spec {
         self
     }
 
-    /// What only a z/OS container has.
+    /// The configuration for z/OS. MAY be set if that is the target platform.
     pub fn zos(&self) -> &Option<ZOS>
         ensures { result.now ≡ self.now.zos }
     {
@@ -327,7 +329,7 @@ impl Spec {
         self
     }
 
-    /// Mappings of user IDs for mounts (deprecated; a mount has its own).
+    /// Mappings of user IDs for mounts, which the specification does not have (deprecated; a mount has its own).
     pub fn uid_mappings(&self) -> &Option<Vec<LinuxIdMapping>>
         ensures { result.now ≡ self.now.uid_mappings }
     {
@@ -351,7 +353,7 @@ impl Spec {
         self
     }
 
-    /// Mappings of group IDs for mounts (deprecated; a mount has its own).
+    /// Mappings of group IDs for mounts, which the specification does not have (deprecated; a mount has its own).
     pub fn gid_mappings(&self) -> &Option<Vec<LinuxIdMapping>>
         ensures { result.now ≡ self.now.gid_mappings }
     {

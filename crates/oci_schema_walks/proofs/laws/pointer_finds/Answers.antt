@@ -1,5 +1,10 @@
+use Rattle.serde_json.specs.View.{view}
+use Rattle.oci_schema_walks.proofs.Found.{each_finds}
 use Rattle.oci_schema_walks.proofs.Pointers.{found}
 use Rattle.oci_schema_walks.proofs.laws.pointer_finds.Goals as goal
 
 pub returns : goal.returns
-returns c = found
+returns c = record {
+  leads = λ part at. found (view c.args.value.now) part at c.names_are_in_order.ensures;
+  found = λ s. each_finds s (view c.args.value.now) c.names_are_in_order.ensures;
+}
