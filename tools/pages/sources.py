@@ -125,10 +125,10 @@ def part_end(lines, begun):
 
 
 class Crate:
-    """A crate's modules: of each, by its path, what it declares."""
+    """A crate's modules: of each, by its path, what it declares; its tests if they are asked for."""
 
-    def __init__(self, name):
-        self.name, self.modules, self.about = name, {}, {}
+    def __init__(self, name, tests=False):
+        self.name, self.modules, self.about, self.tests = name, {}, {}, tests
         folder = os.path.join(TOP, "crates", name, "src")
         root = next(it for it in ("lib.rt", "main.rt") if os.path.exists(f"{folder}/{it}"))
         self.read(folder, (), f"{folder}/{root}")
@@ -139,7 +139,7 @@ class Crate:
         self.about[module] = paragraphs([line[3:] for line in lines if line.startswith("//!")])
         self.modules[module] = [Item(self.name, module, *part) for part in split(lines)]
         for item in self.modules[module]:
-            if item.kind == "mod" and item.lines[0].endswith(";") and "#[cfg(test)]" not in item.attributes:
+            if item.kind == "mod" and item.lines[0].endswith(";") and (self.tests or "#[cfg(test)]" not in item.attributes):
                 self.read(folder, (*module, item.name), f"{folder}/{'/'.join((*module, item.name))}.rt")
 
     def impls(self):

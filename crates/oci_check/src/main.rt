@@ -6,6 +6,7 @@
 mod report;
 
 use oci_doc_run::Kind;
+use oci_explain::explain;
 use oci_schemas::OciRecords;
 use oci_text_base::Result;
 use report::judge;
@@ -45,7 +46,7 @@ fn main(rt: HostRuntime) -> ExitCode {
     match run(&rt) {
         Ok(status) => ExitCode::from(status),
         Err(fault) => {
-            let _ = eprintln!(&rt; "refused: {fault}");
+            let _ = eprintln!(&rt; "refused: {}", explain(&fault));
             ExitCode::from(1)
         }
     }

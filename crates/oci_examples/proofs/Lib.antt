@@ -1,2 +1,3 @@
 mod Clones
-mod Options
+mod Folds
+mod LastOption

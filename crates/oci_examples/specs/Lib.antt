@@ -1,3 +1,4 @@
+pub mod Paths
 pub mod PinnedLines
 pub mod Platforms
 pub mod Policy

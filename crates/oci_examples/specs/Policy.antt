@@ -1,14 +1,17 @@
--- What a policy asks of a container's specification (runtime specification, "Linux Process", `capabilities`; "Linux Container Configuration", "Namespaces").
-use Rattle.std.specs.Prelude.{ℕ, List, [], ◌∷◌, ◌++◌, map, codes, ◌≡◌, ◌⊎◌, ◌↔◌, false, Option, Some, None, String, Vec, IfSome, IsSomeAnd, IsTrue}
-use Rattle.std.specs.List.{Any}
+-- What a policy asks of a container's specification (runtime specification, "Linux Process", `capabilities`; "Linux Container
+-- Configuration", "Namespaces"; "Mounts").
+use Rattle.std.specs.Prelude.{ℕ, List, [], ◌∷◌, ◌++◌, map, codes, ◌≡◌, ◌≢◌, ◌⊎◌, ◌↔◌, Bool, true, false, if◌then◌else◌, bytes_eq, Option, Some, None, String, Vec, IfSome, IsSomeAnd, IsTrue}
+use Rattle.std.specs.List.{Any, slice_get}
 use Rattle.std.specs.String.{string_bytes}
 use Rattle.std.specs.HashSet.{HashSet, contains}
 use Rattle.oci_spec.specs.CapabilitySets.{capability_eq}
 use Rattle.oci_spec.specs.declared.runtime.Capability.{Capability}
 use Rattle.oci_spec.specs.declared.runtime.LinuxCapabilities.{LinuxCapabilities}
+use Rattle.oci_spec.specs.declared.runtime.LinuxNamespace.{LinuxNamespace}
 use Rattle.oci_spec.specs.declared.runtime.LinuxNamespaceType.{LinuxNamespaceType}
 use Rattle.oci_spec.specs.declared.runtime.Mount.{Mount}
 use Rattle.oci_spec.specs.declared.runtime.Spec.{Spec}
+use Rattle.oci_examples.specs.Paths.{cleaned}
 
 module _ {S : Type 0} where
   -- the set is there and has the capability
@@ -31,21 +34,38 @@ HaveOthers dropped x y = HasOthers dropped x.bounding y.bounding × HasOthers dr
 abbrev pub MayUse : Spec → Capability → Type 0
 MayUse x c = IsSomeAnd x.process (λ p. IsSomeAnd p.capabilities (λ sets. HasCapability sets c))
 
--- a namespace of this kind is listed: a new one, or one that the container joins
-abbrev pub HasNamespace : Spec → LinuxNamespaceType → Type 0
-HasNamespace x kind = IsSomeAnd x.linux (λ l. IsSomeAnd l.namespaces (λ ns. Any (λ n. n.typ ≡ kind) ns.items))
+-- the policy lets a container join the namespace at this path
+abbrev pub MayJoin : List ℕ → Type 0
+MayJoin path = path ≡ codes "/var/run/netns/web"
 
--- none is, so the container stays in that of its host
-abbrev pub SharesWithHost : Spec → LinuxNamespaceType → Type 0
-SharesWithHost x kind = ¬ HasNamespace x kind
+-- it is of this kind, and a new one, or one that the container may join
+abbrev pub IsOwn : LinuxNamespaceType → LinuxNamespace → Type 0
+IsOwn kind x = (x.typ ≡ kind) × IfSome x.path (λ path. MayJoin (string_bytes path))
 
--- the text is one of a mount's options
-abbrev pub HasOption : Mount → List ℕ → Type 0
-HasOption x t = IsSomeAnd x.options (λ options. Any (λ o. string_bytes o ≡ t) options.items)
+-- one of those that are listed is
+abbrev pub HasOwn : LinuxNamespaceType → Spec → Type 0
+HasOwn kind x = IsSomeAnd x.linux (λ l. IsSomeAnd l.namespaces (λ ns. Any (IsOwn kind) ns.items))
 
--- it puts something at `/proc`, without the option `ro`
+-- the text is none of these
+abbrev pub Lacks : List (List ℕ) → List ℕ → Type 0
+Lacks texts t = (k : ℕ) → slice_get texts k ≢ Some t
+
+-- one of the options is `ro`, and none behind it is `rw`
+abbrev pub LastIsReadOnly : List (List ℕ) → Type 0
+LastIsReadOnly [] = ⊥
+LastIsReadOnly (option ∷ behind) = LastIsReadOnly behind ⊎ ((option ≡ codes "ro") × Lacks behind (codes "rw"))
+
+-- the same by going through the options from the first on
+abbrev pub read_only_after : Bool → List ℕ → Bool
+read_only_after read_only option = if bytes_eq option (codes "ro") then true else if bytes_eq option (codes "rw") then false else read_only
+
+-- so it is with the mount's options
+abbrev pub IsReadOnly : Mount → Type 0
+IsReadOnly x = IsSomeAnd x.options (λ options. LastIsReadOnly (map string_bytes options.items))
+
+-- it puts something at `/proc`, however that is spelled, and is not read-only
 abbrev pub IsWritableProc : Mount → Type 0
-IsWritableProc x = (string_bytes x.destination ≡ codes "/proc") × ¬ HasOption x (codes "ro")
+IsWritableProc x = (cleaned (string_bytes x.destination) ≡ codes "/proc") × ¬ IsReadOnly x
 
 -- the texts of a list, none where there is no list
 abbrev pub texts : {Y Z : Type 0} → Option (Vec (String Y) Z) → List (List ℕ)

@@ -55,7 +55,7 @@ fn manifest(alloc: Global) -> Result<ImageManifest>
 }
 
 /// Prints the manifest.
-pub fn print<R: Print + AllocGlobal>(rt: &R) -> anyhow::Result<()> {
+pub fn print<R: Print + AllocGlobal>(rt: &R) -> Result<()> {
     rt.println(&manifest(rt.alloc())?)?;
     Ok(())
 }

@@ -1,7 +1,7 @@
 //! Reads a registry's error reply, and prints what it displays and then its errors, a line each.
 
-use anyhow::Result;
 use oci_json::from_file;
+use oci_spec::Result;
 use oci_spec::distribution::{ErrorInfo, ErrorResponse};
 use std::rt::Files;
 

@@ -1,16 +1,17 @@
 //! Six small programs over the public calls, one after the other: a manifest is put together, a registry's error reply is reported, a
 //! reference is pinned to what an index has for a platform, a bundle's specification is checked by a policy, tightened and checked
-//! again, and one without privileges is printed. Their inputs are in `data/`.
+//! again, and one without privileges is printed. Their inputs are in `data/`. What an error knows is printed by `explain`.
 #![tactic(auto)]
 
 mod build_manifest;
 mod check_policy;
 mod error_reply;
+mod paths;
 mod pin_reference;
 mod rootless_spec;
 mod tighten_bundle;
 
-use anyhow::Result;
+use oci_spec::{Result, explain};
 use std::process::ExitCode;
 use std::rt::Files;
 
@@ -29,7 +30,7 @@ fn main(rt: HostRuntime) -> ExitCode {
     match all(&rt) {
         Ok(()) => ExitCode::SUCCESS,
         Err(fault) => {
-            let _ = eprintln!(&rt; "{fault}");
+            let _ = eprintln!(&rt; "{}", explain(&fault));
             ExitCode::FAILURE
         }
     }

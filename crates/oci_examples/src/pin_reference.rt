@@ -4,11 +4,11 @@ ghost use Rattle.std.specs.Prelude.{◌≡◌, true, IfOk, IfSome, string_bytes}
 ghost use Rattle.oci_examples.specs.PinnedLines.{IsPinned};
 ghost use Rattle.oci_examples.specs.Platforms.{IsFor};
 
-use anyhow::{Context, Result};
 use oci_json::from_file;
 use oci_pin::pin;
 use oci_spec::distribution::Reference;
 use oci_spec::image::{Arch, Descriptor, ImageIndex, Os};
+use oci_spec::{OciSpecError, Result};
 use std::alloc::Global;
 use std::rt::Files;
 
@@ -44,8 +44,14 @@ fn pinned(
 ) -> Result<String>
     ensures { IfOk result (λ line. IsPinned text.now (string_bytes line) os.now architecture.now) }
 {
-    let reference = Reference::from_str(alloc, text).context("no reference")?;
-    let descriptor = choose(index, os, architecture).context("nothing for this platform")?;
+    let reference = match Reference::from_str(alloc, text) {
+        Ok(reference) => reference,
+        Err(error) => return Err(OciSpecError::Other(error.to_string(alloc)?)),
+    };
+    let Some(descriptor) = choose(index, os, architecture) else {
+        let why = format!(in alloc; "nothing for {os} on {architecture}")?;
+        return Err(OciSpecError::Other(why));
+    };
     let pinned = pin(alloc, &reference, descriptor)?;
     Ok(pinned.into_string()?)
 }

@@ -19,7 +19,7 @@ fn starting_point(alloc: Global) -> Result<Spec>
 }
 
 /// Prints the specification.
-pub fn print<R: Print + AllocGlobal>(rt: &R) -> anyhow::Result<()> {
+pub fn print<R: Print + AllocGlobal>(rt: &R) -> Result<()> {
     let spec = starting_point(rt.alloc())?;
     rt.println(&to_string_pretty(&spec, rt.alloc())?)?;
     Ok(())

@@ -4,10 +4,10 @@ ghost use Rattle.std.specs.Prelude.{◌≡◌, ◌++◌, [], ◌∷◌, true, co
 ghost use Rattle.oci_spec.specs.declared.runtime.Capability.TheVariants.{SysAdmin};
 ghost use Rattle.oci_examples.specs.Policy.{HasCapability, HasOthers, HaveOthers, IsIn, Masks, MayUse, texts};
 
-use anyhow::Context;
+use crate::paths::cleaned;
 use oci_json::to_string_pretty;
+use oci_spec::Result;
 use oci_spec::runtime::{Capabilities, Capability, Linux, LinuxCapabilities, Spec};
-use oci_spec::{OciSpecError, Result};
 use std::alloc::Global;
 use std::rt::Files;
 
@@ -80,32 +80,17 @@ fn tighten(spec: &mut Spec, alloc: Global) -> Result<()>
     Ok(())
 }
 
-/// A path without `.` and empty parts: what a runtime would ask the file system for.
-fn resolve(alloc: Global, path: &str) -> Result<String> {
-    let mut resolved = String::new(alloc);
-    for part in path.split('/') {
-        match part {
-            "" | "." => {}
-            ".." => return Err(OciSpecError::Other(String::from_str(alloc, path)?)),
-            _ => {
-                resolved.push_str("/")?;
-                resolved.push_str(part)?;
-            }
-        }
-    }
-    Ok(resolved)
-}
-
-/// Tightens the specification of a bundle's file, saves it in another and prints what was saved.
+/// Tightens the specification of a bundle's file, saves it in another and prints what was saved. The root's path is made canonical by its
+/// text alone; a runtime would ask the file system, where names can be links.
 pub fn print<R: Files + Print + AllocGlobal>(
     rt: &R,
     bundle: &str,
     loaded: &str,
     saved: &str,
-) -> anyhow::Result<()> {
+) -> Result<()> {
     let alloc = rt.alloc();
-    let mut spec = Spec::load(rt, alloc, loaded).context("no specification")?;
-    let resolver = |path: &str| -> Result<String> { resolve(alloc, path) };
+    let mut spec = Spec::load(rt, alloc, loaded)?;
+    let resolver = |path: &str| -> Result<String> { Ok(cleaned(alloc, path)?) };
     spec.canonicalize_rootfs(alloc, bundle, &resolver)?;
     tighten(&mut spec, alloc)?;
     spec.save(rt, alloc, saved)?;

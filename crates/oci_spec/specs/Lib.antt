@@ -18,6 +18,7 @@ pub use Rattle.oci_distribution.specs.RepositoryList
 pub use Rattle.oci_distribution.specs.RepositoryListBuilder
 pub use Rattle.oci_distribution.specs.TagList
 pub use Rattle.oci_distribution.specs.TagListBuilder
+pub use Rattle.oci_explain.specs.Explained
 pub use Rattle.oci_features.specs.Apparmor
 pub use Rattle.oci_features.specs.Cgroup
 pub use Rattle.oci_features.specs.Features
@@ -153,8 +154,10 @@ pub use Rattle.oci_runtime_spec.specs.Spec
 pub use Rattle.oci_schema.specs.Normalizes
 pub use Rattle.oci_schema_types.specs.Shapes
 pub use Rattle.oci_schema_walks.specs.Allows
+pub use Rattle.oci_schema_walks.specs.Lines
 pub use Rattle.oci_schema_walks.specs.Normalized
 pub use Rattle.oci_schema_walks.specs.Violations
+pub use Rattle.oci_schema_walks.specs.Wants
 pub use Rattle.oci_schemas.specs.Table
 pub use Rattle.oci_shapes.specs.Apparmor as ApparmorShape
 pub use Rattle.oci_shapes.specs.ArtifactManifest as ArtifactManifestShape

@@ -7,6 +7,7 @@ pub mod image;
 pub mod runtime;
 pub mod schema;
 
+pub use oci_explain::{Explanation, explain};
 pub use oci_text::JsonName;
 pub use oci_text_base::{
     OciSpecError, Result, SchemaFault, SerDeError, UninitializedFieldError, UnknownName,

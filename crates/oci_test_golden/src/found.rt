@@ -7,8 +7,8 @@ use oci_image::OciLayout;
 use oci_json_io::{from_slice, to_string};
 use oci_json_model::OciRecord;
 use oci_spec::schema::{
-    Records, Schema, is_valid, is_valid_as, normalize_value, normalize_value_as, violations,
-    violations_as,
+    Records, Schema, is_valid, is_valid_as, normalize, normalize_pretty, normalize_pretty_as,
+    normalize_value, normalize_value_as, violations, violations_as,
 };
 use oci_text_base::{OciSpecError, SerDeError};
 use serde_json::Value;
@@ -79,21 +79,51 @@ pub fn by_schema<T: Records>(
     match answer {
         Ok(normal) => {
             let compact = normal.to_string(alloc)?;
+            let pretty = normal.to_string_pretty(alloc)?;
+            if streamed(records, schema, alloc, text)? != (compact, pretty) {
+                return Ok(String::from_str(alloc, "a writer is given another text")?);
+            }
+            let compact = normal.to_string(alloc)?;
             Ok(format!(in alloc; "= {compact}")?)
         }
         Err(fault) => refused(alloc, &fault),
     }
 }
 
+/// What a writer is given of a text that the schema allows, compact and indented.
+fn streamed<T: Records>(
+    records: &T,
+    schema: &Schema,
+    alloc: Global,
+    text: &str,
+) -> Result<(String, String)>
+    requires { WellFormed (schema_shape (T.shape_at records.now) schema.now) }
+{
+    let (mut compact, mut pretty) = (Vec::new(alloc), Vec::new(alloc));
+    normalize(records, schema, alloc, text.as_bytes(), &mut compact)?;
+    normalize_pretty(records, schema, alloc, text.as_bytes(), &mut pretty)?;
+    Ok((text_of(alloc, &compact)?, text_of(alloc, &pretty)?))
+}
+
+fn text_of(alloc: Global, bytes: &Vec<u8>) -> Result<String> {
+    Ok(String::from_str(
+        alloc,
+        std::str::from_utf8(bytes.as_slice()).unwrap_or("no text"),
+    )?)
+}
+
 /// What the calls by a record's type find: how many violations a layout with no members has, and the normal form of one with an
-/// unknown member.
+/// unknown member, compact and indented.
 pub fn by_type(alloc: Global) -> Result<String> {
     let empty = Value::from_str(alloc, "{}")?;
     let count = violations_as::<OciLayout>(&empty, alloc)?.len();
     let more = Value::from_str(alloc, "{\"more\":1,\"imageLayoutVersion\":\"1.0.0\"}")?;
     let valid = is_valid_as::<OciLayout>(&empty) || !is_valid_as::<OciLayout>(&more);
     let normal = normalize_value_as::<OciLayout>(more, alloc)?.to_string(alloc)?;
-    Ok(format!(in alloc; "{count} violation, {valid}, {normal}")?)
+    let mut pretty = Vec::new(alloc);
+    normalize_pretty_as::<OciLayout, _, _>(alloc, normal.as_str().as_bytes(), &mut pretty)?;
+    let pretty = text_of(alloc, &pretty)?;
+    Ok(format!(in alloc; "{count} violation, {valid}, {normal}\n{pretty}")?)
 }
 
 /// The compact text of the document of a text.

@@ -7,7 +7,9 @@ mod distribution;
 mod engines;
 mod errors;
 mod image;
+mod long;
 mod references;
+mod scanner;
 mod streams;
 mod texts;
 

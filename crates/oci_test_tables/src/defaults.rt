@@ -1,9 +1,10 @@
 //! The defaults of all records and enums, and what each builder makes that is given nothing.
 
 use crate::documents::{document, report_count};
-use crate::rows::read;
+use crate::rows::{ask, count, read};
 use anyhow::Result;
 use oci_spec::{distribution, image, runtime};
+use std::fs;
 use std::rt::Files;
 
 /// Compares the defaults of enums.
@@ -14,11 +15,14 @@ macro_rules! enums {
     };
 }
 
-/// Compares the defaults of records, and what their builders make.
+/// Compares copies of the defaults of records, and what their builders make.
 macro_rules! records {
     ($rt:expr, $rows:expr, $group:expr, $($from:ident $name:ident $builder:ident)*) => {
         $(
-            document($rt, $rows, stringify!($name), $from::$name::try_default($rt.alloc()));
+            document($rt, $rows, stringify!($name), match $from::$name::try_default($rt.alloc()) {
+                Ok(made) => made.clone($rt.alloc()),
+                Err(fault) => Err(fault),
+            });
             document($rt, $rows, stringify!($builder), $from::$builder::default().build($rt.alloc()));
         )*
         report_count($rt, $group, [$(stringify!($name), stringify!($builder)),*].len());
@@ -48,7 +52,7 @@ pub fn all<R: Files + Print + AllocGlobal>(rt: &R) -> Result<()> {
     containers(rt, rows);
     builders(rt, rows);
     calls(rt, rows);
-    Ok(())
+    saved(rt, rows)
 }
 
 fn enums<R: Files + Print + AllocGlobal>(rt: &R, rows: &str) {
@@ -242,4 +246,24 @@ fn calls<R: Files + Print + AllocGlobal>(rt: &R, rows: &str) {
         runtime::Spec::rootless(alloc, 1000, 1001),
     );
     report_count(rt, "calls", 7);
+}
+
+const PATH: &str = "saved.json";
+
+/// Compares the text of a file with the row of a default.
+fn ask_file<R: Files + Print + AllocGlobal>(rt: &R, rows: &str, name: &str) -> Result<()> {
+    let text = fs::read_to_string(rt, PATH)?;
+    let here = format!(in rt.alloc(); "{name} {}", text.as_str())?;
+    ask(rt, "defaults", rows, here.as_str())
+}
+
+/// Compares what is saved of the documents of a container.
+fn saved<R: Files + Print + AllocGlobal>(rt: &R, rows: &str) -> Result<()> {
+    let alloc = rt.alloc();
+    runtime::Spec::try_default(alloc)?.save(rt, alloc, PATH)?;
+    ask_file(rt, rows, "Spec")?;
+    runtime::State::try_default(alloc)?.save(rt, alloc, PATH)?;
+    ask_file(rt, rows, "State")?;
+    fs::remove_file(rt, PATH)?;
+    count(rt, "defaults", "saved", 2)
 }

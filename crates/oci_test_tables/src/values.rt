@@ -1,8 +1,10 @@
 //! The constants.
 
 use crate::documents;
+use crate::rows::{ask, count, read};
 use anyhow::Result;
 use oci_spec::distribution::Reference;
+use oci_spec::image::Digest;
 use oci_spec::runtime::{LinuxIdMapping, LinuxNamespaceType, MountBuilder, ZOSNamespaceType};
 use oci_spec::{distribution, image, runtime};
 use std::alloc::Global;
@@ -64,7 +66,8 @@ pub fn constants<R: Files + Print + AllocGlobal>(rt: &R) -> Result<()> {
     documents::constants(rt, "texts", &TEXTS)?;
     documents::constants(rt, "numbers", &NUMBERS)?;
     versions(rt)?;
-    made(rt)
+    made(rt)?;
+    digests(rt)
 }
 
 fn versions<R: Files + Print + AllocGlobal>(rt: &R) -> Result<()> {
@@ -97,6 +100,27 @@ fn made<R: Files + Print + AllocGlobal>(rt: &R) -> Result<()> {
         ("MountBuilder", mount.as_str()),
     ];
     documents::constants(rt, "made", &all)
+}
+
+/// A text for each error of a digest.
+static NO_DIGESTS: [&str; 7] = [
+    "abc",
+    ":abc",
+    "A:abc",
+    "x:",
+    "x:a/b",
+    "sha256:ab",
+    "sha256:gggggggggggggggggggggggggggggggggggggggggggggggggggggggggggggggg",
+];
+
+fn digests<R: Files + Print + AllocGlobal>(rt: &R) -> Result<()> {
+    let rows = read(rt, "constants")?;
+    for text in &NO_DIGESTS {
+        let error = refused(rt.alloc(), Digest::from_str(rt.alloc(), text))?;
+        let here = format!(in rt.alloc(); "Digest:{text} {error:?}")?;
+        ask(rt, "constants", rows.as_str(), here.as_str())?;
+    }
+    count(rt, "constants", "digests", NO_DIGESTS.len())
 }
 
 fn whole(alloc: Global, text: &str) -> Result<String> {

@@ -4,7 +4,9 @@ use super::rows::{FAILING_READERS, LISTS};
 use super::{check_io, check_untouched};
 use oci_distribution::RepositoryList;
 use oci_json_io::{from_reader, from_slice, normalize, to_string};
+use oci_json_model::optional_either;
 use oci_text_base::Result;
+use serde_json::Value;
 use std::alloc::Global;
 use std::io::ErrorKind;
 use std::process::Abort;
@@ -103,5 +105,30 @@ fn failing_readers(rt: HostRuntime) {
     for row in &FAILING_READERS {
         check_failing(&rt, rt.alloc(), "{\"repositories\":[]}", row);
         check_failing(&rt, rt.alloc(), "no JSON in 19 bytes", row);
+    }
+}
+
+/// Objects with a member that has two names, and what is read of it.
+static SECOND_NAMES: [(&str, Answer<'_>); 6] = [
+    ("{}", Ok("absent")),
+    ("{\"a\":null}", Ok("absent")),
+    ("{\"a\":\"x\"}", Ok("x")),
+    ("{\"b\":\"x\"}", Ok("x")),
+    ("{\"b\":5}", Err(("Trial", "a"))),
+    ("{\"a\":\"x\",\"b\":\"x\"}", Err(("Trial", "a"))),
+];
+
+fn either(alloc: Global, text: &str) -> Result<String> {
+    let value = Value::from_str(alloc, text)?;
+    match optional_either(alloc, &value, "Trial", "a", "b")? {
+        Some(text) => Ok(text),
+        None => Ok(String::from_str(alloc, "absent")?),
+    }
+}
+
+#[test]
+fn second_names(rt: HostRuntime) {
+    for (text, expected) in &SECOND_NAMES {
+        check(&rt, text, &either(rt.alloc(), text), *expected);
     }
 }
