@@ -12,8 +12,8 @@
 //! # Ok::<(), ciderglen::Error>(())
 //! ```
 //!
-//! The static library `libciderglen.a` is linked; `CIDERGLEN_LIB_DIR` names its folder where the linker does not find it by itself. All
-//! calls may be made from any thread.
+//! The static library `libciderglen.a` is linked: from the folder that `CIDERGLEN_LIB_DIR` names, or else where pkg-config finds it, or
+//! in `/usr/local/lib`. All calls may be made from any thread.
 
 use ciderglen_sys as sys;
 use std::fmt;
