@@ -1,0 +1,4 @@
+pub mod Absolute
+pub mod Deciding
+pub mod FirstCuts
+pub mod MediaTypes
