@@ -15,11 +15,11 @@ use Rattle.oci_rules.specs.Rules.{Key, Test, text, one_of, none_of, begins, rese
 use Rattle.oci_rules.specs.Parts.{present, text_at, whole_at, natural_at, items_at, extent, key_of}
 use Rattle.oci_rules.specs.Tests.{SomeItem, SomeName, EachItem, IsThere, IsOneOf, IsWithin, BeginsWith, IsAmong, AreDistinct, Passes}
 use Rattle.oci_rules.specs.Breaks.{Told, Shows, HasEarlier, IsOther}
-use Rattle.oci_rules.specs.Grammars.{is_of}
+use Rattle.oci_rule_texts.specs.Tests.{is_of}
 use Rattle.oci_rules.specs.Decided.{if_any, some_item, has, is_one_of, is_in, begins_with, has_text_under, is_passed}
 use Rattle.oci_rules.specs.Listed.{unless, shown_at, twins, twins_of, others, others_of, has_text, no_text, items_told, told_by}
 use Rattle.oci_rules.proofs.Deciding.{clash, itself, if_any_tells, some_item_tells, some_name_tells, has_tells, lacks_tells, one_of_tells, int_tells, nat_tells, some_tells, in_tells, begins_tells, text_tells, then_tells}
-use Rattle.oci_rules.proofs.Grammars.{is_of_decides}
+use Rattle.oci_rule_texts.proofs.Grammars.{is_of_decides}
 use Rattle.oci_rules.proofs.Found.{nothing_in, not_nil, in_unless, none_unless, none_of as no_item_of}
 use Rattle.oci_rules.proofs.Others.{others_none, others_in}
 use Rattle.oci_rules.proofs.Twins.{IsTwin, twins_none, twins_found}
