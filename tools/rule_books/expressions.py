@@ -143,10 +143,8 @@ class Reader:
         return (word, *rest)
 
     def key(self, parts):
-        if parts == "itself":
-            return ("itself",)
+        if parts in ("itself", "entry_name"):
+            return (parts,)
         if parts[0] == "members":
             return ("members", tuple(way(it) for it in parts[1:]))
-        if parts[0] == "before" and len(parts[1]) == 1:
-            return ("before", parts[1])
         raise Wrong(f"no key {parts}")

@@ -1,13 +1,18 @@
 """Golden rows of rules: whole documents from a base and changes of it.
 
-A file tools/rules/rows/KIND.rows has what is written by hand:
+A file tools/rules/rows/KIND.rows, or KIND.PART.rows, has what is written by hand:
 
-  base NAME TEXT             a document that keeps every rule, of each level
-  platform NAME              the platform that rows below are judged for; the document's own where none is named
-  RULE                       the rows of a rule begin
-  breaks BASE CHANGE         a change of the base (RFC 7396, JSON Merge Patch) that breaks the rule; below it, a line each, `- RULE POINTER`
-                             for all that is listed, in order; without one, the rule alone at the pointer behind the change
-  keeps BASE CHANGE          a change that touches what the rule asks of, and breaks nothing
+  base NAME TEXT         a document that keeps every rule, of each level
+  platform NAME          the platform that the rows below are judged for; the document's own after `platform -`
+  RULE                   the rows of a rule begin
+  breaks BASE CHANGE     a change of the base that breaks the rule, at the pointer of the change
+  breaks BASE CHANGE => POINTER
+                         the same, at another pointer
+  breaks BASE CHANGE => +
+                         what is listed stands below, in order, a line each: `- RULE POINTER`
+  keeps BASE CHANGE      a change that touches what the rule asks of, and breaks nothing
+
+A change is a JSON Merge Patch (RFC 7396), or a JSON Pointer (RFC 6901) and the value that is put there.
 
 A row of crates/oci_test_rules/data/KIND.rows is three lines: the platform or `-`, the document, and what is listed, `RULE POINTER` with
 two blanks between entries, or `-`.
@@ -30,6 +35,31 @@ def patched(value, change):
         else:
             out[name] = patched(out.get(name), part)
     return out
+
+
+def put(value, names, part):
+    """The value with a part where the names lead; objects on the way are made."""
+    if not names:
+        return part
+    name, *rest = names
+    if isinstance(value, list):
+        out = list(value) + [None] * (int(name) + 1 - len(value))
+        out[int(name)] = put(out[int(name)], rest, part)
+        return out
+    out = dict(value or {})
+    out[name] = put(out.get(name), rest, part)
+    return out
+
+
+def changed(value, text):
+    """The value after a change, the pointer of the change, and what stands behind it."""
+    if text.startswith("{"):
+        change, rest = json_and_rest(text)
+        return patched(value, change), None, rest
+    pointer, _, text = text.partition(" ")
+    part, rest = json_and_rest(text)
+    names = [it.replace("~1", "/").replace("~0", "~") for it in pointer.split("/")[1:]]
+    return put(value, names, part), pointer, rest
 
 
 class Row:
@@ -64,9 +94,13 @@ def read(path):
                     platform = rest
                 elif word in ("breaks", "keeps"):
                     name, _, text = rest.partition(" ")
-                    change, pointer = json_and_rest(text)
+                    document, pointer, end = changed(bases[name], text)
+                    if end:
+                        pointer = end.removeprefix("=>").strip()
+                    if word == "breaks" and pointer is None:
+                        raise ValueError("no pointer")
                     listed = [(rule, pointer)] if word == "breaks" and pointer != "+" else []
-                    rows.append(Row(rule, word == "breaks", patched(bases[name], change), platform, listed))
+                    rows.append(Row(rule, word == "breaks", document, platform, listed))
                 elif word == "-":
                     rule_and_pointer = rest.split(" ", 1)
                     rows[-1].listed.append((rule_and_pointer[0], rule_and_pointer[1] if len(rule_and_pointer) > 1 else ""))

@@ -50,7 +50,7 @@ def step(it, names):
 def key(it):
     if it[0] == "members":
         return f"Key::Members({array([array([text(name) for name in way]) for way in it[1]])})"
-    return "Key::Itself" if it[0] == "itself" else f"Key::Before('{it[1]}')"
+    return {"itself": "Key::Itself", "entry_name": "Key::EntryName"}[it[0]]
 
 
 def test(it, names):
@@ -85,7 +85,8 @@ def book(group, model):
     """The file of a book."""
     crate = model.crate[group.file]
     names = {texts: name for name, texts in model.lists.items()}
-    rules = "".join(rule(it, names) for it in group.lines(model.groups))
+    lines = list(group.lines(model.groups))
+    rules = "".join(rule(it, names) for it in lines)
     shared = [it for it in ("EVERY", "POSIX") if it in rules] + [it.upper() for it in model.lists_of(crate) if it.upper() in rules.split('"')[0] or f"({it.upper()})" in rules or f", {it.upper()})" in rules]
     types = [it for it in TYPES if f"{it}::" in rules or f"{it} {{" in rules]
     types += ["Platform"] if "Platform::" in rules else []
@@ -95,9 +96,9 @@ def book(group, model):
     out += f"use crate::lists::{{{', '.join(sorted(shared))}}};\n" if shared else ""
     out += "use oci_rule_texts::Grammar;\n" if "Grammar::" in rules else ""
     out += f"use oci_rules::{{{', '.join(sorted(types))}}};\n\n"
-    out += f"const RULES: &[Rule<'static>] = &[\n{rules}];\n\n"
+    out += f"static RULES: [Rule<'static>; {len(lines)}] = [\n{rules}];\n\n"
     out += f"/// Returns the book of {group.name.replace('-', ' ')}.\npub fn {group.word}_rules() -> &'static [Rule<'static>]\n"
-    out += f"    ensures {{ map rule_of result.now ≡ defined.{group.word}_rules }}\n{{\n    RULES\n}}\n"
+    out += f"    ensures {{ map rule_of result.now ≡ defined.{group.word}_rules }}\n{{\n    &RULES\n}}\n"
     return out
 
 

@@ -5,7 +5,7 @@ PRELUDE = ("ℕ", "List", "[]", "◌∷◌", "◌++◌", "◌≡◌", "map", "co
 WORDS = ("Rule", "Platform", "linux", "windows", "solaris", "vm", "zos", "freebsd", "must", "stated", "should", "host", "here", "under", "each_item",
          "each_member", "each_name", "if_so", "asks", "the_part", "the_document", "is_there", "is_text", "is_truth", "is_within", "has_text", "has_item",
          "text", "one_of", "none_of", "begins", "reserved", "within", "truth", "there", "absent", "either", "not_empty", "length_at_most", "at_most",
-         "sum_at_most", "lists", "lists_item", "distinct", "among", "itself", "members", "before", "beneath")
+         "sum_at_most", "lists", "lists_item", "distinct", "among", "itself", "members", "entry_name", "beneath")
 
 
 def pascal(word):
@@ -67,7 +67,7 @@ def place(steps, names, end="here"):
 def key(it):
     if it[0] == "members":
         return f"(members {listed([listed([code(name) for name in way]) for way in it[1]])})"
-    return "itself" if it[0] == "itself" else f"(before {ord(it[1])})"
+    return it[0]
 
 
 def test(it, names):

@@ -2,7 +2,7 @@
 -- Image configurations (image specification, "OCI Image Configuration").
 use Rattle.std.specs.Prelude.{List, [], ◌∷◌, map, codes, true, false}
 use Rattle.oci_rule_texts.specs.declared.grammar.Grammar.TheVariants.{AbsolutePath, DateTime, EnvironmentEntry, Port, User, Signal, Digest}
-use Rattle.oci_rules.specs.Rules.{Rule, must, stated, should, host, here, under, each_item, each_name, if_so, asks, the_part, is_text, text, one_of, absent, distinct, before, beneath}
+use Rattle.oci_rules.specs.Rules.{Rule, must, stated, should, host, here, under, each_item, each_name, if_so, asks, the_part, is_text, text, one_of, absent, distinct, entry_name, beneath}
 use Rattle.oci_rules_image.specs.Lists.{every, goos, goarch}
 use Rattle.oci_rules_image.specs.Annotations.{image_annotations_elsewhere_rules}
 
@@ -27,7 +27,7 @@ config_rules =
     record { name = codes "config-reserved"; level = stated; section = codes "image config.md#properties"; platforms = every; place = under (codes "config") here; test = absent (codes "MemorySwap") } ∷
     record { name = codes "config-reserved"; level = stated; section = codes "image config.md#properties"; platforms = every; place = under (codes "config") here; test = absent (codes "CpuShares") } ∷
     record { name = codes "config-reserved"; level = stated; section = codes "image config.md#properties"; platforms = every; place = under (codes "config") here; test = absent (codes "Healthcheck") } ∷
-    record { name = codes "config-env-once"; level = host; section = codes ""; platforms = every; place = under (codes "config") (under (codes "Env") here); test = distinct (before 61) } ∷
+    record { name = codes "config-env-once"; level = host; section = codes ""; platforms = every; place = under (codes "config") (under (codes "Env") here); test = distinct entry_name } ∷
     record { name = codes "config-volume-absolute"; level = host; section = codes ""; platforms = every; place = under (codes "config") (under (codes "Volumes") (each_name here)); test = text AbsolutePath } ∷
     record { name = codes "config-working-dir-absolute"; level = host; section = codes ""; platforms = every; place = if_so (asks the_part (codes "os" ∷ []) false (is_text (codes "windows" ∷ []))) (under (codes "config") (under (codes "WorkingDir") (if_so (asks the_part [] false (is_text (codes "" ∷ []))) here))); test = text AbsolutePath } ∷
     []

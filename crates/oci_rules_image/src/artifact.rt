@@ -8,7 +8,7 @@ use crate::lists::{EVERY, OPENCONTAINERS_KEYS, SUBJECT_TYPES};
 use oci_rule_texts::Grammar;
 use oci_rules::{Check, Condition, Level, Origin, Rule, Step, Test};
 
-const RULES: &[Rule<'static>] = &[
+static RULES: [Rule<'static>; 20] = [
     Rule {
         name: "artifact-media-type",
         level: Level::Must,
@@ -230,5 +230,5 @@ const RULES: &[Rule<'static>] = &[
 pub fn artifact_rules() -> &'static [Rule<'static>]
     ensures { map rule_of result.now ≡ defined.artifact_rules }
 {
-    RULES
+    &RULES
 }

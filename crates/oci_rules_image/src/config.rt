@@ -8,7 +8,7 @@ use crate::lists::{EVERY, GOARCH, GOOS};
 use oci_rule_texts::Grammar;
 use oci_rules::{Check, Condition, Key, Level, Origin, Rule, Step, Test};
 
-const RULES: &[Rule<'static>] = &[
+static RULES: [Rule<'static>; 21] = [
     Rule {
         name: "config-created-date",
         level: Level::Stated,
@@ -224,7 +224,7 @@ const RULES: &[Rule<'static>] = &[
         wanted: "each variable once",
         platforms: EVERY,
         place: &[Step::Member("config"), Step::Member("Env")],
-        test: Test::Distinct(Key::Before('=')),
+        test: Test::Distinct(Key::EntryName),
     },
     Rule {
         name: "config-volume-absolute",
@@ -269,5 +269,5 @@ const RULES: &[Rule<'static>] = &[
 pub fn config_rules() -> &'static [Rule<'static>]
     ensures { map rule_of result.now ≡ defined.config_rules }
 {
-    RULES
+    &RULES
 }

@@ -7,7 +7,7 @@ ghost use Rattle.oci_rules_image.specs.Config as defined;
 use crate::lists::EVERY;
 use oci_rules::{Check, Condition, Level, Origin, Rule, Step, Test};
 
-const RULES: &[Rule<'static>] = &[
+static RULES: [Rule<'static>; 15] = [
     Rule {
         name: "config-combination",
         level: Level::Host,
@@ -272,5 +272,5 @@ const RULES: &[Rule<'static>] = &[
 pub fn config_combinations_rules() -> &'static [Rule<'static>]
     ensures { map rule_of result.now ≡ defined.config_combinations_rules }
 {
-    RULES
+    &RULES
 }

@@ -8,7 +8,7 @@ use crate::lists::{EVERY, OPENCONTAINERS_KEYS};
 use oci_rule_texts::Grammar;
 use oci_rules::{Check, Condition, Level, Origin, Rule, Step, Test};
 
-const RULES: &[Rule<'static>] = &[
+static RULES: [Rule<'static>; 14] = [
     Rule {
         name: "annotation-key-reverse-domain",
         level: Level::Should,
@@ -198,5 +198,5 @@ const RULES: &[Rule<'static>] = &[
 pub fn config_labels_rules() -> &'static [Rule<'static>]
     ensures { map rule_of result.now ≡ defined.config_labels_rules }
 {
-    RULES
+    &RULES
 }

@@ -7,7 +7,7 @@ ghost use Rattle.oci_rules_image.specs.Others as defined;
 use crate::lists::EVERY;
 use oci_rules::{Level, Rule, Step, Test};
 
-const RULES: &[Rule<'static>] = &[Rule {
+static RULES: [Rule<'static>; 1] = [Rule {
     name: "error-some",
     level: Level::Stated,
     section: "distribution spec.md#error-codes",
@@ -21,5 +21,5 @@ const RULES: &[Rule<'static>] = &[Rule {
 pub fn error_rules() -> &'static [Rule<'static>]
     ensures { map rule_of result.now ≡ defined.error_rules }
 {
-    RULES
+    &RULES
 }

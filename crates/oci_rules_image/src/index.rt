@@ -8,7 +8,7 @@ use crate::lists::{EVERY, GOARCH, GOOS, MANIFEST_TYPES};
 use oci_rule_texts::Grammar;
 use oci_rules::{Check, Condition, Key, Level, Origin, Rule, Step, Test};
 
-const RULES: &[Rule<'static>] = &[
+static RULES: [Rule<'static>; 16] = [
     Rule {
         name: "index-schema-version",
         level: Level::Must,
@@ -235,5 +235,5 @@ const RULES: &[Rule<'static>] = &[
 pub fn index_rules() -> &'static [Rule<'static>]
     ensures { map rule_of result.now ≡ defined.index_rules }
 {
-    RULES
+    &RULES
 }

@@ -7,7 +7,7 @@ ghost use Rattle.oci_rules_image.specs.Index as defined;
 use crate::lists::EVERY;
 use oci_rules::{Check, Condition, Level, Origin, Rule, Step, Test};
 
-const RULES: &[Rule<'static>] = &[
+static RULES: [Rule<'static>; 15] = [
     Rule {
         name: "platform-combination",
         level: Level::Host,
@@ -317,5 +317,5 @@ const RULES: &[Rule<'static>] = &[
 pub fn index_combinations_rules() -> &'static [Rule<'static>]
     ensures { map rule_of result.now ≡ defined.index_combinations_rules }
 {
-    RULES
+    &RULES
 }

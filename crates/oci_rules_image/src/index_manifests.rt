@@ -8,7 +8,7 @@ use crate::lists::{EVERY, OPENCONTAINERS_KEYS};
 use oci_rule_texts::Grammar;
 use oci_rules::{Check, Condition, Level, Origin, Rule, Step, Test};
 
-const RULES: &[Rule<'static>] = &[
+static RULES: [Rule<'static>; 23] = [
     Rule {
         name: "descriptor-media-type",
         level: Level::Must,
@@ -354,5 +354,5 @@ const RULES: &[Rule<'static>] = &[
 pub fn index_manifests_rules() -> &'static [Rule<'static>]
     ensures { map rule_of result.now ≡ defined.index_manifests_rules }
 {
-    RULES
+    &RULES
 }

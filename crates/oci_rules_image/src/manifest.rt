@@ -8,7 +8,7 @@ use crate::lists::{EVERY, LAYER_TYPES, NONDISTRIBUTABLE_TYPES, SUBJECT_TYPES};
 use oci_rule_texts::Grammar;
 use oci_rules::{Check, Condition, Level, Origin, Rule, Step, Test};
 
-const RULES: &[Rule<'static>] = &[
+static RULES: [Rule<'static>; 14] = [
     Rule {
         name: "manifest-schema-version",
         level: Level::Must,
@@ -189,5 +189,5 @@ const RULES: &[Rule<'static>] = &[
 pub fn manifest_rules() -> &'static [Rule<'static>]
     ensures { map rule_of result.now ≡ defined.manifest_rules }
 {
-    RULES
+    &RULES
 }

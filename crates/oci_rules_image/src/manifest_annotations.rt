@@ -8,7 +8,7 @@ use crate::lists::{EVERY, OPENCONTAINERS_KEYS};
 use oci_rule_texts::Grammar;
 use oci_rules::{Check, Condition, Level, Origin, Rule, Step, Test};
 
-const RULES: &[Rule<'static>] = &[
+static RULES: [Rule<'static>; 14] = [
     Rule {
         name: "annotation-key-reverse-domain",
         level: Level::Should,
@@ -176,5 +176,5 @@ const RULES: &[Rule<'static>] = &[
 pub fn manifest_annotations_rules() -> &'static [Rule<'static>]
     ensures { map rule_of result.now ≡ defined.manifest_annotations_rules }
 {
-    RULES
+    &RULES
 }

@@ -8,7 +8,7 @@ use crate::lists::{EVERY, OPENCONTAINERS_KEYS};
 use oci_rule_texts::Grammar;
 use oci_rules::{Check, Condition, Level, Origin, Rule, Step, Test};
 
-const RULES: &[Rule<'static>] = &[
+static RULES: [Rule<'static>; 24] = [
     Rule {
         name: "descriptor-media-type",
         level: Level::Must,
@@ -359,5 +359,5 @@ const RULES: &[Rule<'static>] = &[
 pub fn manifest_layers_rules() -> &'static [Rule<'static>]
     ensures { map rule_of result.now ≡ defined.manifest_layers_rules }
 {
-    RULES
+    &RULES
 }

@@ -8,7 +8,7 @@ use crate::lists::EVERY;
 use oci_rule_texts::Grammar;
 use oci_rules::{Level, Rule, Step, Test};
 
-const RULES: &[Rule<'static>] = &[
+static RULES: [Rule<'static>; 6] = [
     Rule {
         name: "reference-registry",
         level: Level::Must,
@@ -69,5 +69,5 @@ const RULES: &[Rule<'static>] = &[
 pub fn reference_rules() -> &'static [Rule<'static>]
     ensures { map rule_of result.now ≡ defined.reference_rules }
 {
-    RULES
+    &RULES
 }

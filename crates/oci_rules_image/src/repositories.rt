@@ -8,7 +8,7 @@ use crate::lists::EVERY;
 use oci_rule_texts::Grammar;
 use oci_rules::{Key, Level, Rule, Step, Test};
 
-const RULES: &[Rule<'static>] = &[
+static RULES: [Rule<'static>; 2] = [
     Rule {
         name: "repositories-name",
         level: Level::Must,
@@ -33,5 +33,5 @@ const RULES: &[Rule<'static>] = &[
 pub fn repositories_rules() -> &'static [Rule<'static>]
     ensures { map rule_of result.now ≡ defined.repositories_rules }
 {
-    RULES
+    &RULES
 }

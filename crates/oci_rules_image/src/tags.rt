@@ -8,7 +8,7 @@ use crate::lists::EVERY;
 use oci_rule_texts::Grammar;
 use oci_rules::{Key, Level, Rule, Step, Test};
 
-const RULES: &[Rule<'static>] = &[
+static RULES: [Rule<'static>; 3] = [
     Rule {
         name: "tags-name",
         level: Level::Must,
@@ -42,5 +42,5 @@ const RULES: &[Rule<'static>] = &[
 pub fn tags_rules() -> &'static [Rule<'static>]
     ensures { map rule_of result.now ≡ defined.tags_rules }
 {
-    RULES
+    &RULES
 }

@@ -2,7 +2,7 @@
 -- The configuration of a container: its process (runtime specification, "Process").
 use Rattle.std.specs.Prelude.{List, [], ◌∷◌, codes, pos, negsuc, true, false}
 use Rattle.oci_rule_texts.specs.declared.grammar.Grammar.TheVariants.{AbsolutePath, WindowsPath, EnvironmentEntry, PortableEntry, SelinuxLabel}
-use Rattle.oci_rules.specs.Rules.{Rule, windows, solaris, must, stated, should, host, here, under, each_item, if_so, asks, the_part, is_text, is_truth, is_within, text, one_of, within, there, absent, either, not_empty, at_most, distinct, among, itself, members, before}
+use Rattle.oci_rules.specs.Rules.{Rule, windows, solaris, must, stated, should, host, here, under, each_item, if_so, asks, the_part, is_text, is_truth, is_within, text, one_of, within, there, absent, either, not_empty, at_most, distinct, among, itself, members, entry_name}
 use Rattle.oci_rules_runtime.specs.Lists.{every, posix, posix_rlimits, capabilities}
 
 -- the book of process
@@ -15,7 +15,7 @@ process_rules =
     record { name = codes "process-command-line"; level = must; section = codes "runtime config.md#process"; platforms = windows ∷ []; place = under (codes "process") here; test = either (codes "args" ∷ codes "commandLine" ∷ []) } ∷
     record { name = codes "process-env"; level = stated; section = codes "runtime config.md#process"; platforms = every; place = under (codes "process") (under (codes "env") (each_item here)); test = text EnvironmentEntry } ∷
     record { name = codes "process-env-name"; level = host; section = codes "XBD 8.1"; platforms = every; place = under (codes "process") (under (codes "env") (each_item here)); test = text PortableEntry } ∷
-    record { name = codes "process-env-once"; level = host; section = codes ""; platforms = every; place = under (codes "process") (under (codes "env") here); test = distinct (before 61) } ∷
+    record { name = codes "process-env-once"; level = host; section = codes ""; platforms = every; place = under (codes "process") (under (codes "env") here); test = distinct entry_name } ∷
     record { name = codes "console-size-there"; level = must; section = codes "runtime config.md#process"; platforms = every; place = under (codes "process") (under (codes "consoleSize") here); test = there (codes "height") } ∷
     record { name = codes "console-size-there"; level = must; section = codes "runtime config.md#process"; platforms = every; place = under (codes "process") (under (codes "consoleSize") here); test = there (codes "width") } ∷
     record { name = codes "console-size-terminal"; level = host; section = codes "runtime config.md#process"; platforms = every; place = under (codes "process") (if_so (asks the_part (codes "terminal" ∷ []) false (is_truth true)) here); test = absent (codes "consoleSize") } ∷

@@ -8,7 +8,7 @@ use crate::lists::{EVERY, HOOK_KINDS, LINUX_MOUNT_OPTIONS, SECCOMP_FLAGS, SECCOM
 use oci_rule_texts::Grammar;
 use oci_rules::{Key, Level, Rule, Step, Test};
 
-const RULES: &[Rule<'static>] = &[
+static RULES: [Rule<'static>; 20] = [
     Rule {
         name: "features-versions",
         level: Level::Stated,
@@ -234,5 +234,5 @@ const RULES: &[Rule<'static>] = &[
 pub fn features_rules() -> &'static [Rule<'static>]
     ensures { map rule_of result.now ≡ defined.features_rules }
 {
-    RULES
+    &RULES
 }

@@ -7,7 +7,7 @@ ghost use Rattle.oci_rules_runtime.specs.Linux as defined;
 use crate::lists::EVERY;
 use oci_rules::{Key, Level, Rule, Step, Test};
 
-const RULES: &[Rule<'static>] = &[
+static RULES: [Rule<'static>; 24] = [
     Rule {
         name: "block-weight-range",
         level: Level::Host,
@@ -369,5 +369,5 @@ const RULES: &[Rule<'static>] = &[
 pub fn linux_block_rules() -> &'static [Rule<'static>]
     ensures { map rule_of result.now ≡ defined.linux_block_rules }
 {
-    RULES
+    &RULES
 }

@@ -7,7 +7,7 @@ ghost use Rattle.oci_rules_runtime.specs.Linux as defined;
 use crate::lists::EVERY;
 use oci_rules::{Level, Rule, Step, Test};
 
-const RULES: &[Rule<'static>] = &[
+static RULES: [Rule<'static>; 24] = [
     Rule {
         name: "mapping-members-there",
         level: Level::Must,
@@ -314,5 +314,5 @@ const RULES: &[Rule<'static>] = &[
 pub fn linux_mappings_rules() -> &'static [Rule<'static>]
     ensures { map rule_of result.now ≡ defined.linux_mappings_rules }
 {
-    RULES
+    &RULES
 }

@@ -7,7 +7,7 @@ ghost use Rattle.oci_rules_runtime.specs.Linux as defined;
 use crate::lists::EVERY;
 use oci_rules::{Check, Condition, Level, Origin, Rule, Step, Test};
 
-const RULES: &[Rule<'static>] = &[
+static RULES: [Rule<'static>; 24] = [
     Rule {
         name: "mapping-fits",
         level: Level::Host,
@@ -322,5 +322,5 @@ const RULES: &[Rule<'static>] = &[
 pub fn linux_mappings_host_rules() -> &'static [Rule<'static>]
     ensures { map rule_of result.now ≡ defined.linux_mappings_host_rules }
 {
-    RULES
+    &RULES
 }

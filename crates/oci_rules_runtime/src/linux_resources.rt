@@ -8,7 +8,7 @@ use crate::lists::EVERY;
 use oci_rule_texts::Grammar;
 use oci_rules::{Check, Condition, Key, Level, Origin, Rule, Step, Test};
 
-const RULES: &[Rule<'static>] = &[
+static RULES: [Rule<'static>; 30] = [
     Rule {
         name: "cgroup-device-allow-there",
         level: Level::Must,
@@ -455,5 +455,5 @@ const RULES: &[Rule<'static>] = &[
 pub fn linux_resources_rules() -> &'static [Rule<'static>]
     ensures { map rule_of result.now ≡ defined.linux_resources_rules }
 {
-    RULES
+    &RULES
 }

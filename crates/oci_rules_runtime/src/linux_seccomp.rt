@@ -8,7 +8,7 @@ use crate::lists::EVERY;
 use oci_rule_texts::Grammar;
 use oci_rules::{Check, Condition, Key, Level, Origin, Rule, Step, Test};
 
-const RULES: &[Rule<'static>] = &[
+static RULES: [Rule<'static>; 18] = [
     Rule {
         name: "seccomp-default-errno",
         level: Level::Must,
@@ -327,5 +327,5 @@ const RULES: &[Rule<'static>] = &[
 pub fn linux_seccomp_rules() -> &'static [Rule<'static>]
     ensures { map rule_of result.now ≡ defined.linux_seccomp_rules }
 {
-    RULES
+    &RULES
 }

@@ -7,7 +7,7 @@ ghost use Rattle.oci_rules_runtime.specs.Linux as defined;
 use crate::lists::{EVERY, IPC_SYSCTLS};
 use oci_rules::{Check, Condition, Level, Origin, Rule, Step, Test};
 
-const RULES: &[Rule<'static>] = &[
+static RULES: [Rule<'static>; 6] = [
     Rule {
         name: "sysctl-network",
         level: Level::Host,
@@ -117,5 +117,5 @@ const RULES: &[Rule<'static>] = &[
 pub fn linux_sysctl_rules() -> &'static [Rule<'static>]
     ensures { map rule_of result.now ≡ defined.linux_sysctl_rules }
 {
-    RULES
+    &RULES
 }

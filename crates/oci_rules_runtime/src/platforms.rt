@@ -8,7 +8,7 @@ use crate::lists::EVERY;
 use oci_rule_texts::Grammar;
 use oci_rules::{Check, Condition, Level, Origin, Rule, Step, Test};
 
-const RULES: &[Rule<'static>] = &[
+static RULES: [Rule<'static>; 22] = [
     Rule {
         name: "windows-layers-there",
         level: Level::Must,
@@ -337,5 +337,5 @@ const RULES: &[Rule<'static>] = &[
 pub fn platforms_rules() -> &'static [Rule<'static>]
     ensures { map rule_of result.now ≡ defined.platforms_rules }
 {
-    RULES
+    &RULES
 }

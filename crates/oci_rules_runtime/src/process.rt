@@ -8,7 +8,7 @@ use crate::lists::{EVERY, POSIX, POSIX_RLIMITS};
 use oci_rule_texts::Grammar;
 use oci_rules::{Check, Condition, Key, Level, Origin, Platform, Rule, Step, Test};
 
-const RULES: &[Rule<'static>] = &[
+static RULES: [Rule<'static>; 27] = [
     Rule {
         name: "process-cwd-absolute",
         level: Level::Must,
@@ -79,7 +79,7 @@ const RULES: &[Rule<'static>] = &[
         wanted: "each variable once",
         platforms: EVERY,
         place: &[Step::Member("process"), Step::Member("env")],
-        test: Test::Distinct(Key::Before('=')),
+        test: Test::Distinct(Key::EntryName),
     },
     Rule {
         name: "console-size-there",
@@ -295,5 +295,5 @@ const RULES: &[Rule<'static>] = &[
 pub fn process_rules() -> &'static [Rule<'static>]
     ensures { map rule_of result.now ≡ defined.process_rules }
 {
-    RULES
+    &RULES
 }

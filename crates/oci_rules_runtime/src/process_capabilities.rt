@@ -7,7 +7,7 @@ ghost use Rattle.oci_rules_runtime.specs.Process as defined;
 use crate::lists::{CAPABILITIES, EVERY};
 use oci_rules::{Check, Condition, Key, Level, Origin, Rule, Step, Test};
 
-const RULES: &[Rule<'static>] = &[
+static RULES: [Rule<'static>; 24] = [
     Rule {
         name: "capability-effective-permitted",
         level: Level::Host,
@@ -348,5 +348,5 @@ const RULES: &[Rule<'static>] = &[
 pub fn process_capabilities_rules() -> &'static [Rule<'static>]
     ensures { map rule_of result.now ≡ defined.process_capabilities_rules }
 {
-    RULES
+    &RULES
 }

@@ -8,7 +8,7 @@ use crate::lists::{EVERY, OPENCONTAINERS_KEYS};
 use oci_rule_texts::Grammar;
 use oci_rules::{Check, Condition, Key, Level, Origin, Platform, Rule, Step, Test};
 
-const RULES: &[Rule<'static>] = &[
+static RULES: [Rule<'static>; 23] = [
     Rule {
         name: "process-state-members-there",
         level: Level::Must,
@@ -263,5 +263,5 @@ const RULES: &[Rule<'static>] = &[
 pub fn process_state_rules() -> &'static [Rule<'static>]
     ensures { map rule_of result.now ≡ defined.process_state_rules }
 {
-    RULES
+    &RULES
 }

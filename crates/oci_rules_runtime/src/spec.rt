@@ -8,7 +8,7 @@ use crate::lists::{EVERY, OPENCONTAINERS_KEYS, POSIX};
 use oci_rule_texts::Grammar;
 use oci_rules::{Check, Condition, Level, Origin, Platform, Rule, Step, Test};
 
-const RULES: &[Rule<'static>] = &[
+static RULES: [Rule<'static>; 31] = [
     Rule {
         name: "spec-version-there",
         level: Level::Must,
@@ -310,5 +310,5 @@ const RULES: &[Rule<'static>] = &[
 pub fn spec_rules() -> &'static [Rule<'static>]
     ensures { map rule_of result.now ≡ defined.spec_rules }
 {
-    RULES
+    &RULES
 }

@@ -8,7 +8,7 @@ use crate::lists::{EVERY, POSIX};
 use oci_rule_texts::Grammar;
 use oci_rules::{Check, Condition, Level, Origin, Platform, Rule, Step, Test};
 
-const RULES: &[Rule<'static>] = &[
+static RULES: [Rule<'static>; 30] = [
     Rule {
         name: "hook-path-absolute",
         level: Level::Must,
@@ -421,5 +421,5 @@ const RULES: &[Rule<'static>] = &[
 pub fn spec_hooks_rules() -> &'static [Rule<'static>]
     ensures { map rule_of result.now ≡ defined.spec_hooks_rules }
 {
-    RULES
+    &RULES
 }

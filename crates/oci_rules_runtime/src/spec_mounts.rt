@@ -8,7 +8,7 @@ use crate::lists::EVERY;
 use oci_rule_texts::Grammar;
 use oci_rules::{Check, Condition, Level, Origin, Platform, Rule, Step, Test};
 
-const RULES: &[Rule<'static>] = &[
+static RULES: [Rule<'static>; 25] = [
     Rule {
         name: "mount-destination-absolute",
         level: Level::Should,
@@ -404,5 +404,5 @@ const RULES: &[Rule<'static>] = &[
 pub fn spec_mounts_rules() -> &'static [Rule<'static>]
     ensures { map rule_of result.now ≡ defined.spec_mounts_rules }
 {
-    RULES
+    &RULES
 }

@@ -8,7 +8,7 @@ use crate::lists::{EVERY, OPENCONTAINERS_KEYS};
 use oci_rule_texts::Grammar;
 use oci_rules::{Check, Condition, Level, Origin, Platform, Rule, Step, Test};
 
-const RULES: &[Rule<'static>] = &[
+static RULES: [Rule<'static>; 16] = [
     Rule {
         name: "state-members-there",
         level: Level::Must,
@@ -178,5 +178,5 @@ const RULES: &[Rule<'static>] = &[
 pub fn state_rules() -> &'static [Rule<'static>]
     ensures { map rule_of result.now ≡ defined.state_rules }
 {
-    RULES
+    &RULES
 }
