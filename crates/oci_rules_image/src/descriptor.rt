@@ -8,7 +8,7 @@ use crate::lists::{EVERY, OPENCONTAINERS_KEYS};
 use oci_rule_texts::Grammar;
 use oci_rules::{Check, Condition, Level, Origin, Rule, Step, Test};
 
-static RULES: [Rule<'static>; 24] = [
+static RULES: [Rule<'static>; 22] = [
     Rule {
         name: "descriptor-media-type",
         level: Level::Must,
@@ -192,18 +192,6 @@ static RULES: [Rule<'static>; 24] = [
         test: Test::Text(Grammar::Uri),
     },
     Rule {
-        name: "annotation-licenses-spdx",
-        level: Level::Stated,
-        section: "image annotations.md#pre-defined-annotation-keys",
-        wanted: "an SPDX license expression",
-        platforms: EVERY,
-        place: &[
-            Step::Member("annotations"),
-            Step::Member("org.opencontainers.image.licenses"),
-        ],
-        test: Test::Text(Grammar::SpdxExpression),
-    },
-    Rule {
         name: "annotation-ref-name",
         level: Level::Must,
         section: "image annotations.md#pre-defined-annotation-keys",
@@ -238,18 +226,6 @@ static RULES: [Rule<'static>; 24] = [
             Step::Member("org.opencontainers.image.base.name"),
         ],
         test: Test::Text(Grammar::Reference),
-    },
-    Rule {
-        name: "annotation-base-name-full",
-        level: Level::Should,
-        section: "image annotations.md#pre-defined-annotation-keys",
-        wanted: "an image reference that names its registry",
-        platforms: EVERY,
-        place: &[
-            Step::Member("annotations"),
-            Step::Member("org.opencontainers.image.base.name"),
-        ],
-        test: Test::Text(Grammar::FullReference),
     },
     Rule {
         name: "annotation-base-both",
