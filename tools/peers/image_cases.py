@@ -29,3 +29,19 @@ def cases():
                     body = body.replace(docker, oci)
             out.append((f"{name}-{line}", KINDS[found.group(1)], body, found.group(3) == "true"))
     return out
+
+
+def examples():
+    """The examples of the specification's own texts: name, kind, text."""
+    kinds = {"application/vnd.oci.image.manifest.v1+json": "manifest", "application/vnd.oci.image.index.v1+json": "index",
+             "application/vnd.oci.descriptor.v1+json": "descriptor", "application/vnd.oci.image.config.v1+json": "config",
+             "application/vnd.oci.layout.header.v1+json": "layout"}
+    out = []
+    for name in ("manifest.md", "image-index.md", "descriptor.md", "config.md", "image-layout.md"):
+        with open(f"{SCHEMA}/../{name}", encoding="utf-8") as file:
+            text = file.read()
+        for found in re.finditer(r"^ *```json,title=[^&\n]*&mediatype=(\S+)\n(.*?)^ *```", text, re.MULTILINE | re.DOTALL):
+            kind = kinds.get(found.group(1).replace("%2B", "+"))
+            if kind:
+                out.append((f"{name}-{text[: found.start()].count(chr(10)) + 1}", kind, found.group(2)))
+    return out
