@@ -4,6 +4,7 @@
   runtime_cases.py  the validation cases of runtime-tools
   written.py        what umoci, skopeo, buildah, runc and crun write
   oracle.py         runtime-tools' validator over changed documents
+  explained.py      why that validator and the rules differ
   changes.py        changes of documents, by a seed
   checker.py        what breaks rules, by the project's own program
 """

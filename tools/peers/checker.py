@@ -25,10 +25,16 @@ def check(root, documents, program=""):
         given.write(lines)
         given.seek(0)
         done = subprocess.run(words, cwd=folder, stdin=given, capture_output=True, check=False)
-    blocks = done.stdout.decode("utf-8").split("\n\n")
-    if len(blocks) != len(documents) + 1:
-        raise SystemExit(f"{len(documents)} documents, {len(blocks) - 1} answers: {done.stderr.decode('utf-8')[-2000:]}")
-    return [[found(line) for line in block.split("\n") if line] for block in blocks[:-1]]
+    answers, last = [], []
+    for line in done.stdout.decode("utf-8").split("\n")[:-1]:
+        if line:
+            last.append(found(line))
+        else:
+            answers.append(last)
+            last = []
+    if len(answers) != len(documents):
+        raise SystemExit(f"{len(documents)} documents, {len(answers)} answers: {done.stderr.decode('utf-8')[-2000:]}")
+    return answers
 
 
 def found(line):

@@ -8,7 +8,7 @@ use crate::lists::{EVERY, OPENCONTAINERS_KEYS};
 use oci_rule_texts::Grammar;
 use oci_rules::{Check, Condition, Level, Origin, Rule, Step, Test};
 
-static RULES: [Rule<'static>; 22] = [
+static RULES: [Rule<'static>; 23] = [
     Rule {
         name: "descriptor-media-type",
         level: Level::Must,
@@ -192,6 +192,12 @@ static RULES: [Rule<'static>; 22] = [
             Step::EachItem,
             Step::Member("annotations"),
             Step::Member("org.opencontainers.image.created"),
+            Step::When(Condition {
+                origin: Origin::Part,
+                way: &[],
+                holds: false,
+                check: Check::OneOf(&[""]),
+            }),
         ],
         test: Test::Text(Grammar::DateTime),
     },
@@ -206,6 +212,12 @@ static RULES: [Rule<'static>; 22] = [
             Step::EachItem,
             Step::Member("annotations"),
             Step::Member("org.opencontainers.image.url"),
+            Step::When(Condition {
+                origin: Origin::Part,
+                way: &[],
+                holds: false,
+                check: Check::OneOf(&[""]),
+            }),
         ],
         test: Test::Text(Grammar::Uri),
     },
@@ -220,6 +232,12 @@ static RULES: [Rule<'static>; 22] = [
             Step::EachItem,
             Step::Member("annotations"),
             Step::Member("org.opencontainers.image.documentation"),
+            Step::When(Condition {
+                origin: Origin::Part,
+                way: &[],
+                holds: false,
+                check: Check::OneOf(&[""]),
+            }),
         ],
         test: Test::Text(Grammar::Uri),
     },
@@ -234,6 +252,12 @@ static RULES: [Rule<'static>; 22] = [
             Step::EachItem,
             Step::Member("annotations"),
             Step::Member("org.opencontainers.image.source"),
+            Step::When(Condition {
+                origin: Origin::Part,
+                way: &[],
+                holds: false,
+                check: Check::OneOf(&[""]),
+            }),
         ],
         test: Test::Text(Grammar::Uri),
     },
@@ -262,6 +286,12 @@ static RULES: [Rule<'static>; 22] = [
             Step::EachItem,
             Step::Member("annotations"),
             Step::Member("org.opencontainers.image.base.digest"),
+            Step::When(Condition {
+                origin: Origin::Part,
+                way: &[],
+                holds: false,
+                check: Check::OneOf(&[""]),
+            }),
         ],
         test: Test::Text(Grammar::Digest),
     },
@@ -276,8 +306,34 @@ static RULES: [Rule<'static>; 22] = [
             Step::EachItem,
             Step::Member("annotations"),
             Step::Member("org.opencontainers.image.base.name"),
+            Step::When(Condition {
+                origin: Origin::Part,
+                way: &[],
+                holds: false,
+                check: Check::OneOf(&[""]),
+            }),
         ],
         test: Test::Text(Grammar::Reference),
+    },
+    Rule {
+        name: "annotation-base-name-full",
+        level: Level::Should,
+        section: "image annotations.md#pre-defined-annotation-keys",
+        wanted: "an image reference that names its registry",
+        platforms: EVERY,
+        place: &[
+            Step::Member("blobs"),
+            Step::EachItem,
+            Step::Member("annotations"),
+            Step::Member("org.opencontainers.image.base.name"),
+            Step::When(Condition {
+                origin: Origin::Part,
+                way: &[],
+                holds: false,
+                check: Check::OneOf(&[""]),
+            }),
+        ],
+        test: Test::Text(Grammar::FullReference),
     },
     Rule {
         name: "annotation-base-both",

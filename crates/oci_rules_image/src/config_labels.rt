@@ -8,7 +8,7 @@ use crate::lists::{EVERY, OPENCONTAINERS_KEYS};
 use oci_rule_texts::Grammar;
 use oci_rules::{Check, Condition, Level, Origin, Rule, Step, Test};
 
-static RULES: [Rule<'static>; 12] = [
+static RULES: [Rule<'static>; 13] = [
     Rule {
         name: "annotation-key-reverse-domain",
         level: Level::Should,
@@ -45,6 +45,12 @@ static RULES: [Rule<'static>; 12] = [
             Step::Member("config"),
             Step::Member("Labels"),
             Step::Member("org.opencontainers.image.created"),
+            Step::When(Condition {
+                origin: Origin::Part,
+                way: &[],
+                holds: false,
+                check: Check::OneOf(&[""]),
+            }),
         ],
         test: Test::Text(Grammar::DateTime),
     },
@@ -58,6 +64,12 @@ static RULES: [Rule<'static>; 12] = [
             Step::Member("config"),
             Step::Member("Labels"),
             Step::Member("org.opencontainers.image.url"),
+            Step::When(Condition {
+                origin: Origin::Part,
+                way: &[],
+                holds: false,
+                check: Check::OneOf(&[""]),
+            }),
         ],
         test: Test::Text(Grammar::Uri),
     },
@@ -71,6 +83,12 @@ static RULES: [Rule<'static>; 12] = [
             Step::Member("config"),
             Step::Member("Labels"),
             Step::Member("org.opencontainers.image.documentation"),
+            Step::When(Condition {
+                origin: Origin::Part,
+                way: &[],
+                holds: false,
+                check: Check::OneOf(&[""]),
+            }),
         ],
         test: Test::Text(Grammar::Uri),
     },
@@ -84,6 +102,12 @@ static RULES: [Rule<'static>; 12] = [
             Step::Member("config"),
             Step::Member("Labels"),
             Step::Member("org.opencontainers.image.source"),
+            Step::When(Condition {
+                origin: Origin::Part,
+                way: &[],
+                holds: false,
+                check: Check::OneOf(&[""]),
+            }),
         ],
         test: Test::Text(Grammar::Uri),
     },
@@ -110,6 +134,12 @@ static RULES: [Rule<'static>; 12] = [
             Step::Member("config"),
             Step::Member("Labels"),
             Step::Member("org.opencontainers.image.base.digest"),
+            Step::When(Condition {
+                origin: Origin::Part,
+                way: &[],
+                holds: false,
+                check: Check::OneOf(&[""]),
+            }),
         ],
         test: Test::Text(Grammar::Digest),
     },
@@ -123,8 +153,33 @@ static RULES: [Rule<'static>; 12] = [
             Step::Member("config"),
             Step::Member("Labels"),
             Step::Member("org.opencontainers.image.base.name"),
+            Step::When(Condition {
+                origin: Origin::Part,
+                way: &[],
+                holds: false,
+                check: Check::OneOf(&[""]),
+            }),
         ],
         test: Test::Text(Grammar::Reference),
+    },
+    Rule {
+        name: "annotation-base-name-full",
+        level: Level::Should,
+        section: "image annotations.md#pre-defined-annotation-keys",
+        wanted: "an image reference that names its registry",
+        platforms: EVERY,
+        place: &[
+            Step::Member("config"),
+            Step::Member("Labels"),
+            Step::Member("org.opencontainers.image.base.name"),
+            Step::When(Condition {
+                origin: Origin::Part,
+                way: &[],
+                holds: false,
+                check: Check::OneOf(&[""]),
+            }),
+        ],
+        test: Test::Text(Grammar::FullReference),
     },
     Rule {
         name: "annotation-base-both",

@@ -8,7 +8,7 @@ use crate::lists::{EVERY, OPENCONTAINERS_KEYS};
 use oci_rule_texts::Grammar;
 use oci_rules::{Check, Condition, Level, Origin, Rule, Step, Test};
 
-static RULES: [Rule<'static>; 21] = [
+static RULES: [Rule<'static>; 22] = [
     Rule {
         name: "descriptor-media-type",
         level: Level::Must,
@@ -200,6 +200,12 @@ static RULES: [Rule<'static>; 21] = [
             Step::EachItem,
             Step::Member("annotations"),
             Step::Member("org.opencontainers.image.created"),
+            Step::When(Condition {
+                origin: Origin::Part,
+                way: &[],
+                holds: false,
+                check: Check::OneOf(&[""]),
+            }),
         ],
         test: Test::Text(Grammar::DateTime),
     },
@@ -214,6 +220,12 @@ static RULES: [Rule<'static>; 21] = [
             Step::EachItem,
             Step::Member("annotations"),
             Step::Member("org.opencontainers.image.url"),
+            Step::When(Condition {
+                origin: Origin::Part,
+                way: &[],
+                holds: false,
+                check: Check::OneOf(&[""]),
+            }),
         ],
         test: Test::Text(Grammar::Uri),
     },
@@ -228,6 +240,12 @@ static RULES: [Rule<'static>; 21] = [
             Step::EachItem,
             Step::Member("annotations"),
             Step::Member("org.opencontainers.image.documentation"),
+            Step::When(Condition {
+                origin: Origin::Part,
+                way: &[],
+                holds: false,
+                check: Check::OneOf(&[""]),
+            }),
         ],
         test: Test::Text(Grammar::Uri),
     },
@@ -242,6 +260,12 @@ static RULES: [Rule<'static>; 21] = [
             Step::EachItem,
             Step::Member("annotations"),
             Step::Member("org.opencontainers.image.source"),
+            Step::When(Condition {
+                origin: Origin::Part,
+                way: &[],
+                holds: false,
+                check: Check::OneOf(&[""]),
+            }),
         ],
         test: Test::Text(Grammar::Uri),
     },
@@ -270,6 +294,12 @@ static RULES: [Rule<'static>; 21] = [
             Step::EachItem,
             Step::Member("annotations"),
             Step::Member("org.opencontainers.image.base.digest"),
+            Step::When(Condition {
+                origin: Origin::Part,
+                way: &[],
+                holds: false,
+                check: Check::OneOf(&[""]),
+            }),
         ],
         test: Test::Text(Grammar::Digest),
     },
@@ -284,8 +314,34 @@ static RULES: [Rule<'static>; 21] = [
             Step::EachItem,
             Step::Member("annotations"),
             Step::Member("org.opencontainers.image.base.name"),
+            Step::When(Condition {
+                origin: Origin::Part,
+                way: &[],
+                holds: false,
+                check: Check::OneOf(&[""]),
+            }),
         ],
         test: Test::Text(Grammar::Reference),
+    },
+    Rule {
+        name: "annotation-base-name-full",
+        level: Level::Should,
+        section: "image annotations.md#pre-defined-annotation-keys",
+        wanted: "an image reference that names its registry",
+        platforms: EVERY,
+        place: &[
+            Step::Member("manifests"),
+            Step::EachItem,
+            Step::Member("annotations"),
+            Step::Member("org.opencontainers.image.base.name"),
+            Step::When(Condition {
+                origin: Origin::Part,
+                way: &[],
+                holds: false,
+                check: Check::OneOf(&[""]),
+            }),
+        ],
+        test: Test::Text(Grammar::FullReference),
     },
     Rule {
         name: "annotation-base-both",

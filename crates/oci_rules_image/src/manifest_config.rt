@@ -8,7 +8,7 @@ use crate::lists::{EVERY, OPENCONTAINERS_KEYS};
 use oci_rule_texts::Grammar;
 use oci_rules::{Check, Condition, Level, Origin, Rule, Step, Test};
 
-static RULES: [Rule<'static>; 22] = [
+static RULES: [Rule<'static>; 23] = [
     Rule {
         name: "descriptor-media-type",
         level: Level::Must,
@@ -164,6 +164,12 @@ static RULES: [Rule<'static>; 22] = [
             Step::Member("config"),
             Step::Member("annotations"),
             Step::Member("org.opencontainers.image.created"),
+            Step::When(Condition {
+                origin: Origin::Part,
+                way: &[],
+                holds: false,
+                check: Check::OneOf(&[""]),
+            }),
         ],
         test: Test::Text(Grammar::DateTime),
     },
@@ -177,6 +183,12 @@ static RULES: [Rule<'static>; 22] = [
             Step::Member("config"),
             Step::Member("annotations"),
             Step::Member("org.opencontainers.image.url"),
+            Step::When(Condition {
+                origin: Origin::Part,
+                way: &[],
+                holds: false,
+                check: Check::OneOf(&[""]),
+            }),
         ],
         test: Test::Text(Grammar::Uri),
     },
@@ -190,6 +202,12 @@ static RULES: [Rule<'static>; 22] = [
             Step::Member("config"),
             Step::Member("annotations"),
             Step::Member("org.opencontainers.image.documentation"),
+            Step::When(Condition {
+                origin: Origin::Part,
+                way: &[],
+                holds: false,
+                check: Check::OneOf(&[""]),
+            }),
         ],
         test: Test::Text(Grammar::Uri),
     },
@@ -203,6 +221,12 @@ static RULES: [Rule<'static>; 22] = [
             Step::Member("config"),
             Step::Member("annotations"),
             Step::Member("org.opencontainers.image.source"),
+            Step::When(Condition {
+                origin: Origin::Part,
+                way: &[],
+                holds: false,
+                check: Check::OneOf(&[""]),
+            }),
         ],
         test: Test::Text(Grammar::Uri),
     },
@@ -229,6 +253,12 @@ static RULES: [Rule<'static>; 22] = [
             Step::Member("config"),
             Step::Member("annotations"),
             Step::Member("org.opencontainers.image.base.digest"),
+            Step::When(Condition {
+                origin: Origin::Part,
+                way: &[],
+                holds: false,
+                check: Check::OneOf(&[""]),
+            }),
         ],
         test: Test::Text(Grammar::Digest),
     },
@@ -242,8 +272,33 @@ static RULES: [Rule<'static>; 22] = [
             Step::Member("config"),
             Step::Member("annotations"),
             Step::Member("org.opencontainers.image.base.name"),
+            Step::When(Condition {
+                origin: Origin::Part,
+                way: &[],
+                holds: false,
+                check: Check::OneOf(&[""]),
+            }),
         ],
         test: Test::Text(Grammar::Reference),
+    },
+    Rule {
+        name: "annotation-base-name-full",
+        level: Level::Should,
+        section: "image annotations.md#pre-defined-annotation-keys",
+        wanted: "an image reference that names its registry",
+        platforms: EVERY,
+        place: &[
+            Step::Member("config"),
+            Step::Member("annotations"),
+            Step::Member("org.opencontainers.image.base.name"),
+            Step::When(Condition {
+                origin: Origin::Part,
+                way: &[],
+                holds: false,
+                check: Check::OneOf(&[""]),
+            }),
+        ],
+        test: Test::Text(Grammar::FullReference),
     },
     Rule {
         name: "annotation-base-both",

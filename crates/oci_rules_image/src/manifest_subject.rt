@@ -8,7 +8,7 @@ use crate::lists::{EVERY, OPENCONTAINERS_KEYS};
 use oci_rule_texts::Grammar;
 use oci_rules::{Check, Condition, Level, Origin, Rule, Step, Test};
 
-static RULES: [Rule<'static>; 22] = [
+static RULES: [Rule<'static>; 23] = [
     Rule {
         name: "descriptor-media-type",
         level: Level::Must,
@@ -172,6 +172,12 @@ static RULES: [Rule<'static>; 22] = [
             Step::Member("subject"),
             Step::Member("annotations"),
             Step::Member("org.opencontainers.image.created"),
+            Step::When(Condition {
+                origin: Origin::Part,
+                way: &[],
+                holds: false,
+                check: Check::OneOf(&[""]),
+            }),
         ],
         test: Test::Text(Grammar::DateTime),
     },
@@ -185,6 +191,12 @@ static RULES: [Rule<'static>; 22] = [
             Step::Member("subject"),
             Step::Member("annotations"),
             Step::Member("org.opencontainers.image.url"),
+            Step::When(Condition {
+                origin: Origin::Part,
+                way: &[],
+                holds: false,
+                check: Check::OneOf(&[""]),
+            }),
         ],
         test: Test::Text(Grammar::Uri),
     },
@@ -198,6 +210,12 @@ static RULES: [Rule<'static>; 22] = [
             Step::Member("subject"),
             Step::Member("annotations"),
             Step::Member("org.opencontainers.image.documentation"),
+            Step::When(Condition {
+                origin: Origin::Part,
+                way: &[],
+                holds: false,
+                check: Check::OneOf(&[""]),
+            }),
         ],
         test: Test::Text(Grammar::Uri),
     },
@@ -211,6 +229,12 @@ static RULES: [Rule<'static>; 22] = [
             Step::Member("subject"),
             Step::Member("annotations"),
             Step::Member("org.opencontainers.image.source"),
+            Step::When(Condition {
+                origin: Origin::Part,
+                way: &[],
+                holds: false,
+                check: Check::OneOf(&[""]),
+            }),
         ],
         test: Test::Text(Grammar::Uri),
     },
@@ -237,6 +261,12 @@ static RULES: [Rule<'static>; 22] = [
             Step::Member("subject"),
             Step::Member("annotations"),
             Step::Member("org.opencontainers.image.base.digest"),
+            Step::When(Condition {
+                origin: Origin::Part,
+                way: &[],
+                holds: false,
+                check: Check::OneOf(&[""]),
+            }),
         ],
         test: Test::Text(Grammar::Digest),
     },
@@ -250,8 +280,33 @@ static RULES: [Rule<'static>; 22] = [
             Step::Member("subject"),
             Step::Member("annotations"),
             Step::Member("org.opencontainers.image.base.name"),
+            Step::When(Condition {
+                origin: Origin::Part,
+                way: &[],
+                holds: false,
+                check: Check::OneOf(&[""]),
+            }),
         ],
         test: Test::Text(Grammar::Reference),
+    },
+    Rule {
+        name: "annotation-base-name-full",
+        level: Level::Should,
+        section: "image annotations.md#pre-defined-annotation-keys",
+        wanted: "an image reference that names its registry",
+        platforms: EVERY,
+        place: &[
+            Step::Member("subject"),
+            Step::Member("annotations"),
+            Step::Member("org.opencontainers.image.base.name"),
+            Step::When(Condition {
+                origin: Origin::Part,
+                way: &[],
+                holds: false,
+                check: Check::OneOf(&[""]),
+            }),
+        ],
+        test: Test::Text(Grammar::FullReference),
     },
     Rule {
         name: "annotation-base-both",

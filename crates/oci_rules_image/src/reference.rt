@@ -8,7 +8,25 @@ use crate::lists::EVERY;
 use oci_rule_texts::Grammar;
 use oci_rules::{Level, Rule, Step, Test};
 
-static RULES: [Rule<'static>; 4] = [
+static RULES: [Rule<'static>; 6] = [
+    Rule {
+        name: "reference-registry",
+        level: Level::Must,
+        section: "distribution spec.md#pulling-manifests",
+        wanted: "a domain, with a port or nothing behind it",
+        platforms: EVERY,
+        place: &[Step::Member("registry")],
+        test: Test::Text(Grammar::Domain),
+    },
+    Rule {
+        name: "reference-registry",
+        level: Level::Must,
+        section: "distribution spec.md#pulling-manifests",
+        wanted: "a domain, with a port or nothing behind it",
+        platforms: EVERY,
+        place: &[Step::Member("mirror_registry")],
+        test: Test::Text(Grammar::Domain),
+    },
     Rule {
         name: "reference-repository",
         level: Level::Must,

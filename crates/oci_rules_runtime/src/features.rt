@@ -222,7 +222,7 @@ static RULES: [Rule<'static>; 20] = [
     Rule {
         name: "annotation-key-reverse-domain",
         level: Level::Should,
-        section: "image annotations.md#rules",
+        section: "runtime config.md#annotations",
         wanted: "a key in reverse domain notation, as com.example.myKey",
         platforms: EVERY,
         place: &[Step::Member("annotations"), Step::EachName],

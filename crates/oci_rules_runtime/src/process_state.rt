@@ -195,7 +195,7 @@ static RULES: [Rule<'static>; 23] = [
     Rule {
         name: "annotation-key-reverse-domain",
         level: Level::Should,
-        section: "image annotations.md#rules",
+        section: "runtime config.md#annotations",
         wanted: "a key in reverse domain notation, as com.example.myKey",
         platforms: EVERY,
         place: &[
@@ -228,6 +228,12 @@ static RULES: [Rule<'static>; 23] = [
             Step::Member("state"),
             Step::Member("annotations"),
             Step::Member("org.opencontainers.image.created"),
+            Step::When(Condition {
+                origin: Origin::Part,
+                way: &[],
+                holds: false,
+                check: Check::OneOf(&[""]),
+            }),
         ],
         test: Test::Text(Grammar::DateTime),
     },
@@ -241,6 +247,12 @@ static RULES: [Rule<'static>; 23] = [
             Step::Member("state"),
             Step::Member("annotations"),
             Step::Member("org.opencontainers.image.stopSignal"),
+            Step::When(Condition {
+                origin: Origin::Part,
+                way: &[],
+                holds: false,
+                check: Check::OneOf(&[""]),
+            }),
         ],
         test: Test::Text(Grammar::Signal),
     },

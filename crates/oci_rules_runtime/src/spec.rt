@@ -256,7 +256,7 @@ static RULES: [Rule<'static>; 31] = [
     Rule {
         name: "annotation-key-reverse-domain",
         level: Level::Should,
-        section: "image annotations.md#rules",
+        section: "runtime config.md#annotations",
         wanted: "a key in reverse domain notation, as com.example.myKey",
         platforms: EVERY,
         place: &[Step::Member("annotations"), Step::EachName],
@@ -280,6 +280,12 @@ static RULES: [Rule<'static>; 31] = [
         place: &[
             Step::Member("annotations"),
             Step::Member("org.opencontainers.image.created"),
+            Step::When(Condition {
+                origin: Origin::Part,
+                way: &[],
+                holds: false,
+                check: Check::OneOf(&[""]),
+            }),
         ],
         test: Test::Text(Grammar::DateTime),
     },
@@ -292,6 +298,12 @@ static RULES: [Rule<'static>; 31] = [
         place: &[
             Step::Member("annotations"),
             Step::Member("org.opencontainers.image.stopSignal"),
+            Step::When(Condition {
+                origin: Origin::Part,
+                way: &[],
+                holds: false,
+                check: Check::OneOf(&[""]),
+            }),
         ],
         test: Test::Text(Grammar::Signal),
     },
