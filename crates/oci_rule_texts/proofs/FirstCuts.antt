@@ -1,10 +1,11 @@
 -- A text that is cut at the first place of a byte.
-use Rattle.std.proofs.Common.{◌≡◌, ℕ, suc, ◌+◌, ◌-◌, ◌≤◌, Bool, true, false, List, [], ◌∷◌, Some, None, length, take, drop, refl, sym, ap, ◌∙◌, arith}
+use Rattle.std.proofs.Common.{◌≡◌, ℕ, suc, ◌+◌, ◌-◌, ◌≤◌, Bool, true, false, not, List, [], ◌∷◌, Some, None, length, take, drop, refl, sym, ap, ◌∙◌, arith}
 use Rattle.std.specs.Prelude.{position, nat_lt, ◌==◌}
 use Rattle.std.specs.List.{position_or_len}
 use Rattle.std.proofs.lemmas.Bool.{ltb-false}
 use Rattle.std.proofs.lemmas.List.{take_all, drop_all, length-drop}
 use Rattle.oci_text_base.specs.Classes.{until, after}
+use Rattle.oci_rule_texts.specs.Decided.{front_in, back_in}
 
 -- how many bytes stand before the first c
 abbrev passed : ℕ → List ℕ → ℕ
@@ -69,3 +70,49 @@ pub nothing : (c : ℕ) (t : List ℕ) → position (λ b. b == c) t ≡ None �
 nothing c t h =
     let far : length t ≤ position_or_len (λ b. b == c) t + 1 = omega (arith, no_place c t h) in
     sym (after_place c t) ∙ drop_all (position_or_len (λ b. b == c) t + 1) t far
+
+-- ---- the first byte that is not of a class
+
+spanned : (class : ℕ → Bool) (t : List ℕ) → (take (position_or_len (λ b. not (class b)) t) t ≡ front_in class t) × (drop (position_or_len (λ b. not (class b)) t) t ≡ back_in class t)
+spanned class [] = (refl, refl)
+spanned class (b ∷ t) = go (class b) refl (spanned class t)
+  where
+    here : class b ≡ false → position_or_len (λ c. not (class c)) (b ∷ t) ≡ 0
+    here e = rw e refl
+
+    on : class b ≡ true → position_or_len (λ c. not (class c)) (b ∷ t) ≡ suc (position_or_len (λ c. not (class c)) t)
+    on e = rw e (one_more (position_or_len (λ c. not (class c)) t))
+
+    go : (in' : Bool) → class b ≡ in' → (take (position_or_len (λ c. not (class c)) t) t ≡ front_in class t) × (drop (position_or_len (λ c. not (class c)) t) t ≡ back_in class t)
+        → (take (position_or_len (λ c. not (class c)) (b ∷ t)) (b ∷ t) ≡ front_in class (b ∷ t)) × (drop (position_or_len (λ c. not (class c)) (b ∷ t)) (b ∷ t) ≡ back_in class (b ∷ t))
+    go true e rec = (
+      ap (λ k. take k (b ∷ t)) (on e) ∙ rw e (ap (λ z. b ∷ z) rec.0),
+      ap (λ k. drop k (b ∷ t)) (on e) ∙ rw e (rec.1),
+    )
+    go false e rec = (ap (λ k. take k (b ∷ t)) (here e) ∙ rw e refl, ap (λ k. drop k (b ∷ t)) (here e) ∙ rw e refl)
+
+other : (class : ℕ → Bool) (t : List ℕ) (i : ℕ) → position (λ b. not (class b)) t ≡ Some i → position_or_len (λ b. not (class b)) t ≡ i
+other class t i h = go (nat_lt (position_or_len (λ b. not (class b)) t) (length t)) refl
+  where
+    go : (within : Bool) → nat_lt (position_or_len (λ b. not (class b)) t) (length t) ≡ within → position_or_len (λ b. not (class b)) t ≡ i
+    go true e = let same = rw e at h in cc same
+    go false e = let clash = rw e at h in cc clash
+
+no_other : (class : ℕ → Bool) (t : List ℕ) → position (λ b. not (class b)) t ≡ None → length t ≤ position_or_len (λ b. not (class b)) t
+no_other class t h = go (nat_lt (position_or_len (λ b. not (class b)) t) (length t)) refl
+  where
+    go : (within : Bool) → nat_lt (position_or_len (λ b. not (class b)) t) (length t) ≡ within → length t ≤ position_or_len (λ b. not (class b)) t
+    go true e = let clash = rw e at h in cc clash
+    go false e = ltb-false (position_or_len (λ b. not (class b)) t) (length t) e
+
+pub front_to : (class : ℕ → Bool) (t : List ℕ) (i : ℕ) → position (λ b. not (class b)) t ≡ Some i → take i t ≡ front_in class t
+front_to class t i h = ap (λ k. take k t) (sym (other class t i h)) ∙ (spanned class t).0
+
+pub back_from : (class : ℕ → Bool) (t : List ℕ) (i : ℕ) → position (λ b. not (class b)) t ≡ Some i → take (length t - i) (drop i t) ≡ back_in class t
+back_from class t i h = rest_of t i ∙ ap (λ k. drop k t) (sym (other class t i h)) ∙ (spanned class t).1
+
+pub front_whole : (class : ℕ → Bool) (t : List ℕ) → position (λ b. not (class b)) t ≡ None → t ≡ front_in class t
+front_whole class t h = sym (take_all (position_or_len (λ b. not (class b)) t) t (no_other class t h)) ∙ (spanned class t).0
+
+pub back_none : (class : ℕ → Bool) (t : List ℕ) → position (λ b. not (class b)) t ≡ None → back_in class t ≡ []
+back_none class t h = sym (spanned class t).1 ∙ drop_all (position_or_len (λ b. not (class b)) t) t (no_other class t h)

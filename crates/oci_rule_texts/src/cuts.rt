@@ -1,5 +1,5 @@
 //! Where a text is cut.
-ghost use Rattle.std.specs.Prelude.{◌≡◌, ◌==◌, position};
+ghost use Rattle.std.specs.Prelude.{◌≡◌, ◌==◌, position, drop};
 ghost use Rattle.oci_text_base.specs.Classes.{until, after};
 
 /// What stands before the first such byte and what stands behind it, or the whole text and nothing.
@@ -17,4 +17,15 @@ fn place_of(text: &[u8], mark: u8) -> Option<usize>
     ensures { result ≡ position (λ b. b == mark) text.now }
 {
     text.iter().position(|b| *b == mark)
+}
+
+/// What stands behind this many bytes, or nothing.
+pub(crate) fn behind(text: &[u8], count: usize) -> &[u8]
+    ensures { result.now ≡ drop count text.now }
+{
+    if count <= text.len() {
+        &text[count..]
+    } else {
+        &[]
+    }
 }
