@@ -20,7 +20,7 @@ class Found:
 def check(root, documents, program=""):
     """What breaks rules in each (kind, platform, text) of a list; the text is one line of JSON."""
     lines = "".join(f"{kind} {platform or '-'} {' '.join(text.split(chr(10)))}\n" for kind, platform, text in documents)
-    words, folder = ([program, "list"], root) if program else (["rt", "try", "--", "list"], os.path.join(root, "crates/oci_test_rules"))
+    words, folder = ([program, "list"], root) if program else (["rt", "try", "--seconds", "3000", "--", "list"], os.path.join(root, "crates/oci_test_rules"))
     with tempfile.TemporaryFile("w+", encoding="utf-8") as given:
         given.write(lines)
         given.seek(0)

@@ -5,6 +5,7 @@
   shapes.py       whether places stand in the records of tools/records
   specs.py        the definitions of a file of rules
   source.py       the constants of the code
+  kinds.py        the books of each kind; that each place stands in the shape of its documents
   rows.py         golden rows: whole documents from a base and changes of it; which rules have none
   pages.py        docs/RULES.md
 """
