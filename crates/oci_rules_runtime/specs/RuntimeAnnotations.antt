@@ -5,6 +5,13 @@ use Rattle.oci_rule_texts.specs.declared.grammar.Grammar.TheVariants.{DateTime, 
 use Rattle.oci_rules.specs.Rules.{Rule, must, stated, should, here, under, each_name, if_so, asks, the_part, is_text, text, reserved, not_empty}
 use Rattle.oci_rules_runtime.specs.Lists.{every, opencontainers_keys}
 
+-- the rules of features annotations
+abbrev pub features_annotations_rules : List Rule
+features_annotations_rules =
+    record { name = codes "annotation-key-not-empty"; level = must; section = codes "runtime config.md#annotations"; platforms = every; place = each_name here; test = not_empty } ∷
+    record { name = codes "annotation-key-reverse-domain"; level = should; section = codes "runtime config.md#annotations"; platforms = every; place = each_name here; test = text ReverseDomain } ∷
+    []
+
 -- the rules of runtime annotations
 abbrev pub runtime_annotations_rules : List Rule
 runtime_annotations_rules =
@@ -15,10 +22,3 @@ runtime_annotations_rules =
     record { name = codes "annotation-stop-signal"; level = must; section = codes "runtime config.md#annotations"; platforms = every; place = under (codes "org.opencontainers.image.stopSignal") (if_so (asks the_part [] false (is_text (codes "" ∷ []))) here); test = text Signal } ∷
     record { name = codes "annotation-label-schema"; level = stated; section = codes "image annotations.md#back-compatibility-with-label-schema"; platforms = every; place = each_name here; test = reserved (codes "org.label-schema.") [] } ∷
     [])
-
--- the rules of features annotations
-abbrev pub features_annotations_rules : List Rule
-features_annotations_rules =
-    record { name = codes "annotation-key-not-empty"; level = must; section = codes "runtime config.md#annotations"; platforms = every; place = each_name here; test = not_empty } ∷
-    record { name = codes "annotation-key-reverse-domain"; level = should; section = codes "runtime config.md#annotations"; platforms = every; place = each_name here; test = text ReverseDomain } ∷
-    []
