@@ -47,9 +47,9 @@ def places(text):
     """The places of a description: each with its steps."""
     out = []
     for place in text.split():
-        if not place.startswith("/"):
-            raise Wrong(f"a place begins with a slash: {place}")
-        found = re.split(r"/(?![^(]*\))", place[1:]) if place != "/" else []
+        if place.startswith("/"):
+            raise Wrong(f"a place begins with a name: {place}")
+        found = re.split(r"/(?![^(]*\))", place) if place != "." else []
         choices = [segment(it) for it in found]
         out += [tuple(steps) for steps in itertools.product(*choices)]
     return out
@@ -104,7 +104,7 @@ class Reader:
             return (self.condition(rest[0], word == "when"), *steps), test
         if word == "at":
             steps, test = self.inner(rest[1:])
-            (before,) = places("/" + rest[0])
+            (before,) = places(rest[0])
             return (*before, *steps), test
         if word == "names":
             steps, test = self.inner(rest)

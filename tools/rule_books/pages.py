@@ -18,7 +18,7 @@ part breaks it, with the part's JSON Pointer; a part of another type breaks none
 
 - **Levels.** `must`: MUST, REQUIRED and their negatives. `should`: SHOULD, RECOMMENDED, DEPRECATED. `stated`: a format, a range or a list of
   values without such a word. `host`: no sentence of a specification, but a manual page, the kernel or every runtime refuses it.
-- **Places.** `*` is each item of an array, `{}` each member of an object, `(a,b)` one of these names; a bare `/` is the whole. Places of a
+- **Places.** `*` is each item of an array, `{}` each member of an object, `(a,b)` one of these names; `.` is the whole. Places of a
   set begin where the set stands, which the line below its title says.
 - **Peers.** T: `oci-runtime-tool validate`, S: the JSON schemas of the specifications, V: the Go code beside them, R: runc, C: crun. E: it is
   refused, "warns": it is printed.
@@ -44,7 +44,7 @@ def stands(model, group):
     for other in model.groups.values():
         places = [(steps, name) for steps, name in other.included() if name == group.name]
         for steps, _ in places:
-            place = "".join("/" + {"item": "*", "each": "{}"}.get(step[0], step[-1]) for step in steps) or "/"
+            place = "/".join({"item": "*", "each": "{}"}.get(step[0], step[-1]) for step in steps) or "."
             out.append(f"`{place}` of {other.name}")
     return ", ".join(out)
 

@@ -12,7 +12,8 @@ A file tools/rules/rows/KIND.rows, or KIND.PART.rows, has what is written by han
                          what is listed stands below, in order, a line each: `- RULE POINTER`
   keeps BASE CHANGE      a change that touches what the rule asks of, and breaks nothing
 
-A change is a JSON Merge Patch (RFC 7396), or a JSON Pointer (RFC 6901) and the value that is put there.
+A change is a JSON Merge Patch (RFC 7396), or a JSON Pointer (RFC 6901) and the value that is put there. Pointers are without the slash at
+the beginning.
 
 A row of crates/oci_test_rules/data/KIND.rows is three lines: the platform or `-`, the document, and what is listed, `RULE POINTER` with
 two blanks between entries, or `-`.
@@ -58,7 +59,7 @@ def changed(value, text):
         return patched(value, change), None, rest
     pointer, _, text = text.partition(" ")
     part, rest = json_and_rest(text)
-    names = [it.replace("~1", "/").replace("~0", "~") for it in pointer.split("/")[1:]]
+    names = [it.replace("~1", "/").replace("~0", "~") for it in pointer.split("/")]
     return put(value, names, part), pointer, rest
 
 
@@ -67,7 +68,7 @@ class Row:
         self.rule, self.breaks, self.document, self.platform, self.listed = rule, breaks, document, platform, listed
 
     def text(self):
-        listed = "  ".join(f"{name} {pointer}".rstrip() for name, pointer in self.listed) or "-"
+        listed = "  ".join(f"{name} /{pointer}" if pointer else name for name, pointer in self.listed) or "-"
         return f"{self.platform}\n{json.dumps(self.document, ensure_ascii=False, separators=(',', ':'))}\n{listed}\n"
 
 
