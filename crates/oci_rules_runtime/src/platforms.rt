@@ -8,7 +8,7 @@ use crate::lists::EVERY;
 use oci_rule_texts::Grammar;
 use oci_rules::{Check, Condition, Level, Origin, Rule, Step, Test};
 
-static RULES: [Rule<'static>; 22] = [
+static RULES: [Rule<'static>; 21] = [
     Rule {
         name: "windows-layers-there",
         level: Level::Must,
@@ -317,19 +317,6 @@ static RULES: [Rule<'static>; 22] = [
             Step::Member("swap"),
         ],
         test: Test::Text(Grammar::ScaledNumber),
-    },
-    Rule {
-        name: "solaris-cpus",
-        level: Level::Stated,
-        section: "runtime config-solaris.md#cappedcpu",
-        wanted: "a decimal number",
-        platforms: EVERY,
-        place: &[
-            Step::Member("solaris"),
-            Step::Member("cappedCPU"),
-            Step::Member("ncpus"),
-        ],
-        test: Test::Text(Grammar::DecimalNumber),
     },
 ];
 
