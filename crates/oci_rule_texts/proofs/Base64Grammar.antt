@@ -1,5 +1,5 @@
 -- Base64 is decided at the first byte that is no digit of it.
-use Rattle.std.proofs.Common.{◌≡◌, ℕ, ◌||◌, ◌%◌, List, [], Bool, length, refl, sym, subst, inl, inr}
+use Rattle.std.proofs.Common.{ℕ, ◌||◌, ◌%◌, List, Bool, length, refl, sym, subst, inl, inr}
 use Rattle.std.specs.Prelude.{codes, bytes_eq, ◌==◌}
 use Rattle.std.specs.List.{list_all}
 use Rattle.std.proofs.lemmas.Bool.Decides.{Decides-and, Decides-or, Decides-eqb}

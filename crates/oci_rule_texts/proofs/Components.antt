@@ -1,14 +1,12 @@
 -- Runs of a class with separators between, read byte by byte.
-use Rattle.std.proofs.Common.{◌≡◌, ℕ, ◌||◌, ◌⊎◌, Bool, true, false, List, [], ◌∷◌, ◌++◌, refl, sym, ap, ◌∙◌, subst, inl, inr, append_assoc, true≢false}
-use Rattle.std.specs.Prelude.{codes, ◌==◌}
-use Rattle.std.specs.Bool.{Decides}
+use Rattle.std.proofs.Common.{◌≡◌, ℕ, ◌||◌, Bool, true, false, List, [], ◌∷◌, ◌++◌, refl, sym, ap, ◌∙◌, subst, inl, inr, append_assoc, true≢false}
+use Rattle.std.specs.Prelude.{◌==◌}
 use Rattle.std.specs.Char.{is_ascii_alphanumeric}
 use Rattle.std.specs.List.{fold}
 use Rattle.std.proofs.lemmas.Bool.{eqb-true}
 use Rattle.oci_reference_scan.specs.Reference.{IsSeparator, IsComponent}
-use Rattle.oci_text_base.specs.Classes.{dash, dot, underscore, has, is_lower, IsIn, IsSomeOf, IsOneOf, IsJoined, one, more}
-use Rattle.oci_text_base.proofs.Lacks.{both}
-use Rattle.oci_text_base.proofs.Runs.{by_test, run_some, run_class, run_joined, run_describes, some_first, some_push}
+use Rattle.oci_text_base.specs.Classes.{dash, dot, underscore, is_lower, IsSomeOf, IsJoined, one, more}
+use Rattle.oci_text_base.proofs.Runs.{by_test, run_some, run_joined, run_describes, some_first, some_push}
 use Rattle.oci_rule_texts.specs.DecidedNames.{next_ref, next_path, ends_run, is_ref_component, is_path_component}
 use Rattle.oci_rule_texts.specs.RefNames.{is_ref_mark, IsRefSeparator, IsRefComponent}
 use Rattle.oci_rule_texts.specs.declared.names.Spot.{Spot}

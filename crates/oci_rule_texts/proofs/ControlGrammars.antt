@@ -1,6 +1,6 @@
 -- Texts of a container's configuration are decided at their marks.
-use Rattle.std.proofs.Common.{◌≡◌, ℕ, ◌≤◌, ◌<◌, ◌&&◌, ◌||◌, List, [], ◌∷◌, Bool, true, false, length, refl, sym, subst, inl, inr, ◌∙◌, true≢false, arith}
-use Rattle.std.specs.Prelude.{codes, bytes_eq, nat_le, IsTrue}
+use Rattle.std.proofs.Common.{◌≡◌, ℕ, ◌<◌, ◌&&◌, ◌||◌, List, [], ◌∷◌, Bool, true, false, length, refl, sym, subst, inl, inr, arith}
+use Rattle.std.specs.Prelude.{codes, bytes_eq, nat_le}
 use Rattle.std.specs.Char.{is_ascii_digit, is_ascii_graphic}
 use Rattle.std.specs.List.{list_all}
 use Rattle.std.proofs.lemmas.Bool.Decides.{Decides-and, Decides-or, Decides-not}
@@ -11,7 +11,7 @@ use Rattle.oci_rule_texts.specs.Classes.{is_access_byte, is_capability_byte, is_
 use Rattle.oci_rule_texts.specs.Controls.{IsPageUnit, IsPageSize, IsSelinuxLabel, IsNoDots, IsInterfaceName, IsOneDirectory, IsCgroupFile, IsDeviceAccess, IsCapabilityName, IsScale, IsScaledNumber, IsDecimalNumber}
 use Rattle.oci_rule_texts.specs.Decided.{is_page_size, is_selinux_tail, is_selinux_label, is_no_dots, is_interface_name, is_one_directory, is_cgroup_file, is_once, is_device_access, is_capability_name, is_scaled_number, is_decimal_number, is_some_of, is_headed}
 use Rattle.oci_rule_texts.specs.Numbers.{IsPlainNumber}
-use Rattle.oci_rule_texts.specs.Parts.{IsExtended, IsHeaded, IsPair}
+use Rattle.oci_rule_texts.specs.Parts.{IsExtended, IsPair}
 use Rattle.oci_rule_texts.proofs.Deciding.{Tells, Stops, Decides-le, Decides-itself, also, in_tells, some_tells, headed_tells, pair_tells, extended_tells, behind_tells, run_tells}
 
 -- ---- page sizes

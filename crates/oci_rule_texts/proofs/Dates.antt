@@ -1,18 +1,18 @@
 -- What is a date and time is decided at its marks.
-use Rattle.std.proofs.Common.{◌≡◌, ◌≢◌, ℕ, ◌≤◌, ◌&&◌, ◌||◌, ◌⊎◌, Bool, true, false, List, [], ◌∷◌, ◌++◌, length, inl, inr, refl, sym, ap, ◌∙◌, subst, true≢false, lit≤, arith}
-use Rattle.std.specs.Prelude.{codes, bytes_eq, if◌then◌else◌, ◌==◌}
+use Rattle.std.proofs.Common.{◌≡◌, ◌≢◌, ℕ, ◌≤◌, ◌&&◌, ◌||◌, ◌⊎◌, Bool, true, false, List, [], ◌∷◌, ◌++◌, inl, inr, refl, sym, ap, ◌∙◌, subst, true≢false, lit≤}
+use Rattle.std.specs.Prelude.{codes, if◌then◌else◌, ◌==◌}
 use Rattle.std.specs.Bool.{Decides}
 use Rattle.std.specs.Char.{is_ascii_digit}
 use Rattle.std.proofs.lemmas.Bool.{eq-eqb}
 use Rattle.std.proofs.lemmas.Bool.Decides.{Decides-or}
 use Rattle.std.proofs.lemmas.Slice.Eq.{bytes_eq-Decides}
-use Rattle.oci_text_base.specs.Classes.{dash, dot, colon, has, until, after, IsSomeOf, IsIn}
+use Rattle.oci_text_base.specs.Classes.{dash, colon, has, until, after, IsSomeOf}
 use Rattle.oci_text_base.proofs.Lacks.{Lacks, lacks_in, lacks_append, both}
 use Rattle.oci_text_base.proofs.Marks.{until_is}
 use Rattle.oci_rule_texts.specs.DateTimes.{is_leap, days_in, IsDate, IsHourMinute, IsOffset, IsFractionOffset, IsTime, IsDateTime}
 use Rattle.oci_rule_texts.specs.Decided.{capped, is_some_of, is_counted, is_field, is_hour_minute, is_offset, is_fraction_offset, is_time, is_date, is_date_time}
 use Rattle.oci_rule_texts.specs.Numbers.{number_of, IsField}
-use Rattle.oci_rule_texts.specs.Parts.{IsCounted, IsPair, IsBehind, IsRun}
+use Rattle.oci_rule_texts.specs.Parts.{IsCounted, IsRun}
 use Rattle.oci_rule_texts.proofs.Deciding.{Tells, Stops, also, cases, some_tells, counted_tells, pair_tells, behind_tells, run_tells}
 use Rattle.oci_rule_texts.proofs.Numerals.{field_tells, four_digits, two_digits}
 

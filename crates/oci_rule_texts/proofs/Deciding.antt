@@ -1,10 +1,10 @@
 -- A test decides what a text made of parts is, if tests decide what its parts are.
-use Rattle.std.proofs.Common.{◌≡◌, ◌≢◌, ℕ, zero, suc, ◌<◌, ◌≤◌, ◌&&◌, ◌||◌, ◌⊎◌, Bool, true, false, not, List, [], ◌∷◌, ◌++◌, length, drop, refl, sym, ap, ◌∙◌, subst, inl, inr, leb-true, le-leb, true≢false, append_assoc, append-nil, ne_eqb, arith}
-use Rattle.std.specs.Prelude.{nat_le, nat_eq, IsTrue, ◌==◌, bytes_eq}
+use Rattle.std.proofs.Common.{◌≡◌, ◌≢◌, ℕ, ◌≤◌, ◌&&◌, ◌||◌, ◌⊎◌, Bool, true, false, not, List, [], ◌∷◌, ◌++◌, length, drop, refl, sym, ap, ◌∙◌, subst, inl, inr, leb-true, le-leb, true≢false, append_assoc, append-nil, ne_eqb, arith}
+use Rattle.std.specs.Prelude.{nat_le, nat_eq, IsTrue, ◌==◌}
 use Rattle.std.specs.Bool.{Decides}
 use Rattle.std.specs.List.{list_all, slice_split, starts_with}
 use Rattle.std.proofs.lemmas.Bool.{eqb-true, eq-eqb}
-use Rattle.std.proofs.lemmas.Bool.Decides.{Decides-and, Decides-or, Decides-at, Decides-like, Decides-eqb}
+use Rattle.std.proofs.lemmas.Bool.Decides.{Decides-at, Decides-eqb}
 use Rattle.oci_text_base.specs.Classes.{has, until, after, IsIn, IsSomeOf, IsMark, IsJoined, one, more}
 use Rattle.oci_text_base.proofs.Lacks.{Lacks, lacks_in, lacks_append, both}
 use Rattle.oci_text_base.proofs.Marks.{until_is, not_cut, lacks_not_has, first_cut, has_at, has_none}
@@ -221,7 +221,7 @@ front_is class (b ∷ x) y h s =
     let rec = front_is class x y parts.1 s in
     rw (parts.0) (ap (λ z. b ∷ z) rec.0, rec.1)
 
-front_joins : (class : ℕ → Bool) (t : List ℕ) → t ≡ front_in class t ++ back_in class t
+pub front_joins : (class : ℕ → Bool) (t : List ℕ) → t ≡ front_in class t ++ back_in class t
 front_joins class [] = refl
 front_joins class (b ∷ t) = go (class b) refl (front_joins class t)
   where

@@ -1,17 +1,16 @@
 -- Domains: labels joined by dots, and perhaps a port.
-use Rattle.std.proofs.Common.{◌≡◌, ℕ, ◌||◌, ◌⊎◌, Bool, true, false, List, [], ◌∷◌, ◌++◌, refl, sym, ap, ◌∙◌, subst, inl, inr, append_assoc, true≢false}
+use Rattle.std.proofs.Common.{◌≡◌, ℕ, ◌||◌, Bool, true, false, List, [], ◌∷◌, ◌++◌, refl, sym, ap, ◌∙◌, subst, inl, inr}
 use Rattle.std.specs.Prelude.{◌==◌}
-use Rattle.std.specs.Bool.{Decides}
 use Rattle.std.specs.Char.{is_ascii_digit, is_ascii_alphanumeric}
 use Rattle.std.specs.List.{fold}
 use Rattle.std.proofs.lemmas.Bool.Decides.{Decides-like}
-use Rattle.oci_reference_scan.specs.Reference.{IsDomainComponent, IsHost, IsDomain, HasPort}
-use Rattle.oci_text_base.specs.Classes.{dash, dot, colon, is_host_byte, IsIn, IsSomeOf, IsOneOf, IsMark}
-use Rattle.oci_text_base.proofs.Lacks.{Lacks, lacks_in, lacks_one, lacks_some, lacks_append, lacks_joined}
+use Rattle.oci_reference_scan.specs.Reference.{IsDomainComponent, IsHost, IsDomain}
+use Rattle.oci_text_base.specs.Classes.{dash, dot, colon, is_host_byte, IsIn, IsSomeOf, IsMark}
+use Rattle.oci_text_base.proofs.Lacks.{Lacks, lacks_in, lacks_one, lacks_append, lacks_joined}
 use Rattle.oci_text_base.proofs.Runs.{by_test, run_class, run_one, run_append, run_describes, in_push}
 use Rattle.oci_rule_texts.specs.Decided.{is_some_of, is_domain, is_host, part_of}
 use Rattle.oci_rule_texts.specs.DecidedNames.{next_label, ends_run, is_host_label}
-use Rattle.oci_rule_texts.specs.Parts.{IsExtended, IsPair}
+use Rattle.oci_rule_texts.specs.Parts.{IsExtended}
 use Rattle.oci_rule_texts.specs.declared.names.Spot.{Spot}
 use Rattle.oci_rule_texts.specs.declared.names.Spot.TheVariants.{BeforeRun, InRun, AfterOne, InDashes, NoName}
 use Rattle.oci_rule_texts.specs.declared.parts.Part.TheVariants.{HostLabel}

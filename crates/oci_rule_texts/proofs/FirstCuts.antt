@@ -39,36 +39,38 @@ behind_place c (b ∷ t) = go (b == c) refl (behind_place c t)
 after_place : (c : ℕ) (t : List ℕ) → drop (passed c t + 1) t ≡ after c t
 after_place c t = let same : passed c t + 1 ≡ suc (passed c t) = omega arith in ap (λ k. drop k t) same ∙ behind_place c t
 
-place : (c : ℕ) (t : List ℕ) (i : ℕ) → position (λ b. b == c) t ≡ Some i → position_or_len (λ b. b == c) t ≡ i
-place c t i h = go (nat_lt (position_or_len (λ b. b == c) t) (length t)) refl
+-- the place that was found is where the test first holds
+at_place : (p : ℕ → Bool) (t : List ℕ) (i : ℕ) → position p t ≡ Some i → position_or_len p t ≡ i
+at_place p t i h = go (nat_lt (position_or_len p t) (length t)) refl
   where
-    go : (within : Bool) → nat_lt (position_or_len (λ b. b == c) t) (length t) ≡ within → position_or_len (λ b. b == c) t ≡ i
+    go : (within : Bool) → nat_lt (position_or_len p t) (length t) ≡ within → position_or_len p t ≡ i
     go true e = let same = rw e at h in cc same
     go false e = let clash = rw e at h in cc clash
 
-no_place : (c : ℕ) (t : List ℕ) → position (λ b. b == c) t ≡ None → length t ≤ position_or_len (λ b. b == c) t
-no_place c t h = go (nat_lt (position_or_len (λ b. b == c) t) (length t)) refl
+-- none was found
+no_place : (p : ℕ → Bool) (t : List ℕ) → position p t ≡ None → length t ≤ position_or_len p t
+no_place p t h = go (nat_lt (position_or_len p t) (length t)) refl
   where
-    go : (within : Bool) → nat_lt (position_or_len (λ b. b == c) t) (length t) ≡ within → length t ≤ position_or_len (λ b. b == c) t
+    go : (within : Bool) → nat_lt (position_or_len p t) (length t) ≡ within → length t ≤ position_or_len p t
     go true e = let clash = rw e at h in cc clash
-    go false e = ltb-false (position_or_len (λ b. b == c) t) (length t) e
+    go false e = ltb-false (position_or_len p t) (length t) e
 
 pub front : (c : ℕ) (t : List ℕ) (i : ℕ) → position (λ b. b == c) t ≡ Some i → take i t ≡ until c t
-front c t i h = ap (λ k. take k t) (sym (place c t i h)) ∙ until_place c t
+front c t i h = ap (λ k. take k t) (sym (at_place (λ b. b == c) t i h)) ∙ until_place c t
 
 -- all that is left behind a place
 rest_of : (t : List ℕ) (k : ℕ) → take (length t - k) (drop k t) ≡ drop k t
 rest_of t k = take_all (length t - k) (drop k t) (omega (arith, length-drop k t))
 
 pub back : (c : ℕ) (t : List ℕ) (i : ℕ) → position (λ b. b == c) t ≡ Some i → take (length t - (i + 1)) (drop (i + 1) t) ≡ after c t
-back c t i h = rest_of t (i + 1) ∙ ap (λ k. drop (k + 1) t) (sym (place c t i h)) ∙ after_place c t
+back c t i h = rest_of t (i + 1) ∙ ap (λ k. drop (k + 1) t) (sym (at_place (λ b. b == c) t i h)) ∙ after_place c t
 
 pub whole : (c : ℕ) (t : List ℕ) → position (λ b. b == c) t ≡ None → t ≡ until c t
-whole c t h = sym (take_all (position_or_len (λ b. b == c) t) t (no_place c t h)) ∙ until_place c t
+whole c t h = sym (take_all (position_or_len (λ b. b == c) t) t (no_place (λ b. b == c) t h)) ∙ until_place c t
 
 pub nothing : (c : ℕ) (t : List ℕ) → position (λ b. b == c) t ≡ None → after c t ≡ []
 nothing c t h =
-    let far : length t ≤ position_or_len (λ b. b == c) t + 1 = omega (arith, no_place c t h) in
+    let far : length t ≤ position_or_len (λ b. b == c) t + 1 = omega (arith, no_place (λ b. b == c) t h) in
     sym (after_place c t) ∙ drop_all (position_or_len (λ b. b == c) t + 1) t far
 
 -- ---- the first byte that is not of a class
@@ -91,28 +93,14 @@ spanned class (b ∷ t) = go (class b) refl (spanned class t)
     )
     go false e rec = (ap (λ k. take k (b ∷ t)) (here e) ∙ rw e refl, ap (λ k. drop k (b ∷ t)) (here e) ∙ rw e refl)
 
-other : (class : ℕ → Bool) (t : List ℕ) (i : ℕ) → position (λ b. not (class b)) t ≡ Some i → position_or_len (λ b. not (class b)) t ≡ i
-other class t i h = go (nat_lt (position_or_len (λ b. not (class b)) t) (length t)) refl
-  where
-    go : (within : Bool) → nat_lt (position_or_len (λ b. not (class b)) t) (length t) ≡ within → position_or_len (λ b. not (class b)) t ≡ i
-    go true e = let same = rw e at h in cc same
-    go false e = let clash = rw e at h in cc clash
-
-no_other : (class : ℕ → Bool) (t : List ℕ) → position (λ b. not (class b)) t ≡ None → length t ≤ position_or_len (λ b. not (class b)) t
-no_other class t h = go (nat_lt (position_or_len (λ b. not (class b)) t) (length t)) refl
-  where
-    go : (within : Bool) → nat_lt (position_or_len (λ b. not (class b)) t) (length t) ≡ within → length t ≤ position_or_len (λ b. not (class b)) t
-    go true e = let clash = rw e at h in cc clash
-    go false e = ltb-false (position_or_len (λ b. not (class b)) t) (length t) e
-
 pub front_to : (class : ℕ → Bool) (t : List ℕ) (i : ℕ) → position (λ b. not (class b)) t ≡ Some i → take i t ≡ front_in class t
-front_to class t i h = ap (λ k. take k t) (sym (other class t i h)) ∙ (spanned class t).0
+front_to class t i h = ap (λ k. take k t) (sym (at_place (λ b. not (class b)) t i h)) ∙ (spanned class t).0
 
 pub back_from : (class : ℕ → Bool) (t : List ℕ) (i : ℕ) → position (λ b. not (class b)) t ≡ Some i → take (length t - i) (drop i t) ≡ back_in class t
-back_from class t i h = rest_of t i ∙ ap (λ k. drop k t) (sym (other class t i h)) ∙ (spanned class t).1
+back_from class t i h = rest_of t i ∙ ap (λ k. drop k t) (sym (at_place (λ b. not (class b)) t i h)) ∙ (spanned class t).1
 
 pub front_whole : (class : ℕ → Bool) (t : List ℕ) → position (λ b. not (class b)) t ≡ None → t ≡ front_in class t
-front_whole class t h = sym (take_all (position_or_len (λ b. not (class b)) t) t (no_other class t h)) ∙ (spanned class t).0
+front_whole class t h = sym (take_all (position_or_len (λ b. not (class b)) t) t (no_place (λ b. not (class b)) t h)) ∙ (spanned class t).0
 
 pub back_none : (class : ℕ → Bool) (t : List ℕ) → position (λ b. not (class b)) t ≡ None → back_in class t ≡ []
-back_none class t h = sym (spanned class t).1 ∙ drop_all (position_or_len (λ b. not (class b)) t) t (no_other class t h)
+back_none class t h = sym (spanned class t).1 ∙ drop_all (position_or_len (λ b. not (class b)) t) t (no_place (λ b. not (class b)) t h)

@@ -6,13 +6,14 @@ use Rattle.oci_rule_texts.specs.Classes.{is_not_line_feed, is_not_nul}
 use Rattle.oci_rule_texts.specs.Grammars.{IsOf}
 use Rattle.oci_rule_texts.specs.Tests.{is_of}
 use Rattle.oci_rule_texts.specs.declared.grammar.Grammar.{Grammar}
-use Rattle.oci_rule_texts.specs.declared.grammar.Grammar.TheVariants.{AbsolutePath, Base64, CapabilityName, CgroupFile, CpuList, DateTime, DecimalNumber, DeviceAccess, Digest, Domain, EnvironmentEntry, FullReference, Guid, HttpUri, InterfaceName, LocalDirectory, MediaType, NoNul, NoParent, OneDirectory, OneLine, PageSize, Port, PortableEntry, RefName, Reference, Repository, ReverseDomain, RootfsPath, ScaledNumber, SelinuxLabel, SemVer, Signal, Tag, Uri, User, VolumeGuidPath, WindowsPath}
+use Rattle.oci_rule_texts.specs.declared.grammar.Grammar.TheVariants.{AbsolutePath, Base64, CapabilityName, CgroupFile, CpuList, DateTime, DecimalNumber, DeviceAccess, Digest, Domain, EnvironmentEntry, FullReference, Guid, HttpUri, InterfaceName, LocalDirectory, MediaType, NoNul, NoParent, OneDirectory, OneLine, PageSize, Port, PortableEntry, RefName, Reference, Repository, ReverseDomain, RootfsPath, ScaledNumber, SelinuxLabel, SemVer, Signal, SpdxExpression, Tag, Uri, User, VolumeGuidPath, WindowsPath}
 use Rattle.oci_rule_texts.proofs.Deciding.{in_tells}
 use Rattle.oci_rule_texts.proofs.Base64Grammar.{base64}
 use Rattle.oci_rule_texts.proofs.ControlGrammars.{capability_name, cgroup_file, decimal_number, device_access, interface_name, one_directory, page_size, scaled_number, selinux_label}
 use Rattle.oci_rule_texts.proofs.Dates.{date_time}
 use Rattle.oci_rule_texts.proofs.Domains.{domain}
 use Rattle.oci_rule_texts.proofs.EntryGrammars.{environment_entry, portable_entry, reverse_domain}
+use Rattle.oci_rule_texts.proofs.LicenseGrammar.{spdx_expression}
 use Rattle.oci_rule_texts.proofs.MediaTypeGrammar.{media_type}
 use Rattle.oci_rule_texts.proofs.NameGrammars.{cpu_list, digest, full_reference, ref_name, reference, repository, tag}
 use Rattle.oci_rule_texts.proofs.PathGrammars.{absolute_path, guid, rootfs_path, unc, volume_guid_path, windows_path, without_parents}
@@ -55,6 +56,7 @@ is_of_decides ScaledNumber t = scaled_number t
 is_of_decides SelinuxLabel t = selinux_label t
 is_of_decides SemVer t = semver t
 is_of_decides Signal t = signal_name t
+is_of_decides SpdxExpression t = spdx_expression t
 is_of_decides Tag t = tag t
 is_of_decides Uri t = uri t
 is_of_decides User t = user_spec t

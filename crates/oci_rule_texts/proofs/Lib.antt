@@ -7,6 +7,8 @@ pub mod Domains
 pub mod EntryGrammars
 pub mod FirstCuts
 pub mod Grammars
+pub mod LicenseGrammar
+pub mod LicensePieces
 pub mod MediaTypeGrammar
 pub mod NameGrammars
 pub mod Numerals

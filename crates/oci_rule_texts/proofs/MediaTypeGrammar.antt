@@ -1,8 +1,7 @@
 -- What is a media type is decided at the first slash.
-use Rattle.std.proofs.Common.{◌≡◌, ℕ, ◌&&◌, List, [], ◌∷◌, length, refl}
-use Rattle.std.specs.Prelude.{nat_le, IsTrue, ◌↔◌}
+use Rattle.std.proofs.Common.{length, refl}
 use Rattle.std.specs.Char.{is_ascii_alphanumeric}
-use Rattle.std.proofs.lemmas.Bool.Decides.{Decides-and, Decides-at}
+use Rattle.std.proofs.lemmas.Bool.Decides.{Decides-and}
 use Rattle.oci_text_base.specs.Classes.{slash}
 use Rattle.oci_rule_texts.specs.Classes.{is_restricted_byte}
 use Rattle.oci_rule_texts.specs.MediaTypes.{IsRestrictedName, IsMediaType}

@@ -1,5 +1,5 @@
 -- Names of references, repositories and tags.
-use Rattle.std.proofs.Common.{◌≡◌, ℕ, ◌≤◌, ◌⊎◌, List, [], ◌∷◌, ◌++◌, Bool, true, false, length, Option, Some, None, Result, Ok, Err, refl, sym, ap, ◌∙◌, subst, inl, inr, take, append_assoc, arith}
+use Rattle.std.proofs.Common.{◌≡◌, ℕ, ◌≤◌, List, [], ◌∷◌, ◌++◌, Bool, true, false, length, Option, Some, None, Result, Ok, Err, refl, sym, ap, ◌∙◌, subst, inl, inr, take, append_assoc, arith}
 use Rattle.std.specs.Prelude.{codes, ◌↔◌, IsTrue, is_ok, is_none, is_some, IfOk, IsOk, option_map, ◌==◌}
 use Rattle.std.specs.Bool.{Decides}
 use Rattle.std.specs.Char.{is_ascii_alphanumeric}
@@ -22,7 +22,7 @@ use Rattle.oci_text_base.specs.CpuList.{IsCpuList}
 use Rattle.oci_text_base.specs.Digest.{digest_refusal, IsDigestText}
 use Rattle.oci_text_base.specs.Classes.{dash, dot, slash, colon, at_sign, behind, has, until, is_lower, is_tag_byte, is_word, IsSomeOf}
 use Rattle.oci_text_base.proofs.Lacks.{Lacks, lacks_in, lacks_some, lacks_one, lacks_joined}
-use Rattle.oci_rule_texts.specs.Decided.{is_tag, is_headed, is_qualified, part_of, are_joined}
+use Rattle.oci_rule_texts.specs.Decided.{is_tag, is_qualified, part_of, are_joined}
 use Rattle.oci_rule_texts.specs.FullTexts.{full_by, is_full_text}
 use Rattle.oci_rule_texts.specs.Parts.{IsHeaded}
 use Rattle.oci_rule_texts.specs.RefNames.{is_ref_mark, IsRefSeparator, IsRefComponent, IsRefName, IsSomeReference, IsQualified, IsFullReference}

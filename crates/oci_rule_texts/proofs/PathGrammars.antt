@@ -1,9 +1,9 @@
 -- Paths are decided by their first bytes and at their marks.
-use Rattle.std.proofs.Common.{◌≡◌, ℕ, ◌-◌, ◌&&◌, ◌⊎◌, List, [], ◌∷◌, ◌++◌, Bool, false, length, take, drop, refl, sym, ap, ◌∙◌}
+use Rattle.std.proofs.Common.{◌≡◌, ℕ, ◌-◌, ◌&&◌, List, ◌++◌, Bool, false, length, take, drop, refl, sym, ap, ◌∙◌}
 use Rattle.std.specs.Prelude.{codes, bytes_eq, nat_eq}
 use Rattle.std.specs.Bool.{Decides}
 use Rattle.std.specs.Char.{is_ascii_alphabetic, is_ascii_hexdigit}
-use Rattle.std.specs.List.{ends_with, starts_with}
+use Rattle.std.specs.List.{ends_with}
 use Rattle.std.proofs.lemmas.Bool.Decides.{Decides-and, Decides-or, Decides-not}
 use Rattle.std.proofs.lemmas.List.{take-append-drop}
 use Rattle.std.proofs.lemmas.List.Prefix.{end_rest}
@@ -13,7 +13,7 @@ use Rattle.oci_text_base.proofs.Lacks.{Lacks, lacks_in}
 use Rattle.oci_rule_texts.specs.Classes.{is_not_nul, is_not_slash, is_path_separator}
 use Rattle.oci_rule_texts.specs.Decided.{begins_with, is_counted, is_headed, is_hex, is_windows_path, is_guid, is_volume_guid_path, is_unc_path, is_rootfs_path, is_no_parent, are_joined, part_of}
 use Rattle.oci_rule_texts.specs.Parts.{IsCounted, IsHeaded, IsPair}
-use Rattle.oci_rule_texts.specs.Paths.{IsAbsolutePath, IsWindowsPath, IsHex, IsGuid, IsVolumeGuidPath, IsUncPath, IsLocalDirectory, IsRootfsPath, IsNoParent, IsWithoutParents}
+use Rattle.oci_rule_texts.specs.Paths.{IsAbsolutePath, IsWindowsPath, IsHex, IsGuid, IsVolumeGuidPath, IsUncPath, IsRootfsPath, IsNoParent, IsWithoutParents}
 use Rattle.oci_rule_texts.specs.declared.parts.Part.TheVariants.{NotParent}
 use Rattle.oci_rule_texts.proofs.Deciding.{Tells, in_tells, counted_tells, headed_tells, pair_tells, pair_lacks, behind_tells, any_behind_tells, joined_tells}
 

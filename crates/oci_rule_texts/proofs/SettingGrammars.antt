@@ -1,5 +1,5 @@
 -- Texts of an image's configuration are decided at their marks.
-use Rattle.std.proofs.Common.{ℕ, List, ◌||◌, Bool, refl, lit≤}
+use Rattle.std.proofs.Common.{◌||◌, refl, lit≤}
 use Rattle.std.specs.Prelude.{codes, bytes_eq}
 use Rattle.std.specs.Char.{is_ascii_digit, is_ascii_uppercase}
 use Rattle.std.proofs.lemmas.Bool.Decides.{Decides-or}

@@ -1,12 +1,10 @@
 -- Texts with percent-encodings, and the bytes that the parts of a URI may have.
-use Rattle.std.proofs.Common.{◌≡◌, ◌≢◌, ℕ, ◌≤◌, ◌&&◌, ◌||◌, ◌⊎◌, List, [], ◌∷◌, ◌++◌, Bool, true, false, inl, inr, refl, sym, ap, ◌∙◌, subst, true≢false, arith}
-use Rattle.std.specs.Prelude.{codes, nat_le, IsTrue, ◌==◌, if◌then◌else◌}
-use Rattle.std.specs.Bool.{Decides}
-use Rattle.std.specs.Char.{is_ascii_digit, is_ascii_alphabetic, is_ascii_alphanumeric, is_ascii_hexdigit}
-use Rattle.std.specs.List.{fold, list_all}
+use Rattle.std.proofs.Common.{◌≡◌, ℕ, List, [], ◌∷◌, Bool, true, false, refl, sym, ap, subst, true≢false}
+use Rattle.std.specs.Prelude.{◌==◌}
+use Rattle.std.specs.Char.{is_ascii_hexdigit}
+use Rattle.std.specs.List.{fold}
 use Rattle.std.proofs.lemmas.Bool.{eqb-true}
-use Rattle.oci_text_base.specs.Classes.{has, IsIn}
-use Rattle.oci_text_base.proofs.Lacks.{Lacks, both}
+use Rattle.oci_text_base.specs.Classes.{IsIn}
 use Rattle.oci_rule_texts.specs.DecidedUris.{next_escape, ends_plain, is_coded}
 use Rattle.oci_rule_texts.specs.Uris.{IsCoded, none, plain, encoded}
 use Rattle.oci_rule_texts.specs.declared.uris.Escape.{Escape}

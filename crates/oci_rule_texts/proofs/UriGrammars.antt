@@ -1,19 +1,18 @@
 -- URIs are decided at their marks.
-use Rattle.std.proofs.Common.{◌≡◌, ℕ, ◌≤◌, ◌&&◌, ◌||◌, ◌⊎◌, not, List, [], ◌∷◌, ◌++◌, Bool, true, false, length, inl, inr, refl, sym, ap, ◌∙◌, subst, true≢false, arith}
-use Rattle.std.specs.Prelude.{codes, nat_le, nat_eq, bytes_eq, map, IsTrue, ◌==◌}
-use Rattle.std.specs.Bool.{Decides}
+use Rattle.std.proofs.Common.{◌≡◌, ℕ, ◌≤◌, ◌||◌, ◌⊎◌, List, [], ◌∷◌, ◌++◌, Bool, true, false, inl, inr, refl, sym, ap, ◌∙◌, subst, true≢false, arith}
+use Rattle.std.specs.Prelude.{codes, nat_le, nat_eq, map, ◌==◌}
 use Rattle.std.specs.Char.{is_ascii_digit, is_ascii_alphabetic, is_ascii_alphanumeric, is_ascii_hexdigit, is_ascii_lowercase, to_ascii_lowercase}
 use Rattle.std.specs.Int.{is_in_range}
 use Rattle.std.specs.List.{list_all, starts_with}
 use Rattle.std.proofs.lemmas.Bool.Decides.{Decides-and, Decides-or, Decides-not, Decides-eqb}
 use Rattle.std.proofs.lemmas.Slice.Eq.{bytes_eq-Decides}
-use Rattle.oci_text_base.specs.Classes.{dot, slash, colon, at_sign, has, until, after, IsIn, IsSomeOf}
+use Rattle.oci_text_base.specs.Classes.{dot, slash, colon, at_sign, has, IsIn, IsSomeOf}
 use Rattle.oci_text_base.proofs.Lacks.{Lacks, lacks_in, lacks_some, both}
 use Rattle.oci_text_base.proofs.Runs.{in_wider}
 use Rattle.oci_rule_texts.specs.Classes.{is_scheme_byte, is_reg_name_byte, is_user_info_byte, is_path_byte, is_query_byte, is_address_byte}
 use Rattle.oci_rule_texts.specs.Decided.{is_some_of, is_headed}
 use Rattle.oci_rule_texts.specs.DecidedUris.{is_coded, is_future_address, is_address, is_port_tail, is_literal_port, is_name_port, is_host_port, is_authority, is_authority_path, is_hier_part, is_scheme_path, is_before_fragment, is_uri, is_any_case, is_http_uri}
-use Rattle.oci_rule_texts.specs.Parts.{IsAny, IsBehind, IsExtended, IsHeaded, IsPair, IsPrefaced}
+use Rattle.oci_rule_texts.specs.Parts.{IsAny, IsBehind, IsExtended, IsPair, IsPrefaced}
 use Rattle.oci_rule_texts.specs.Uris.{IsCoded, IsScheme, IsFutureAddress, IsAddress, IsPortTail, IsHostPort, IsAuthority, IsHierPart, IsSchemePath, IsUri, IsAnyCase, IsHttpUri}
 use Rattle.oci_rule_texts.proofs.Deciding.{Tells, Decides-le, also, empty_tells, in_tells, some_tells, headed_tells, headed_lacks, pair_tells, pair_lacks, marked_tells, extended_tells, prefaced_tells, behind_tells, any_behind_tells}
 use Rattle.oci_rule_texts.proofs.UriBytes.{coded_tells, in_coded}

@@ -1,5 +1,5 @@
 -- Semantic versions are decided at their marks.
-use Rattle.std.proofs.Common.{◌≡◌, ℕ, ◌&&◌, ◌||◌, not, List, [], ◌∷◌, Bool, false, refl, sym, subst, inl, inr}
+use Rattle.std.proofs.Common.{◌≡◌, ℕ, ◌&&◌, not, List, [], ◌∷◌, false, refl, sym, subst, inl, inr}
 use Rattle.std.specs.Prelude.{codes, ◌==◌}
 use Rattle.std.specs.Char.{is_ascii_digit}
 use Rattle.std.specs.List.{list_all}
@@ -7,7 +7,7 @@ use Rattle.std.proofs.lemmas.Bool.Decides.{Decides-and, Decides-or}
 use Rattle.oci_text_base.specs.Classes.{plus, dash, dot, until, after, is_host_byte, IsSomeOf, IsMark, IsJoined}
 use Rattle.oci_text_base.proofs.Lacks.{Lacks, lacks_in, lacks_some, lacks_joined}
 use Rattle.oci_rule_texts.specs.Classes.{is_positive}
-use Rattle.oci_rule_texts.specs.Decided.{is_numeric, is_pre_identifier, is_version_core, is_pre_release, is_semver, is_some_of, part_of, are_joined}
+use Rattle.oci_rule_texts.specs.Decided.{is_numeric, is_pre_identifier, is_version_core, is_pre_release, is_semver, part_of, are_joined}
 use Rattle.oci_rule_texts.specs.Numbers.{IsNumeric}
 use Rattle.oci_rule_texts.specs.Parts.{IsExtended, IsPair}
 use Rattle.oci_rule_texts.specs.Versions.{IsVersionCore, IsPreIdentifier, IsSemver}

@@ -2,9 +2,9 @@
 use Rattle.std.specs.Prelude.{ℕ, ◌||◌, ◌&&◌, ◌==◌, not, Bool, codes}
 use Rattle.std.specs.Char.{is_ascii_digit, is_ascii_alphabetic, is_ascii_alphanumeric, is_ascii_uppercase, is_ascii_graphic, is_ascii_hexdigit}
 use Rattle.std.specs.Int.{is_in_range}
-use Rattle.oci_text_base.specs.Classes.{plus, dash, dot, slash, colon, at_sign, underscore, has, is_word, is_host_byte, is_tag_byte}
+use Rattle.oci_text_base.specs.Classes.{dash, dot, slash, colon, underscore, has, is_word, is_host_byte, is_tag_byte}
 use Rattle.oci_rule_texts.specs.declared.classes.Class.{Class}
-use Rattle.oci_rule_texts.specs.declared.classes.Class.TheVariants.{Digit, Positive, Hex, Letter, LetterOrDigit, Capital, CapitalOrDigit, Capability, NameStart, Word, Label, Host, Tag, Restricted, Scheme, RegName, UserInfo, Path, Query, Address, Base64, Access, Scale, Context, Graphic, Interface, Separator, FileStart, NotSlash, NotColon, NotEquals, NotNul, NotLineFeed}
+use Rattle.oci_rule_texts.specs.declared.classes.Class.TheVariants.{Digit, Positive, Hex, Letter, LetterOrDigit, Capital, CapitalOrDigit, Capability, NameStart, Word, Label, Host, Tag, Restricted, Scheme, RegName, UserInfo, Path, Query, Address, Base64, IdByte, LicenseWord, Access, Scale, Context, Graphic, Interface, Separator, FileStart, NotSlash, NotColon, NotEquals, NotNul, NotLineFeed}
 
 -- 1 to 9
 abbrev pub is_positive : ℕ → Bool
@@ -65,6 +65,14 @@ is_interface_byte b = not (has b (codes "/: ") || is_in_range 9 13 b || (b == 0)
 abbrev pub is_capability_byte : ℕ → Bool
 is_capability_byte b = is_ascii_uppercase b || (b == underscore)
 
+-- idstring (SPDX specification 2.3, annex D)
+abbrev pub is_id_byte : ℕ → Bool
+is_id_byte b = is_ascii_alphanumeric b || has b (codes "-.")
+
+-- a byte of a word of an SPDX expression
+abbrev pub is_word_byte : ℕ → Bool
+is_word_byte b = is_id_byte b || has b (codes "+:")
+
 -- r, w or m
 abbrev pub is_access_byte : ℕ → Bool
 is_access_byte b = has b (codes "rwm")
@@ -118,6 +126,8 @@ class_of Path b = is_path_byte b
 class_of Query b = is_query_byte b
 class_of Address b = is_address_byte b
 class_of Base64 b = is_base64_byte b
+class_of IdByte b = is_id_byte b
+class_of LicenseWord b = is_word_byte b
 class_of Access b = is_access_byte b
 class_of Scale b = is_scale b
 class_of Context b = is_context_byte b

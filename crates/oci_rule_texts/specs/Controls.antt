@@ -1,5 +1,5 @@
 -- Texts of a container's configuration (runtime specification, "Linux Container Configuration" and "Solaris Application Container Configuration").
-use Rattle.std.specs.Prelude.{ℕ, ◌≡◌, ◌≢◌, ◌≤◌, ◌⊎◌, ◌&&◌, not, List, length, codes, IsTrue}
+use Rattle.std.specs.Prelude.{ℕ, ◌≡◌, ◌≢◌, ◌≤◌, ◌⊎◌, not, List, length, codes, IsTrue}
 use Rattle.std.specs.Char.{is_ascii_digit, is_ascii_graphic}
 use Rattle.oci_text_base.specs.Classes.{dot, colon, has, after, IsIn, IsSomeOf}
 use Rattle.oci_rule_texts.specs.Classes.{is_access_byte, is_capability_byte, is_context_byte, is_file_start, is_interface_byte, is_not_slash, is_scale}

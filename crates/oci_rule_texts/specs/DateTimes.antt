@@ -1,7 +1,7 @@
 -- Dates and times (RFC 3339, section 5.6; "T" and "Z" may be lowercase; a second may be 60 at any minute).
-use Rattle.std.specs.Prelude.{ℕ, ◌≡◌, ◌≤◌, ◌⊎◌, ◌==◌, ◌||◌, ◌&&◌, ◌%◌, not, Bool, List, [], ◌∷◌, ◌++◌, codes, if◌then◌else◌}
+use Rattle.std.specs.Prelude.{ℕ, ◌≡◌, ◌⊎◌, ◌==◌, ◌||◌, ◌&&◌, ◌%◌, not, Bool, List, ◌∷◌, ◌++◌, codes, if◌then◌else◌}
 use Rattle.std.specs.Char.{is_ascii_digit}
-use Rattle.oci_text_base.specs.Classes.{plus, dash, dot, colon, IsSomeOf}
+use Rattle.oci_text_base.specs.Classes.{dash, colon, IsSomeOf}
 use Rattle.oci_rule_texts.specs.Numbers.{number_of, IsField}
 use Rattle.oci_rule_texts.specs.Parts.{IsCounted, IsPair, IsRun, IsBehind}
 

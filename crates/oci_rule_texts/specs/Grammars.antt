@@ -4,6 +4,7 @@ use Rattle.oci_rule_texts.specs.Base64.{IsBase64}
 use Rattle.oci_rule_texts.specs.Controls.{IsCapabilityName, IsCgroupFile, IsDecimalNumber, IsDeviceAccess, IsInterfaceName, IsOneDirectory, IsPageSize, IsScaledNumber, IsSelinuxLabel}
 use Rattle.oci_rule_texts.specs.DateTimes.{IsDateTime}
 use Rattle.oci_rule_texts.specs.Entries.{IsEnvironmentEntry, IsNoNul, IsOneLine, IsPortableEntry, IsReverseDomain}
+use Rattle.oci_rule_texts.specs.Licenses.{IsSpdxExpression}
 use Rattle.oci_rule_texts.specs.MediaTypes.{IsMediaType}
 use Rattle.oci_rule_texts.specs.Paths.{IsAbsolutePath, IsGuid, IsLocalDirectory, IsRootfsPath, IsVolumeGuidPath, IsWindowsPath, IsWithoutParents}
 use Rattle.oci_reference_scan.specs.Reference.{IsDomain, IsPath, IsTag}
@@ -14,7 +15,7 @@ use Rattle.oci_rule_texts.specs.Settings.{IsPortSpec, IsSignalName, IsUserSpec}
 use Rattle.oci_rule_texts.specs.Uris.{IsHttpUri, IsUri}
 use Rattle.oci_rule_texts.specs.Versions.{IsSemver}
 use Rattle.oci_rule_texts.specs.declared.grammar.Grammar.{Grammar}
-use Rattle.oci_rule_texts.specs.declared.grammar.Grammar.TheVariants.{AbsolutePath, Base64, CapabilityName, CgroupFile, CpuList, DateTime, DecimalNumber, DeviceAccess, Digest, Domain, EnvironmentEntry, FullReference, Guid, HttpUri, InterfaceName, LocalDirectory, MediaType, NoNul, NoParent, OneDirectory, OneLine, PageSize, Port, PortableEntry, RefName, Reference, Repository, ReverseDomain, RootfsPath, ScaledNumber, SelinuxLabel, SemVer, Signal, Tag, Uri, User, VolumeGuidPath, WindowsPath}
+use Rattle.oci_rule_texts.specs.declared.grammar.Grammar.TheVariants.{AbsolutePath, Base64, CapabilityName, CgroupFile, CpuList, DateTime, DecimalNumber, DeviceAccess, Digest, Domain, EnvironmentEntry, FullReference, Guid, HttpUri, InterfaceName, LocalDirectory, MediaType, NoNul, NoParent, OneDirectory, OneLine, PageSize, Port, PortableEntry, RefName, Reference, Repository, ReverseDomain, RootfsPath, ScaledNumber, SelinuxLabel, SemVer, Signal, SpdxExpression, Tag, Uri, User, VolumeGuidPath, WindowsPath}
 
 abbrev pub IsOf : Grammar → List ℕ → Type 0
 IsOf AbsolutePath text = IsAbsolutePath text
@@ -50,6 +51,7 @@ IsOf ScaledNumber text = IsScaledNumber text
 IsOf SelinuxLabel text = IsSelinuxLabel text
 IsOf SemVer text = IsSemver text
 IsOf Signal text = IsSignalName text
+IsOf SpdxExpression text = IsSpdxExpression text
 IsOf Tag text = IsTag text
 IsOf Uri text = IsUri text
 IsOf User text = IsUserSpec text

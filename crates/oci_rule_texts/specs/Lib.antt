@@ -3,11 +3,13 @@ pub mod Classes
 pub mod Controls
 pub mod DateTimes
 pub mod Decided
+pub mod DecidedLicenses
 pub mod DecidedNames
 pub mod DecidedUris
 pub mod Entries
 pub mod FullTexts
 pub mod Grammars
+pub mod Licenses
 pub mod MediaTypes
 pub mod Numbers
 pub mod Parts

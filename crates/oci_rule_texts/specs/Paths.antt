@@ -1,5 +1,5 @@
 -- Paths (runtime specification, "Configuration"; POSIX, XBD 3.2; Windows, "Naming a Volume").
-use Rattle.std.specs.Prelude.{ℕ, ◌≡◌, ◌≢◌, ◌⊎◌, List, ◌∷◌, ◌++◌, codes}
+use Rattle.std.specs.Prelude.{ℕ, ◌≡◌, ◌≢◌, ◌⊎◌, List, ◌++◌, codes}
 use Rattle.std.specs.Char.{is_ascii_alphabetic, is_ascii_hexdigit}
 use Rattle.oci_text_base.specs.Classes.{dash, slash, colon, IsIn, IsMark, IsJoined}
 use Rattle.oci_rule_texts.specs.Classes.{is_not_nul, is_not_slash, is_path_separator}

@@ -31,6 +31,8 @@ pub(crate) enum Class {
     Query,
     Address,
     Base64,
+    IdByte,
+    LicenseWord,
     Access,
     Scale,
     Context,
@@ -72,6 +74,10 @@ impl Class {
             Class::Query => is_path_byte(b) | (b == b'?'),
             Class::Address => b.is_ascii_hexdigit() | b":.".contains(&b),
             Class::Base64 => b.is_ascii_alphanumeric() | b"+/".contains(&b),
+            Class::IdByte => b.is_ascii_alphanumeric() | b"-.".contains(&b),
+            Class::LicenseWord => b.is_ascii_alphanumeric()
+                | b"-.".contains(&b)
+                | b"+:".contains(&b),
             Class::Access => b"rwm".contains(&b),
             Class::Scale => b"KMGTkmgt".contains(&b),
             Class::Context => b.is_ascii_graphic() & (b != b':'),
@@ -112,7 +118,7 @@ impl Class {
         (text.len() == count) & self.has_all(text)
     }
 
-    /// The bytes of the class that the text begins with, and what stands behind them.
+    /// The bytes of the class that the text begins with, and the bytes after them.
     pub(crate) fn run(self, text: &[u8]) -> (&[u8], &[u8])
         ensures front { result.0.now ≡ decided.front_in (class.class_of self) text.now }
         ensures back { result.1.now ≡ decided.back_in (class.class_of self) text.now }

@@ -2,7 +2,7 @@
 ghost use Rattle.std.specs.Prelude.{◌≡◌, ◌==◌, position, drop};
 ghost use Rattle.oci_text_base.specs.Classes.{until, after};
 
-/// What stands before the first such byte and what stands behind it, or the whole text and nothing.
+/// The bytes before the first such byte and the bytes after it, or the whole text and nothing.
 pub(crate) fn cut(text: &[u8], mark: u8) -> (&[u8], &[u8])
     ensures front { result.0.now ≡ until mark text.now }
     ensures back { result.1.now ≡ after mark text.now }
@@ -19,7 +19,7 @@ fn place_of(text: &[u8], mark: u8) -> Option<usize>
     text.iter().position(|b| *b == mark)
 }
 
-/// What stands behind this many bytes, or nothing.
+/// The bytes after this many, or nothing.
 pub(crate) fn behind(text: &[u8], count: usize) -> &[u8]
     ensures { result.now ≡ drop count text.now }
 {

@@ -10,6 +10,7 @@ use crate::controls::{
 };
 use crate::date_time::is_date_time;
 use crate::entries::{is_environment_entry, is_portable_entry, is_reverse_domain};
+use crate::licenses::is_spdx_expression;
 use crate::media_type::is_media_type;
 use crate::names::{is_domain, is_full_reference, is_tag};
 use crate::parts::Part;
@@ -32,7 +33,7 @@ pub enum Grammar {
     CapabilityName,
     /// The name of a file in a cgroup, as `memory.max`.
     CgroupFile,
-    /// A list of processors (Linux, cpuset(7)).
+    /// A CPU list (Linux, cpuset(7)).
     CpuList,
     /// A date and time (RFC 3339, section 5.6).
     DateTime,
@@ -64,7 +65,7 @@ pub enum Grammar {
     NoParent,
     /// The name of one directory.
     OneDirectory,
-    /// No line feed.
+    /// No newline.
     OneLine,
     /// `64KB`, `2MB`, `1GB`.
     PageSize,
@@ -90,6 +91,8 @@ pub enum Grammar {
     SemVer,
     /// `SIGKILL`, `SIGRTMIN+3`.
     Signal,
+    /// A licence expression (SPDX specification 2.3, annex D), with identifiers by their shape.
+    SpdxExpression,
     /// A tag (distribution specification, "Pulling manifests").
     Tag,
     /// A URI (RFC 3986, section 3).
@@ -142,6 +145,7 @@ impl Grammar {
             Grammar::SelinuxLabel => is_selinux_label(bytes),
             Grammar::SemVer => is_semver(bytes),
             Grammar::Signal => is_signal_name(bytes),
+            Grammar::SpdxExpression => is_spdx_expression(bytes),
             Grammar::Tag => is_tag(bytes),
             Grammar::Uri => is_uri(bytes),
             Grammar::User => is_user_spec(bytes),
@@ -157,7 +161,7 @@ impl Grammar {
             Grammar::Base64 => "base64",
             Grammar::CapabilityName => "the name of a capability",
             Grammar::CgroupFile => "the name of a file in a cgroup",
-            Grammar::CpuList => "a list of processors",
+            Grammar::CpuList => "a CPU list",
             Grammar::DateTime => "an RFC 3339 date and time",
             Grammar::DecimalNumber => "a decimal number",
             Grammar::DeviceAccess => "some of r, w and m, each once",
@@ -186,6 +190,7 @@ impl Grammar {
             Grammar::SelinuxLabel => "an SELinux label",
             Grammar::SemVer => "a semantic version",
             Grammar::Signal => "the name of a signal",
+            Grammar::SpdxExpression => "an SPDX licence expression",
             Grammar::Tag => "a tag",
             Grammar::Uri => "a URI",
             Grammar::User => "a user such as user or user:group",

@@ -8,6 +8,7 @@ mod cuts;
 mod date_time;
 mod entries;
 mod grammar;
+mod licenses;
 mod media_type;
 mod names;
 mod numbers;

@@ -1,5 +1,5 @@
 -- The name of a reference is the one that was read.
-use Rattle.std.proofs.Common.{◌≡◌, true, false, sym, ◌∙◌, ap}
+use Rattle.std.proofs.Common.{◌≡◌, true, false, ◌∙◌, ap}
 use Rattle.oci_rule_texts.specs.Decided.{is_qualified}
 use Rattle.oci_rule_texts.proofs.NameGrammars.{full_decides, no_reference}
 use Rattle.oci_rule_texts.proofs.names.is_full_reference.Goals as goal

@@ -5,7 +5,7 @@ use Rattle.std.proofs.lemmas.Bool.Decides.{Decides-at}
 use Rattle.oci_rule_texts.specs.Grammars.{IsOf}
 use Rattle.oci_rule_texts.specs.Tests.{is_of}
 use Rattle.oci_rule_texts.specs.declared.grammar.Grammar.{Grammar}
-use Rattle.oci_rule_texts.specs.declared.grammar.Grammar.TheVariants.{AbsolutePath, Base64, CapabilityName, CgroupFile, CpuList, DateTime, DecimalNumber, DeviceAccess, Digest, Domain, EnvironmentEntry, FullReference, Guid, HttpUri, InterfaceName, LocalDirectory, MediaType, NoNul, NoParent, OneDirectory, OneLine, PageSize, Port, PortableEntry, RefName, Reference, Repository, ReverseDomain, RootfsPath, ScaledNumber, SelinuxLabel, SemVer, Signal, Tag, Uri, User, VolumeGuidPath, WindowsPath}
+use Rattle.oci_rule_texts.specs.declared.grammar.Grammar.TheVariants.{AbsolutePath, Base64, CapabilityName, CgroupFile, CpuList, DateTime, DecimalNumber, DeviceAccess, Digest, Domain, EnvironmentEntry, FullReference, Guid, HttpUri, InterfaceName, LocalDirectory, MediaType, NoNul, NoParent, OneDirectory, OneLine, PageSize, Port, PortableEntry, RefName, Reference, Repository, ReverseDomain, RootfsPath, ScaledNumber, SelinuxLabel, SemVer, Signal, SpdxExpression, Tag, Uri, User, VolumeGuidPath, WindowsPath}
 use Rattle.oci_rule_texts.proofs.Grammars.{is_of_decides}
 use Rattle.oci_rule_texts.proofs.NameGrammars.{reference_decides}
 use Rattle.oci_rule_texts.proofs.grammar.Grammar.accepts.Goals as goal
@@ -144,6 +144,10 @@ returns-in-SemVer c = at SemVer c.args.self _ c.args.text.now _ c.in-SemVer.is c
 pub returns-in-Signal : goal.returns-in-Signal
 unfolding is_of
 returns-in-Signal c = at Signal c.args.self _ c.args.text.now _ c.in-Signal.is c.as_bytes-bytes.ensures.value (c.is_signal_name.ensures)
+
+pub returns-in-SpdxExpression : goal.returns-in-SpdxExpression
+unfolding is_of
+returns-in-SpdxExpression c = at SpdxExpression c.args.self _ c.args.text.now _ c.in-SpdxExpression.is c.as_bytes-bytes.ensures.value (c.is_spdx_expression.ensures)
 
 pub returns-in-Tag : goal.returns-in-Tag
 unfolding is_of

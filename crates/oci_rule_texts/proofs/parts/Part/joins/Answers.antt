@@ -1,5 +1,5 @@
 -- The first part is taken off.
-use Rattle.std.proofs.Common.{◌≡◌, ◌&&◌, ◌<◌, Bool, true, false, length, sym, ap, ◌∙◌, subst}
+use Rattle.std.proofs.Common.{◌≡◌, ◌&&◌, ◌<◌, true, false, length, sym, ap, ◌∙◌, subst}
 use Rattle.oci_text_base.specs.Classes.{has, until}
 use Rattle.oci_rule_texts.specs.Decided.{are_joined, part_of}
 use Rattle.oci_rule_texts.proofs.Taken.{first_taken, last_taken, shorter}
