@@ -8,7 +8,7 @@ use crate::lists::{EVERY, OPENCONTAINERS_KEYS, SUBJECT_TYPES};
 use oci_rule_texts::Grammar;
 use oci_rules::{Check, Condition, Level, Origin, Rule, Step, Test};
 
-static RULES: [Rule<'static>; 19] = [
+static RULES: [Rule<'static>; 20] = [
     Rule {
         name: "artifact-media-type",
         level: Level::Must,
@@ -152,6 +152,24 @@ static RULES: [Rule<'static>; 19] = [
             }),
         ],
         test: Test::Text(Grammar::Uri),
+    },
+    Rule {
+        name: "annotation-licenses-spdx",
+        level: Level::Stated,
+        section: "image annotations.md#pre-defined-annotation-keys",
+        wanted: "an SPDX license expression",
+        platforms: EVERY,
+        place: &[
+            Step::Member("annotations"),
+            Step::Member("org.opencontainers.image.licenses"),
+            Step::When(Condition {
+                origin: Origin::Part,
+                way: &[],
+                holds: false,
+                check: Check::OneOf(&[""]),
+            }),
+        ],
+        test: Test::Text(Grammar::SpdxExpression),
     },
     Rule {
         name: "annotation-ref-name",

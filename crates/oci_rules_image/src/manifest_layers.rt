@@ -8,7 +8,7 @@ use crate::lists::{EVERY, OPENCONTAINERS_KEYS};
 use oci_rule_texts::Grammar;
 use oci_rules::{Check, Condition, Level, Origin, Rule, Step, Test};
 
-static RULES: [Rule<'static>; 23] = [
+static RULES: [Rule<'static>; 24] = [
     Rule {
         name: "descriptor-media-type",
         level: Level::Must,
@@ -260,6 +260,26 @@ static RULES: [Rule<'static>; 23] = [
             }),
         ],
         test: Test::Text(Grammar::Uri),
+    },
+    Rule {
+        name: "annotation-licenses-spdx",
+        level: Level::Stated,
+        section: "image annotations.md#pre-defined-annotation-keys",
+        wanted: "an SPDX license expression",
+        platforms: EVERY,
+        place: &[
+            Step::Member("layers"),
+            Step::EachItem,
+            Step::Member("annotations"),
+            Step::Member("org.opencontainers.image.licenses"),
+            Step::When(Condition {
+                origin: Origin::Part,
+                way: &[],
+                holds: false,
+                check: Check::OneOf(&[""]),
+            }),
+        ],
+        test: Test::Text(Grammar::SpdxExpression),
     },
     Rule {
         name: "annotation-ref-name",
