@@ -1,11 +1,12 @@
 -- What it is that a part of a document breaks a rule, and that a document keeps its rules.
-use Rattle.std.specs.Prelude.{ℕ, ◌<◌, ◌≡◌, List, [], ◌∷◌, Option, Some, None, unwrap_or}
+use Rattle.std.specs.Prelude.{ℕ, ◌<◌, ◌≡◌, List, [], ◌∷◌, Some, unwrap_or, IsTrue}
 use Rattle.std.specs.List.{Contains}
 use Rattle.serde_json.specs.Data.{Data, string, Items, no_items, Members}
 use Rattle.serde_json.specs.Find.{as_array, as_object, get_item}
 use Rattle.oci_schema_walks.specs.Places.{under_name, under_index}
 use Rattle.oci_schema_walks.specs.Leads.{HasMember, HasItem}
 use Rattle.oci_rules.specs.Rules.{Platform, Key, Test, text, one_of, none_of, begins, reserved, within, truth, there, absent, either, not_empty, length_at_most, at_most, sum_at_most, lists, lists_item, distinct, among, Place, here, under, each_item, each_member, each_name, if_so, Rule}
+use Rattle.oci_rules.specs.Platforms.{is_for}
 use Rattle.oci_rules.specs.Parts.{present, items_at, key_of}
 use Rattle.oci_rules.specs.Tests.{IsAmong, Holds, Passes}
 
@@ -54,10 +55,10 @@ Told = Rule × List ℕ
 -- one of the rules is for the platform; a part at its place does not pass its test, and the pointer shows it
 abbrev pub Breaks : List Rule → Platform → Data → Told → Type 0
 Breaks rs platform d x =
-    Contains rs x.0 × Contains x.0.platforms platform
+    Contains rs x.0 × IsTrue (is_for platform x.0.platforms)
     × ((at : List ℕ) × (part : Data) × Stands d x.0.place [] d at part × (Passes x.0.test part → ⊥) × Shows x.0.test at part x.1)
 
 -- each part at the place of each rule for the platform passes its test
 abbrev pub KeepsAll : List Rule → Platform → Data → Type 0
 KeepsAll rs platform d =
-    (r : Rule) → Contains rs r → Contains r.platforms platform → (at : List ℕ) (part : Data) → Stands d r.place [] d at part → Passes r.test part
+    (r : Rule) → Contains rs r → IsTrue (is_for platform r.platforms) → (at : List ℕ) (part : Data) → Stands d r.place [] d at part → Passes r.test part

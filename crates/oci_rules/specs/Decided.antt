@@ -7,7 +7,7 @@ use Rattle.serde_json.specs.Find.{as_bool, as_str, as_array, as_object}
 use Rattle.oci_json_model.specs.Means.{as_whole, is_object}
 use Rattle.oci_text_base.specs.Names.{is_listed}
 use Rattle.oci_rules.specs.Grammars.{is_of}
-use Rattle.oci_rules.specs.Rules.{Platform, linux, windows, solaris, vm, zos, freebsd, Check, is_there, is_text, is_truth, is_within, has_text, has_item, Condition, asks, Test, text, one_of, none_of, begins, reserved, within, truth, there, absent, either, not_empty, length_at_most, at_most, sum_at_most, lists, lists_item, distinct, among}
+use Rattle.oci_rules.specs.Rules.{Check, is_there, is_text, is_truth, is_within, has_text, has_item, Condition, asks, Test, text, one_of, none_of, begins, reserved, within, truth, there, absent, either, not_empty, length_at_most, at_most, sum_at_most, lists, lists_item, distinct, among}
 use Rattle.oci_rules.specs.Parts.{present, led, text_at, whole_at, natural_at, extent}
 use Rattle.oci_rules.specs.Tests.{origin_in}
 
@@ -40,7 +40,7 @@ is_in low high z = int_le low z && int_le z high
 -- ---- conditions
 
 abbrev pub is_item : List ℕ → List (List ℕ) → List (List ℕ) → List (List ℕ) → Data → Bool
-is_item name ts with without d = there_and (is_listed ts) (text_at name d) && list_all (has d) with && list_all (lacks d) without
+is_item name ts with without d = there_and (is_listed ts) (text_at name d) && (list_all (has d) with && list_all (lacks d) without)
 
 abbrev pub is_so : Check → Data → Bool
 is_so is_there d = true
@@ -87,17 +87,3 @@ is_passed (lists ts) d = if_any (some_item (is_one_of ts)) (as_array d)
 is_passed (lists_item name t) d = if_any (some_item (has_text_under name t)) (as_array d)
 is_passed (distinct key) d = true
 is_passed (among a b) d = true
-
--- ---- platforms
-
-abbrev pub is_platform : Platform → Platform → Bool
-is_platform linux linux = true
-is_platform windows windows = true
-is_platform solaris solaris = true
-is_platform vm vm = true
-is_platform zos zos = true
-is_platform freebsd freebsd = true
-is_platform p q = false
-
-abbrev pub is_for : Platform → List Platform → Bool
-is_for p ps = list_any (is_platform p) ps

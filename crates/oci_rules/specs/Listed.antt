@@ -7,7 +7,8 @@ use Rattle.oci_rules.specs.Rules.{Platform, Key, Test, there, absent, at_most, d
 use Rattle.oci_rules.specs.Rules as rules
 use Rattle.oci_rules.specs.Parts.{present, items_at, key_of}
 use Rattle.oci_rules.specs.Breaks.{Told}
-use Rattle.oci_rules.specs.Decided.{if_any, there_and, some_item, holds, is_passed, is_for}
+use Rattle.oci_rules.specs.Decided.{if_any, there_and, some_item, holds, is_passed}
+use Rattle.oci_rules.specs.Platforms.{is_for}
 
 abbrev pub unless : Bool → Rule → List ℕ → List Told
 unless kept r at = if kept then [] else (r, at) ∷ []

@@ -1,10 +1,10 @@
 -- What stands where names lead in a value. A null is as good as nothing.
-use Rattle.std.specs.Prelude.{ℕ, ℤ, List, [], ◌∷◌, length, Option, Some, None, option_map, option_and_then}
+use Rattle.std.specs.Prelude.{ℕ, ℤ, List, [], ◌∷◌, length, Option, Some, option_map, option_and_then}
 use Rattle.std.specs.Option.{option_or}
 use Rattle.std.specs.Fmt.{signed_decimal}
-use Rattle.serde_json.specs.Data.{Data, null, boolean, number, string, array, object, Items, no_items, item}
+use Rattle.serde_json.specs.Data.{Data, Items}
 use Rattle.serde_json.specs.Events.{items_len, members_len}
-use Rattle.serde_json.specs.Find.{as_str, as_array, as_number, as_u64, get}
+use Rattle.serde_json.specs.Find.{as_str, as_array, as_object, as_number, as_u64, get}
 use Rattle.oci_json_model.specs.Means.{as_whole, unless_null}
 use Rattle.oci_text_base.specs.Classes.{until}
 use Rattle.oci_schema_walks.specs.Places.{under_name}
@@ -34,12 +34,7 @@ items_at name d = option_and_then as_array (get name d)
 
 -- the bytes of a text, the items of an array, the members of an object
 abbrev pub extent : Data → Option ℕ
-extent null = None
-extent (boolean b) = None
-extent (number n) = None
-extent (string t) = Some (length t)
-extent (array ds) = Some (items_len ds)
-extent (object ms) = Some (members_len ms)
+extent d = option_or (option_map length (as_str d)) (option_or (option_map items_len (as_array d)) (option_map members_len (as_object d)))
 
 -- ---- keys
 

@@ -42,7 +42,7 @@ IsWithin low high z = (low ≤ℤ z) × (z ≤ℤ high)
 
 -- one of the texts is under the name; these members are there, and those are absent
 abbrev pub IsItem : List ℕ → List (List ℕ) → List (List ℕ) → List (List ℕ) → Data → Type 0
-IsItem name ts with without d = IsSomeAnd (text_at name d) (λ t. IsTrue (is_listed ts t)) × EachName (λ n. IsThere n d) with × EachName (λ n. IsAbsent n d) without
+IsItem name ts with without d = IsSomeAnd (text_at name d) (λ t. IsTrue (is_listed ts t)) × (EachName (λ n. IsThere n d) with × EachName (λ n. IsAbsent n d) without)
 
 abbrev pub IsSo : Check → Data → Type 0
 IsSo is_there d = ⊤

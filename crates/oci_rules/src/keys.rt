@@ -1,4 +1,4 @@
-//! The keys by which items are told apart, and sets of strings.
+//! The keys by which items are compared, and sets of strings.
 ghost use Rattle.std.specs.Prelude.{◌≡◌, [], option_map, option_and_then, string_bytes, IfOk};
 ghost use Rattle.serde_json.specs.View.{view};
 ghost use Rattle.oci_text_base.specs.Classes.{until};
@@ -19,7 +19,7 @@ pub fn key_of(key: &Key, item: &Value, alloc: Global) -> Result<Option<String>, 
         Key::Itself => scalar(item, alloc),
         Key::Members(ways) => joined(ways, item, alloc),
         Key::EntryName => match item.as_str() {
-            Some(text) => Ok(Some(entry_name(text, alloc)?)),
+            Some(text) => Ok(Some(String::from_str(alloc, entry_name(text))?)),
             None => Ok(None),
         },
     }
@@ -67,11 +67,11 @@ fn joined(
 }
 
 /// What stands before the first `=`.
-fn entry_name(text: &str, alloc: Global) -> Result<String, AllocError>
-    ensures { IfOk result (λ s. string_bytes s ≡ until parts.equals text.now) }
+fn entry_name(text: &str) -> &str
+    ensures { result.now ≡ until parts.equals text.now }
 {
     match text.split_once('=') {
-        Some((name, _)) => String::from_str(alloc, name),
-        None => String::from_str(alloc, text),
+        Some((name, _)) => name,
+        None => text,
     }
 }

@@ -1,5 +1,7 @@
 //! What stands where names lead in a value.
-ghost use Rattle.std.specs.Prelude.{◌≡◌, [], option_map};
+ghost use Rattle.std.specs.Prelude.{◌≡◌, [], length, option_map};
+ghost use Rattle.serde_json.specs.Events.{items_len, members_len};
+ghost use Rattle.serde_json.specs.Find.{as_array, as_object, as_str};
 ghost use Rattle.serde_json.specs.View.{view, items_view};
 ghost use Rattle.oci_json_model.specs.Means.{as_whole};
 ghost use Rattle.oci_rules.specs.Decided.{has as does_have};
@@ -97,10 +99,34 @@ pub fn items_at<'v>(value: &'v Value, name: &str) -> Option<&'v Vec<Value>>
 pub fn extent(value: &Value) -> Option<usize>
     ensures { result ≡ parts.extent (view value.now) }
 {
-    match value {
-        Value::String(text) => Some(text.len()),
-        Value::Array(items) => Some(items.len()),
-        Value::Object(members) => Some(members.len()),
-        _ => None,
+    text_length(value).or(array_length(value).or(object_length(value)))
+}
+
+fn text_length(value: &Value) -> Option<usize>
+    ensures { result ≡ option_map length (as_str (view value.now)) }
+{
+    match value.as_str() {
+        Some(text) => Some(text.len()),
+        None => None,
+    }
+}
+
+#[tactic(auto, using(crate::proofs::Extents::array_extent))]
+fn array_length(value: &Value) -> Option<usize>
+    ensures { result ≡ option_map items_len (as_array (view value.now)) }
+{
+    match value.as_array() {
+        Some(items) => Some(items.len()),
+        None => None,
+    }
+}
+
+#[tactic(auto, using(crate::proofs::Extents::object_extent))]
+fn object_length(value: &Value) -> Option<usize>
+    ensures { result ≡ option_map members_len (as_object (view value.now)) }
+{
+    match value.as_object() {
+        Some(members) => Some(members.len()),
+        None => None,
     }
 }

@@ -86,7 +86,7 @@ pub enum Step<'a> {
     When(Condition<'a>),
 }
 
-/// By what the items of an array are told apart; an item without it is like no other.
+/// By what the items of an array are compared; an item without it is like no other.
 #[derive(Clone, Copy)]
 pub enum Key<'a> {
     /// By themselves, where they are strings or integers.
@@ -97,7 +97,7 @@ pub enum Key<'a> {
     EntryName,
 }
 
-/// What a rule asks of a part. Of a part of another kind it asks nothing, since the schema tells of that.
+/// What a rule asks of a part. Of a part of another kind it asks nothing, which the schema is for.
 #[derive(Clone, Copy)]
 pub enum Test<'a> {
     /// A string is of this grammar.

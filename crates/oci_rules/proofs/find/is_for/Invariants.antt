@@ -1,5 +1,5 @@
 use Rattle.std.proofs.Common.{◌≡◌, drop, map}
-use Rattle.oci_rules.specs.Decided.{is_for}
+use Rattle.oci_rules.specs.Platforms.{is_for}
 use Rattle.oci_rules.specs.Tables.{platform_of}
 use Rattle.oci_rules.proofs.find.is_for.Given as goal
 
