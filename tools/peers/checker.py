@@ -4,7 +4,7 @@ import re
 import subprocess
 import tempfile
 
-LINE = re.compile(r"(.*): ([a-z0-9-]+) \((must|stated|should|host), (.*)\)")
+LINE = re.compile(r"(.*): ([a-z0-9-]+) \((must|stated|should|host), (.*?)\)(?:: .*)?")
 
 
 class Found:

@@ -31,7 +31,7 @@ class Description:
         self.platforms = PLATFORMS if platforms == "-" else POSIX if platforms == "posix" else tuple(platforms.split())
         if not set(self.platforms) <= set(PLATFORMS):
             raise Wrong(f"{self.name}: no platforms {platforms}")
-        self.section = "" if self.section == "-" else self.section
+        self.section = "common practice" if self.section == "-" else self.section
         self.peers = "" if self.peers == "-" else self.peers
         try:
             tests = [reader.test(parts(it)) for it in split(self.asked)]

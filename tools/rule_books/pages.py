@@ -35,7 +35,7 @@ def platforms(items):
 
 def row(it):
     where = " ".join(f"`{place}`" for place in it.where.split())
-    return f"| `{it.name}` | {where}{platforms(it.platforms)} | {it.level} | {it.section or '-'} | {cell(it.wanted)} | {cell(it.peers) or '-'} |\n"
+    return f"| `{it.name}` | {where}{platforms(it.platforms)} | {it.level} | {it.section} | {cell(it.wanted)} | {cell(it.peers) or '-'} |\n"
 
 
 def stands(model, group):

@@ -27,29 +27,29 @@ config_rules =
     record { name = codes "config-reserved"; level = stated; section = codes "image config.md#properties"; platforms = every; place = under (codes "config") here; test = absent (codes "MemorySwap") } ∷
     record { name = codes "config-reserved"; level = stated; section = codes "image config.md#properties"; platforms = every; place = under (codes "config") here; test = absent (codes "CpuShares") } ∷
     record { name = codes "config-reserved"; level = stated; section = codes "image config.md#properties"; platforms = every; place = under (codes "config") here; test = absent (codes "Healthcheck") } ∷
-    record { name = codes "config-env-once"; level = host; section = codes ""; platforms = every; place = under (codes "config") (under (codes "Env") here); test = distinct entry_name } ∷
-    record { name = codes "config-volume-absolute"; level = host; section = codes ""; platforms = every; place = under (codes "config") (under (codes "Volumes") (each_name here)); test = text AbsolutePath } ∷
-    record { name = codes "config-working-dir-absolute"; level = host; section = codes ""; platforms = every; place = if_so (asks the_part (codes "os" ∷ []) false (is_text (codes "windows" ∷ []))) (under (codes "config") (under (codes "WorkingDir") (if_so (asks the_part [] false (is_text (codes "" ∷ []))) here))); test = text AbsolutePath } ∷
+    record { name = codes "config-env-once"; level = host; section = codes "common practice"; platforms = every; place = under (codes "config") (under (codes "Env") here); test = distinct entry_name } ∷
+    record { name = codes "config-volume-absolute"; level = host; section = codes "common practice"; platforms = every; place = under (codes "config") (under (codes "Volumes") (each_name here)); test = text AbsolutePath } ∷
+    record { name = codes "config-working-dir-absolute"; level = host; section = codes "common practice"; platforms = every; place = if_so (asks the_part (codes "os" ∷ []) false (is_text (codes "windows" ∷ []))) (under (codes "config") (under (codes "WorkingDir") (if_so (asks the_part [] false (is_text (codes "" ∷ []))) here))); test = text AbsolutePath } ∷
     []
 
 -- the book of config combinations
 abbrev pub config_combinations_rules : List Rule
 config_combinations_rules =
-    record { name = codes "config-combination"; level = host; section = codes ""; platforms = every; place = if_so (asks the_part (codes "os" ∷ []) true (is_text (codes "aix" ∷ []))) (under (codes "architecture") here); test = one_of (codes "ppc64" ∷ []) } ∷
-    record { name = codes "config-combination"; level = host; section = codes ""; platforms = every; place = if_so (asks the_part (codes "os" ∷ []) true (is_text (codes "android" ∷ []))) (under (codes "architecture") here); test = one_of (codes "386" ∷ codes "amd64" ∷ codes "arm" ∷ codes "arm64" ∷ []) } ∷
-    record { name = codes "config-combination"; level = host; section = codes ""; platforms = every; place = if_so (asks the_part (codes "os" ∷ []) true (is_text (codes "darwin" ∷ []))) (under (codes "architecture") here); test = one_of (codes "amd64" ∷ codes "arm64" ∷ []) } ∷
-    record { name = codes "config-combination"; level = host; section = codes ""; platforms = every; place = if_so (asks the_part (codes "os" ∷ []) true (is_text (codes "dragonfly" ∷ []))) (under (codes "architecture") here); test = one_of (codes "amd64" ∷ []) } ∷
-    record { name = codes "config-combination"; level = host; section = codes ""; platforms = every; place = if_so (asks the_part (codes "os" ∷ []) true (is_text (codes "freebsd" ∷ []))) (under (codes "architecture") here); test = one_of (codes "386" ∷ codes "amd64" ∷ codes "arm" ∷ codes "arm64" ∷ codes "riscv64" ∷ []) } ∷
-    record { name = codes "config-combination"; level = host; section = codes ""; platforms = every; place = if_so (asks the_part (codes "os" ∷ []) true (is_text (codes "illumos" ∷ []))) (under (codes "architecture") here); test = one_of (codes "amd64" ∷ []) } ∷
-    record { name = codes "config-combination"; level = host; section = codes ""; platforms = every; place = if_so (asks the_part (codes "os" ∷ []) true (is_text (codes "ios" ∷ []))) (under (codes "architecture") here); test = one_of (codes "arm64" ∷ codes "amd64" ∷ []) } ∷
-    record { name = codes "config-combination"; level = host; section = codes ""; platforms = every; place = if_so (asks the_part (codes "os" ∷ []) true (is_text (codes "js" ∷ []))) (under (codes "architecture") here); test = one_of (codes "wasm" ∷ []) } ∷
-    record { name = codes "config-combination"; level = host; section = codes ""; platforms = every; place = if_so (asks the_part (codes "os" ∷ []) true (is_text (codes "linux" ∷ []))) (under (codes "architecture") here); test = one_of (codes "386" ∷ codes "amd64" ∷ codes "arm" ∷ codes "arm64" ∷ codes "loong64" ∷ codes "ppc64" ∷ codes "ppc64le" ∷ codes "mips" ∷ codes "mipsle" ∷ codes "mips64" ∷ codes "mips64le" ∷ codes "riscv64" ∷ codes "s390x" ∷ []) } ∷
-    record { name = codes "config-combination"; level = host; section = codes ""; platforms = every; place = if_so (asks the_part (codes "os" ∷ []) true (is_text (codes "netbsd" ∷ []))) (under (codes "architecture") here); test = one_of (codes "386" ∷ codes "amd64" ∷ codes "arm" ∷ codes "arm64" ∷ []) } ∷
-    record { name = codes "config-combination"; level = host; section = codes ""; platforms = every; place = if_so (asks the_part (codes "os" ∷ []) true (is_text (codes "openbsd" ∷ []))) (under (codes "architecture") here); test = one_of (codes "386" ∷ codes "amd64" ∷ codes "arm" ∷ codes "arm64" ∷ codes "mips64" ∷ codes "ppc64" ∷ codes "riscv64" ∷ []) } ∷
-    record { name = codes "config-combination"; level = host; section = codes ""; platforms = every; place = if_so (asks the_part (codes "os" ∷ []) true (is_text (codes "plan9" ∷ []))) (under (codes "architecture") here); test = one_of (codes "386" ∷ codes "amd64" ∷ codes "arm" ∷ []) } ∷
-    record { name = codes "config-combination"; level = host; section = codes ""; platforms = every; place = if_so (asks the_part (codes "os" ∷ []) true (is_text (codes "solaris" ∷ []))) (under (codes "architecture") here); test = one_of (codes "amd64" ∷ []) } ∷
-    record { name = codes "config-combination"; level = host; section = codes ""; platforms = every; place = if_so (asks the_part (codes "os" ∷ []) true (is_text (codes "wasip1" ∷ []))) (under (codes "architecture") here); test = one_of (codes "wasm" ∷ []) } ∷
-    record { name = codes "config-combination"; level = host; section = codes ""; platforms = every; place = if_so (asks the_part (codes "os" ∷ []) true (is_text (codes "windows" ∷ []))) (under (codes "architecture") here); test = one_of (codes "386" ∷ codes "amd64" ∷ codes "arm" ∷ codes "arm64" ∷ []) } ∷
+    record { name = codes "config-combination"; level = host; section = codes "common practice"; platforms = every; place = if_so (asks the_part (codes "os" ∷ []) true (is_text (codes "aix" ∷ []))) (under (codes "architecture") here); test = one_of (codes "ppc64" ∷ []) } ∷
+    record { name = codes "config-combination"; level = host; section = codes "common practice"; platforms = every; place = if_so (asks the_part (codes "os" ∷ []) true (is_text (codes "android" ∷ []))) (under (codes "architecture") here); test = one_of (codes "386" ∷ codes "amd64" ∷ codes "arm" ∷ codes "arm64" ∷ []) } ∷
+    record { name = codes "config-combination"; level = host; section = codes "common practice"; platforms = every; place = if_so (asks the_part (codes "os" ∷ []) true (is_text (codes "darwin" ∷ []))) (under (codes "architecture") here); test = one_of (codes "amd64" ∷ codes "arm64" ∷ []) } ∷
+    record { name = codes "config-combination"; level = host; section = codes "common practice"; platforms = every; place = if_so (asks the_part (codes "os" ∷ []) true (is_text (codes "dragonfly" ∷ []))) (under (codes "architecture") here); test = one_of (codes "amd64" ∷ []) } ∷
+    record { name = codes "config-combination"; level = host; section = codes "common practice"; platforms = every; place = if_so (asks the_part (codes "os" ∷ []) true (is_text (codes "freebsd" ∷ []))) (under (codes "architecture") here); test = one_of (codes "386" ∷ codes "amd64" ∷ codes "arm" ∷ codes "arm64" ∷ codes "riscv64" ∷ []) } ∷
+    record { name = codes "config-combination"; level = host; section = codes "common practice"; platforms = every; place = if_so (asks the_part (codes "os" ∷ []) true (is_text (codes "illumos" ∷ []))) (under (codes "architecture") here); test = one_of (codes "amd64" ∷ []) } ∷
+    record { name = codes "config-combination"; level = host; section = codes "common practice"; platforms = every; place = if_so (asks the_part (codes "os" ∷ []) true (is_text (codes "ios" ∷ []))) (under (codes "architecture") here); test = one_of (codes "arm64" ∷ codes "amd64" ∷ []) } ∷
+    record { name = codes "config-combination"; level = host; section = codes "common practice"; platforms = every; place = if_so (asks the_part (codes "os" ∷ []) true (is_text (codes "js" ∷ []))) (under (codes "architecture") here); test = one_of (codes "wasm" ∷ []) } ∷
+    record { name = codes "config-combination"; level = host; section = codes "common practice"; platforms = every; place = if_so (asks the_part (codes "os" ∷ []) true (is_text (codes "linux" ∷ []))) (under (codes "architecture") here); test = one_of (codes "386" ∷ codes "amd64" ∷ codes "arm" ∷ codes "arm64" ∷ codes "loong64" ∷ codes "ppc64" ∷ codes "ppc64le" ∷ codes "mips" ∷ codes "mipsle" ∷ codes "mips64" ∷ codes "mips64le" ∷ codes "riscv64" ∷ codes "s390x" ∷ []) } ∷
+    record { name = codes "config-combination"; level = host; section = codes "common practice"; platforms = every; place = if_so (asks the_part (codes "os" ∷ []) true (is_text (codes "netbsd" ∷ []))) (under (codes "architecture") here); test = one_of (codes "386" ∷ codes "amd64" ∷ codes "arm" ∷ codes "arm64" ∷ []) } ∷
+    record { name = codes "config-combination"; level = host; section = codes "common practice"; platforms = every; place = if_so (asks the_part (codes "os" ∷ []) true (is_text (codes "openbsd" ∷ []))) (under (codes "architecture") here); test = one_of (codes "386" ∷ codes "amd64" ∷ codes "arm" ∷ codes "arm64" ∷ codes "mips64" ∷ codes "ppc64" ∷ codes "riscv64" ∷ []) } ∷
+    record { name = codes "config-combination"; level = host; section = codes "common practice"; platforms = every; place = if_so (asks the_part (codes "os" ∷ []) true (is_text (codes "plan9" ∷ []))) (under (codes "architecture") here); test = one_of (codes "386" ∷ codes "amd64" ∷ codes "arm" ∷ []) } ∷
+    record { name = codes "config-combination"; level = host; section = codes "common practice"; platforms = every; place = if_so (asks the_part (codes "os" ∷ []) true (is_text (codes "solaris" ∷ []))) (under (codes "architecture") here); test = one_of (codes "amd64" ∷ []) } ∷
+    record { name = codes "config-combination"; level = host; section = codes "common practice"; platforms = every; place = if_so (asks the_part (codes "os" ∷ []) true (is_text (codes "wasip1" ∷ []))) (under (codes "architecture") here); test = one_of (codes "wasm" ∷ []) } ∷
+    record { name = codes "config-combination"; level = host; section = codes "common practice"; platforms = every; place = if_so (asks the_part (codes "os" ∷ []) true (is_text (codes "windows" ∷ []))) (under (codes "architecture") here); test = one_of (codes "386" ∷ codes "amd64" ∷ codes "arm" ∷ codes "arm64" ∷ []) } ∷
     []
 
 -- the book of config labels

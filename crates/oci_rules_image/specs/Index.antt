@@ -24,28 +24,28 @@ index_rules =
     record { name = codes "platform-features-windows"; level = should; section = codes "image image-index.md#image-index-property-descriptions"; platforms = every; place = under (codes "manifests") (each_item (under (codes "platform") (if_so (asks the_part (codes "os" ∷ []) true (is_text (codes "windows" ∷ []))) (under (codes "os_features") (each_item here))))); test = one_of (codes "win32k" ∷ []) } ∷
     record { name = codes "platform-features-reserved"; level = stated; section = codes "image image-index.md#image-index-property-descriptions"; platforms = every; place = under (codes "manifests") (each_item (under (codes "platform") here)); test = absent (codes "features") } ∷
     record { name = codes "index-ref-name-once"; level = host; section = codes "image image-layout.md#indexjson-file"; platforms = every; place = under (codes "manifests") here; test = distinct (members ((codes "annotations" ∷ codes "org.opencontainers.image.ref.name" ∷ []) ∷ [])) } ∷
-    record { name = codes "index-not-manifest"; level = host; section = codes ""; platforms = every; place = here; test = absent (codes "config") } ∷
-    record { name = codes "index-not-manifest"; level = host; section = codes ""; platforms = every; place = here; test = absent (codes "layers") } ∷
+    record { name = codes "index-not-manifest"; level = host; section = codes "common practice"; platforms = every; place = here; test = absent (codes "config") } ∷
+    record { name = codes "index-not-manifest"; level = host; section = codes "common practice"; platforms = every; place = here; test = absent (codes "layers") } ∷
     []
 
 -- the book of index combinations
 abbrev pub index_combinations_rules : List Rule
 index_combinations_rules =
-    record { name = codes "platform-combination"; level = host; section = codes ""; platforms = every; place = under (codes "manifests") (each_item (under (codes "platform") (if_so (asks the_part (codes "os" ∷ []) true (is_text (codes "aix" ∷ []))) (under (codes "architecture") here)))); test = one_of (codes "ppc64" ∷ []) } ∷
-    record { name = codes "platform-combination"; level = host; section = codes ""; platforms = every; place = under (codes "manifests") (each_item (under (codes "platform") (if_so (asks the_part (codes "os" ∷ []) true (is_text (codes "android" ∷ []))) (under (codes "architecture") here)))); test = one_of (codes "386" ∷ codes "amd64" ∷ codes "arm" ∷ codes "arm64" ∷ []) } ∷
-    record { name = codes "platform-combination"; level = host; section = codes ""; platforms = every; place = under (codes "manifests") (each_item (under (codes "platform") (if_so (asks the_part (codes "os" ∷ []) true (is_text (codes "darwin" ∷ []))) (under (codes "architecture") here)))); test = one_of (codes "amd64" ∷ codes "arm64" ∷ []) } ∷
-    record { name = codes "platform-combination"; level = host; section = codes ""; platforms = every; place = under (codes "manifests") (each_item (under (codes "platform") (if_so (asks the_part (codes "os" ∷ []) true (is_text (codes "dragonfly" ∷ []))) (under (codes "architecture") here)))); test = one_of (codes "amd64" ∷ []) } ∷
-    record { name = codes "platform-combination"; level = host; section = codes ""; platforms = every; place = under (codes "manifests") (each_item (under (codes "platform") (if_so (asks the_part (codes "os" ∷ []) true (is_text (codes "freebsd" ∷ []))) (under (codes "architecture") here)))); test = one_of (codes "386" ∷ codes "amd64" ∷ codes "arm" ∷ codes "arm64" ∷ codes "riscv64" ∷ []) } ∷
-    record { name = codes "platform-combination"; level = host; section = codes ""; platforms = every; place = under (codes "manifests") (each_item (under (codes "platform") (if_so (asks the_part (codes "os" ∷ []) true (is_text (codes "illumos" ∷ []))) (under (codes "architecture") here)))); test = one_of (codes "amd64" ∷ []) } ∷
-    record { name = codes "platform-combination"; level = host; section = codes ""; platforms = every; place = under (codes "manifests") (each_item (under (codes "platform") (if_so (asks the_part (codes "os" ∷ []) true (is_text (codes "ios" ∷ []))) (under (codes "architecture") here)))); test = one_of (codes "arm64" ∷ codes "amd64" ∷ []) } ∷
-    record { name = codes "platform-combination"; level = host; section = codes ""; platforms = every; place = under (codes "manifests") (each_item (under (codes "platform") (if_so (asks the_part (codes "os" ∷ []) true (is_text (codes "js" ∷ []))) (under (codes "architecture") here)))); test = one_of (codes "wasm" ∷ []) } ∷
-    record { name = codes "platform-combination"; level = host; section = codes ""; platforms = every; place = under (codes "manifests") (each_item (under (codes "platform") (if_so (asks the_part (codes "os" ∷ []) true (is_text (codes "linux" ∷ []))) (under (codes "architecture") here)))); test = one_of (codes "386" ∷ codes "amd64" ∷ codes "arm" ∷ codes "arm64" ∷ codes "loong64" ∷ codes "ppc64" ∷ codes "ppc64le" ∷ codes "mips" ∷ codes "mipsle" ∷ codes "mips64" ∷ codes "mips64le" ∷ codes "riscv64" ∷ codes "s390x" ∷ []) } ∷
-    record { name = codes "platform-combination"; level = host; section = codes ""; platforms = every; place = under (codes "manifests") (each_item (under (codes "platform") (if_so (asks the_part (codes "os" ∷ []) true (is_text (codes "netbsd" ∷ []))) (under (codes "architecture") here)))); test = one_of (codes "386" ∷ codes "amd64" ∷ codes "arm" ∷ codes "arm64" ∷ []) } ∷
-    record { name = codes "platform-combination"; level = host; section = codes ""; platforms = every; place = under (codes "manifests") (each_item (under (codes "platform") (if_so (asks the_part (codes "os" ∷ []) true (is_text (codes "openbsd" ∷ []))) (under (codes "architecture") here)))); test = one_of (codes "386" ∷ codes "amd64" ∷ codes "arm" ∷ codes "arm64" ∷ codes "mips64" ∷ codes "ppc64" ∷ codes "riscv64" ∷ []) } ∷
-    record { name = codes "platform-combination"; level = host; section = codes ""; platforms = every; place = under (codes "manifests") (each_item (under (codes "platform") (if_so (asks the_part (codes "os" ∷ []) true (is_text (codes "plan9" ∷ []))) (under (codes "architecture") here)))); test = one_of (codes "386" ∷ codes "amd64" ∷ codes "arm" ∷ []) } ∷
-    record { name = codes "platform-combination"; level = host; section = codes ""; platforms = every; place = under (codes "manifests") (each_item (under (codes "platform") (if_so (asks the_part (codes "os" ∷ []) true (is_text (codes "solaris" ∷ []))) (under (codes "architecture") here)))); test = one_of (codes "amd64" ∷ []) } ∷
-    record { name = codes "platform-combination"; level = host; section = codes ""; platforms = every; place = under (codes "manifests") (each_item (under (codes "platform") (if_so (asks the_part (codes "os" ∷ []) true (is_text (codes "wasip1" ∷ []))) (under (codes "architecture") here)))); test = one_of (codes "wasm" ∷ []) } ∷
-    record { name = codes "platform-combination"; level = host; section = codes ""; platforms = every; place = under (codes "manifests") (each_item (under (codes "platform") (if_so (asks the_part (codes "os" ∷ []) true (is_text (codes "windows" ∷ []))) (under (codes "architecture") here)))); test = one_of (codes "386" ∷ codes "amd64" ∷ codes "arm" ∷ codes "arm64" ∷ []) } ∷
+    record { name = codes "platform-combination"; level = host; section = codes "common practice"; platforms = every; place = under (codes "manifests") (each_item (under (codes "platform") (if_so (asks the_part (codes "os" ∷ []) true (is_text (codes "aix" ∷ []))) (under (codes "architecture") here)))); test = one_of (codes "ppc64" ∷ []) } ∷
+    record { name = codes "platform-combination"; level = host; section = codes "common practice"; platforms = every; place = under (codes "manifests") (each_item (under (codes "platform") (if_so (asks the_part (codes "os" ∷ []) true (is_text (codes "android" ∷ []))) (under (codes "architecture") here)))); test = one_of (codes "386" ∷ codes "amd64" ∷ codes "arm" ∷ codes "arm64" ∷ []) } ∷
+    record { name = codes "platform-combination"; level = host; section = codes "common practice"; platforms = every; place = under (codes "manifests") (each_item (under (codes "platform") (if_so (asks the_part (codes "os" ∷ []) true (is_text (codes "darwin" ∷ []))) (under (codes "architecture") here)))); test = one_of (codes "amd64" ∷ codes "arm64" ∷ []) } ∷
+    record { name = codes "platform-combination"; level = host; section = codes "common practice"; platforms = every; place = under (codes "manifests") (each_item (under (codes "platform") (if_so (asks the_part (codes "os" ∷ []) true (is_text (codes "dragonfly" ∷ []))) (under (codes "architecture") here)))); test = one_of (codes "amd64" ∷ []) } ∷
+    record { name = codes "platform-combination"; level = host; section = codes "common practice"; platforms = every; place = under (codes "manifests") (each_item (under (codes "platform") (if_so (asks the_part (codes "os" ∷ []) true (is_text (codes "freebsd" ∷ []))) (under (codes "architecture") here)))); test = one_of (codes "386" ∷ codes "amd64" ∷ codes "arm" ∷ codes "arm64" ∷ codes "riscv64" ∷ []) } ∷
+    record { name = codes "platform-combination"; level = host; section = codes "common practice"; platforms = every; place = under (codes "manifests") (each_item (under (codes "platform") (if_so (asks the_part (codes "os" ∷ []) true (is_text (codes "illumos" ∷ []))) (under (codes "architecture") here)))); test = one_of (codes "amd64" ∷ []) } ∷
+    record { name = codes "platform-combination"; level = host; section = codes "common practice"; platforms = every; place = under (codes "manifests") (each_item (under (codes "platform") (if_so (asks the_part (codes "os" ∷ []) true (is_text (codes "ios" ∷ []))) (under (codes "architecture") here)))); test = one_of (codes "arm64" ∷ codes "amd64" ∷ []) } ∷
+    record { name = codes "platform-combination"; level = host; section = codes "common practice"; platforms = every; place = under (codes "manifests") (each_item (under (codes "platform") (if_so (asks the_part (codes "os" ∷ []) true (is_text (codes "js" ∷ []))) (under (codes "architecture") here)))); test = one_of (codes "wasm" ∷ []) } ∷
+    record { name = codes "platform-combination"; level = host; section = codes "common practice"; platforms = every; place = under (codes "manifests") (each_item (under (codes "platform") (if_so (asks the_part (codes "os" ∷ []) true (is_text (codes "linux" ∷ []))) (under (codes "architecture") here)))); test = one_of (codes "386" ∷ codes "amd64" ∷ codes "arm" ∷ codes "arm64" ∷ codes "loong64" ∷ codes "ppc64" ∷ codes "ppc64le" ∷ codes "mips" ∷ codes "mipsle" ∷ codes "mips64" ∷ codes "mips64le" ∷ codes "riscv64" ∷ codes "s390x" ∷ []) } ∷
+    record { name = codes "platform-combination"; level = host; section = codes "common practice"; platforms = every; place = under (codes "manifests") (each_item (under (codes "platform") (if_so (asks the_part (codes "os" ∷ []) true (is_text (codes "netbsd" ∷ []))) (under (codes "architecture") here)))); test = one_of (codes "386" ∷ codes "amd64" ∷ codes "arm" ∷ codes "arm64" ∷ []) } ∷
+    record { name = codes "platform-combination"; level = host; section = codes "common practice"; platforms = every; place = under (codes "manifests") (each_item (under (codes "platform") (if_so (asks the_part (codes "os" ∷ []) true (is_text (codes "openbsd" ∷ []))) (under (codes "architecture") here)))); test = one_of (codes "386" ∷ codes "amd64" ∷ codes "arm" ∷ codes "arm64" ∷ codes "mips64" ∷ codes "ppc64" ∷ codes "riscv64" ∷ []) } ∷
+    record { name = codes "platform-combination"; level = host; section = codes "common practice"; platforms = every; place = under (codes "manifests") (each_item (under (codes "platform") (if_so (asks the_part (codes "os" ∷ []) true (is_text (codes "plan9" ∷ []))) (under (codes "architecture") here)))); test = one_of (codes "386" ∷ codes "amd64" ∷ codes "arm" ∷ []) } ∷
+    record { name = codes "platform-combination"; level = host; section = codes "common practice"; platforms = every; place = under (codes "manifests") (each_item (under (codes "platform") (if_so (asks the_part (codes "os" ∷ []) true (is_text (codes "solaris" ∷ []))) (under (codes "architecture") here)))); test = one_of (codes "amd64" ∷ []) } ∷
+    record { name = codes "platform-combination"; level = host; section = codes "common practice"; platforms = every; place = under (codes "manifests") (each_item (under (codes "platform") (if_so (asks the_part (codes "os" ∷ []) true (is_text (codes "wasip1" ∷ []))) (under (codes "architecture") here)))); test = one_of (codes "wasm" ∷ []) } ∷
+    record { name = codes "platform-combination"; level = host; section = codes "common practice"; platforms = every; place = under (codes "manifests") (each_item (under (codes "platform") (if_so (asks the_part (codes "os" ∷ []) true (is_text (codes "windows" ∷ []))) (under (codes "architecture") here)))); test = one_of (codes "386" ∷ codes "amd64" ∷ codes "arm" ∷ codes "arm64" ∷ []) } ∷
     []
 
 -- the book of index annotations

@@ -22,8 +22,8 @@ manifest_rules =
     record { name = codes "manifest-artifact-layer-some"; level = should; section = codes "image manifest.md#guidelines-for-artifact-usage"; platforms = every; place = if_so (asks the_part (codes "config" ∷ codes "mediaType" ∷ []) true (is_text (codes "application/vnd.oci.empty.v1+json" ∷ []))) (under (codes "layers") (each_item (under (codes "size") here))); test = within (pos 1) (pos 18446744073709551615) } ∷
     record { name = codes "manifest-artifact-layer-some"; level = should; section = codes "image manifest.md#guidelines-for-artifact-usage"; platforms = every; place = if_so (asks the_part (codes "artifactType" ∷ []) true is_there) (under (codes "layers") (each_item (under (codes "size") here))); test = within (pos 1) (pos 18446744073709551615) } ∷
     record { name = codes "manifest-subject-type"; level = stated; section = codes "image manifest.md#image-manifest-property-descriptions"; platforms = every; place = under (codes "subject") (under (codes "mediaType") here); test = one_of subject_types } ∷
-    record { name = codes "manifest-not-index"; level = host; section = codes ""; platforms = every; place = here; test = absent (codes "manifests") } ∷
-    record { name = codes "manifest-not-index"; level = host; section = codes ""; platforms = every; place = here; test = absent (codes "fsLayers") } ∷
+    record { name = codes "manifest-not-index"; level = host; section = codes "common practice"; platforms = every; place = here; test = absent (codes "manifests") } ∷
+    record { name = codes "manifest-not-index"; level = host; section = codes "common practice"; platforms = every; place = here; test = absent (codes "fsLayers") } ∷
     []
 
 -- the book of manifest annotations

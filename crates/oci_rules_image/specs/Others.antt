@@ -19,9 +19,9 @@ artifact_rules =
     (record { name = codes "artifact-media-type"; level = must; section = codes "image artifact.md#artifact-manifest-property-descriptions"; platforms = every; place = under (codes "mediaType") here; test = one_of (codes "application/vnd.oci.artifact.manifest.v1+json" ∷ []) } ∷
     record { name = codes "artifact-type"; level = must; section = codes "image artifact.md#artifact-manifest-property-descriptions"; platforms = every; place = under (codes "artifactType") here; test = text MediaType } ∷
     record { name = codes "artifact-subject-type"; level = stated; section = codes "image artifact.md#artifact-manifest-property-descriptions"; platforms = every; place = under (codes "subject") (under (codes "mediaType") here); test = one_of subject_types } ∷
-    record { name = codes "artifact-not-other"; level = host; section = codes ""; platforms = every; place = here; test = absent (codes "layers") } ∷
-    record { name = codes "artifact-not-other"; level = host; section = codes ""; platforms = every; place = here; test = absent (codes "manifests") } ∷
-    record { name = codes "artifact-not-other"; level = host; section = codes ""; platforms = every; place = here; test = absent (codes "config") } ∷
+    record { name = codes "artifact-not-other"; level = host; section = codes "common practice"; platforms = every; place = here; test = absent (codes "layers") } ∷
+    record { name = codes "artifact-not-other"; level = host; section = codes "common practice"; platforms = every; place = here; test = absent (codes "manifests") } ∷
+    record { name = codes "artifact-not-other"; level = host; section = codes "common practice"; platforms = every; place = here; test = absent (codes "config") } ∷
     [])
     ++
     map (beneath (λ p. under (codes "annotations") p)) image_annotations_elsewhere_rules
@@ -41,14 +41,14 @@ abbrev pub tags_rules : List Rule
 tags_rules =
     record { name = codes "tags-name"; level = must; section = codes "distribution spec.md#listing-tags"; platforms = every; place = under (codes "name") here; test = text Repository } ∷
     record { name = codes "tags-tag"; level = must; section = codes "distribution spec.md#listing-tags"; platforms = every; place = under (codes "tags") (each_item here); test = text Tag } ∷
-    record { name = codes "tags-once"; level = host; section = codes ""; platforms = every; place = under (codes "tags") here; test = distinct itself } ∷
+    record { name = codes "tags-once"; level = host; section = codes "common practice"; platforms = every; place = under (codes "tags") here; test = distinct itself } ∷
     []
 
 -- the book of repositories
 abbrev pub repositories_rules : List Rule
 repositories_rules =
     record { name = codes "repositories-name"; level = must; section = codes "registry api.md#overview"; platforms = every; place = under (codes "repositories") (each_item here); test = text Repository } ∷
-    record { name = codes "repositories-once"; level = host; section = codes ""; platforms = every; place = under (codes "repositories") here; test = distinct itself } ∷
+    record { name = codes "repositories-once"; level = host; section = codes "common practice"; platforms = every; place = under (codes "repositories") here; test = distinct itself } ∷
     []
 
 -- the book of error

@@ -39,7 +39,7 @@ static RULES: [Rule<'static>; 20] = [
     Rule {
         name: "artifact-not-other",
         level: Level::Host,
-        section: "",
+        section: "common practice",
         wanted: "no member of another kind of manifest",
         platforms: EVERY,
         place: &[],
@@ -48,7 +48,7 @@ static RULES: [Rule<'static>; 20] = [
     Rule {
         name: "artifact-not-other",
         level: Level::Host,
-        section: "",
+        section: "common practice",
         wanted: "no member of another kind of manifest",
         platforms: EVERY,
         place: &[],
@@ -57,7 +57,7 @@ static RULES: [Rule<'static>; 20] = [
     Rule {
         name: "artifact-not-other",
         level: Level::Host,
-        section: "",
+        section: "common practice",
         wanted: "no member of another kind of manifest",
         platforms: EVERY,
         place: &[],

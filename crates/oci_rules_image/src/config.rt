@@ -220,7 +220,7 @@ static RULES: [Rule<'static>; 21] = [
     Rule {
         name: "config-env-once",
         level: Level::Host,
-        section: "",
+        section: "common practice",
         wanted: "each variable once",
         platforms: EVERY,
         place: &[Step::Member("config"), Step::Member("Env")],
@@ -229,7 +229,7 @@ static RULES: [Rule<'static>; 21] = [
     Rule {
         name: "config-volume-absolute",
         level: Level::Host,
-        section: "",
+        section: "common practice",
         wanted: "an absolute path",
         platforms: EVERY,
         place: &[
@@ -242,7 +242,7 @@ static RULES: [Rule<'static>; 21] = [
     Rule {
         name: "config-working-dir-absolute",
         level: Level::Host,
-        section: "",
+        section: "common practice",
         wanted: "an absolute path",
         platforms: EVERY,
         place: &[

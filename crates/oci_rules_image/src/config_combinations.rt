@@ -11,7 +11,7 @@ static RULES: [Rule<'static>; 15] = [
     Rule {
         name: "config-combination",
         level: Level::Host,
-        section: "",
+        section: "common practice",
         wanted: "a processor that this operating system runs on",
         platforms: EVERY,
         place: &[
@@ -28,7 +28,7 @@ static RULES: [Rule<'static>; 15] = [
     Rule {
         name: "config-combination",
         level: Level::Host,
-        section: "",
+        section: "common practice",
         wanted: "a processor that this operating system runs on",
         platforms: EVERY,
         place: &[
@@ -45,7 +45,7 @@ static RULES: [Rule<'static>; 15] = [
     Rule {
         name: "config-combination",
         level: Level::Host,
-        section: "",
+        section: "common practice",
         wanted: "a processor that this operating system runs on",
         platforms: EVERY,
         place: &[
@@ -62,7 +62,7 @@ static RULES: [Rule<'static>; 15] = [
     Rule {
         name: "config-combination",
         level: Level::Host,
-        section: "",
+        section: "common practice",
         wanted: "a processor that this operating system runs on",
         platforms: EVERY,
         place: &[
@@ -79,7 +79,7 @@ static RULES: [Rule<'static>; 15] = [
     Rule {
         name: "config-combination",
         level: Level::Host,
-        section: "",
+        section: "common practice",
         wanted: "a processor that this operating system runs on",
         platforms: EVERY,
         place: &[
@@ -96,7 +96,7 @@ static RULES: [Rule<'static>; 15] = [
     Rule {
         name: "config-combination",
         level: Level::Host,
-        section: "",
+        section: "common practice",
         wanted: "a processor that this operating system runs on",
         platforms: EVERY,
         place: &[
@@ -113,7 +113,7 @@ static RULES: [Rule<'static>; 15] = [
     Rule {
         name: "config-combination",
         level: Level::Host,
-        section: "",
+        section: "common practice",
         wanted: "a processor that this operating system runs on",
         platforms: EVERY,
         place: &[
@@ -130,7 +130,7 @@ static RULES: [Rule<'static>; 15] = [
     Rule {
         name: "config-combination",
         level: Level::Host,
-        section: "",
+        section: "common practice",
         wanted: "a processor that this operating system runs on",
         platforms: EVERY,
         place: &[
@@ -147,7 +147,7 @@ static RULES: [Rule<'static>; 15] = [
     Rule {
         name: "config-combination",
         level: Level::Host,
-        section: "",
+        section: "common practice",
         wanted: "a processor that this operating system runs on",
         platforms: EVERY,
         place: &[
@@ -167,7 +167,7 @@ static RULES: [Rule<'static>; 15] = [
     Rule {
         name: "config-combination",
         level: Level::Host,
-        section: "",
+        section: "common practice",
         wanted: "a processor that this operating system runs on",
         platforms: EVERY,
         place: &[
@@ -184,7 +184,7 @@ static RULES: [Rule<'static>; 15] = [
     Rule {
         name: "config-combination",
         level: Level::Host,
-        section: "",
+        section: "common practice",
         wanted: "a processor that this operating system runs on",
         platforms: EVERY,
         place: &[
@@ -201,7 +201,7 @@ static RULES: [Rule<'static>; 15] = [
     Rule {
         name: "config-combination",
         level: Level::Host,
-        section: "",
+        section: "common practice",
         wanted: "a processor that this operating system runs on",
         platforms: EVERY,
         place: &[
@@ -218,7 +218,7 @@ static RULES: [Rule<'static>; 15] = [
     Rule {
         name: "config-combination",
         level: Level::Host,
-        section: "",
+        section: "common practice",
         wanted: "a processor that this operating system runs on",
         platforms: EVERY,
         place: &[
@@ -235,7 +235,7 @@ static RULES: [Rule<'static>; 15] = [
     Rule {
         name: "config-combination",
         level: Level::Host,
-        section: "",
+        section: "common practice",
         wanted: "a processor that this operating system runs on",
         platforms: EVERY,
         place: &[
@@ -252,7 +252,7 @@ static RULES: [Rule<'static>; 15] = [
     Rule {
         name: "config-combination",
         level: Level::Host,
-        section: "",
+        section: "common practice",
         wanted: "a processor that this operating system runs on",
         platforms: EVERY,
         place: &[

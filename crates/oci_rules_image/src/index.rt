@@ -214,7 +214,7 @@ static RULES: [Rule<'static>; 16] = [
     Rule {
         name: "index-not-manifest",
         level: Level::Host,
-        section: "",
+        section: "common practice",
         wanted: "no member of another kind of manifest",
         platforms: EVERY,
         place: &[],
@@ -223,7 +223,7 @@ static RULES: [Rule<'static>; 16] = [
     Rule {
         name: "index-not-manifest",
         level: Level::Host,
-        section: "",
+        section: "common practice",
         wanted: "no member of another kind of manifest",
         platforms: EVERY,
         place: &[],

@@ -11,7 +11,7 @@ static RULES: [Rule<'static>; 15] = [
     Rule {
         name: "platform-combination",
         level: Level::Host,
-        section: "",
+        section: "common practice",
         wanted: "a processor that this operating system runs on",
         platforms: EVERY,
         place: &[
@@ -31,7 +31,7 @@ static RULES: [Rule<'static>; 15] = [
     Rule {
         name: "platform-combination",
         level: Level::Host,
-        section: "",
+        section: "common practice",
         wanted: "a processor that this operating system runs on",
         platforms: EVERY,
         place: &[
@@ -51,7 +51,7 @@ static RULES: [Rule<'static>; 15] = [
     Rule {
         name: "platform-combination",
         level: Level::Host,
-        section: "",
+        section: "common practice",
         wanted: "a processor that this operating system runs on",
         platforms: EVERY,
         place: &[
@@ -71,7 +71,7 @@ static RULES: [Rule<'static>; 15] = [
     Rule {
         name: "platform-combination",
         level: Level::Host,
-        section: "",
+        section: "common practice",
         wanted: "a processor that this operating system runs on",
         platforms: EVERY,
         place: &[
@@ -91,7 +91,7 @@ static RULES: [Rule<'static>; 15] = [
     Rule {
         name: "platform-combination",
         level: Level::Host,
-        section: "",
+        section: "common practice",
         wanted: "a processor that this operating system runs on",
         platforms: EVERY,
         place: &[
@@ -111,7 +111,7 @@ static RULES: [Rule<'static>; 15] = [
     Rule {
         name: "platform-combination",
         level: Level::Host,
-        section: "",
+        section: "common practice",
         wanted: "a processor that this operating system runs on",
         platforms: EVERY,
         place: &[
@@ -131,7 +131,7 @@ static RULES: [Rule<'static>; 15] = [
     Rule {
         name: "platform-combination",
         level: Level::Host,
-        section: "",
+        section: "common practice",
         wanted: "a processor that this operating system runs on",
         platforms: EVERY,
         place: &[
@@ -151,7 +151,7 @@ static RULES: [Rule<'static>; 15] = [
     Rule {
         name: "platform-combination",
         level: Level::Host,
-        section: "",
+        section: "common practice",
         wanted: "a processor that this operating system runs on",
         platforms: EVERY,
         place: &[
@@ -171,7 +171,7 @@ static RULES: [Rule<'static>; 15] = [
     Rule {
         name: "platform-combination",
         level: Level::Host,
-        section: "",
+        section: "common practice",
         wanted: "a processor that this operating system runs on",
         platforms: EVERY,
         place: &[
@@ -194,7 +194,7 @@ static RULES: [Rule<'static>; 15] = [
     Rule {
         name: "platform-combination",
         level: Level::Host,
-        section: "",
+        section: "common practice",
         wanted: "a processor that this operating system runs on",
         platforms: EVERY,
         place: &[
@@ -214,7 +214,7 @@ static RULES: [Rule<'static>; 15] = [
     Rule {
         name: "platform-combination",
         level: Level::Host,
-        section: "",
+        section: "common practice",
         wanted: "a processor that this operating system runs on",
         platforms: EVERY,
         place: &[
@@ -234,7 +234,7 @@ static RULES: [Rule<'static>; 15] = [
     Rule {
         name: "platform-combination",
         level: Level::Host,
-        section: "",
+        section: "common practice",
         wanted: "a processor that this operating system runs on",
         platforms: EVERY,
         place: &[
@@ -254,7 +254,7 @@ static RULES: [Rule<'static>; 15] = [
     Rule {
         name: "platform-combination",
         level: Level::Host,
-        section: "",
+        section: "common practice",
         wanted: "a processor that this operating system runs on",
         platforms: EVERY,
         place: &[
@@ -274,7 +274,7 @@ static RULES: [Rule<'static>; 15] = [
     Rule {
         name: "platform-combination",
         level: Level::Host,
-        section: "",
+        section: "common practice",
         wanted: "a processor that this operating system runs on",
         platforms: EVERY,
         place: &[
@@ -294,7 +294,7 @@ static RULES: [Rule<'static>; 15] = [
     Rule {
         name: "platform-combination",
         level: Level::Host,
-        section: "",
+        section: "common practice",
         wanted: "a processor that this operating system runs on",
         platforms: EVERY,
         place: &[

@@ -168,7 +168,7 @@ static RULES: [Rule<'static>; 14] = [
     Rule {
         name: "manifest-not-index",
         level: Level::Host,
-        section: "",
+        section: "common practice",
         wanted: "no member of another kind of manifest",
         platforms: EVERY,
         place: &[],
@@ -177,7 +177,7 @@ static RULES: [Rule<'static>; 14] = [
     Rule {
         name: "manifest-not-index",
         level: Level::Host,
-        section: "",
+        section: "common practice",
         wanted: "no member of another kind of manifest",
         platforms: EVERY,
         place: &[],

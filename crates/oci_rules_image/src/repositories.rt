@@ -21,7 +21,7 @@ static RULES: [Rule<'static>; 2] = [
     Rule {
         name: "repositories-once",
         level: Level::Host,
-        section: "",
+        section: "common practice",
         wanted: "each repository once",
         platforms: EVERY,
         place: &[Step::Member("repositories")],

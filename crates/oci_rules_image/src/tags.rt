@@ -30,7 +30,7 @@ static RULES: [Rule<'static>; 3] = [
     Rule {
         name: "tags-once",
         level: Level::Host,
-        section: "",
+        section: "common practice",
         wanted: "each tag once",
         platforms: EVERY,
         place: &[Step::Member("tags")],

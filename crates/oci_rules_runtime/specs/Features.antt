@@ -18,15 +18,15 @@ features_rules =
     record { name = codes "features-operators-known"; level = host; section = codes "runtime features-linux.md#seccomp"; platforms = every; place = under (codes "linux") (under (codes "seccomp") (under (codes "operators") (each_item here))); test = one_of seccomp_operators } ∷
     record { name = codes "features-operators-known"; level = host; section = codes "runtime features-linux.md#seccomp"; platforms = every; place = under (codes "linux") (under (codes "seccomp") (under (codes "knownFlags") (each_item here))); test = one_of seccomp_flags } ∷
     record { name = codes "features-operators-known"; level = host; section = codes "runtime features-linux.md#seccomp"; platforms = every; place = under (codes "linux") (under (codes "seccomp") (under (codes "supportedFlags") (each_item here))); test = one_of seccomp_flags } ∷
-    record { name = codes "features-once"; level = host; section = codes ""; platforms = every; place = under (codes "hooks") here; test = distinct itself } ∷
-    record { name = codes "features-once"; level = host; section = codes ""; platforms = every; place = under (codes "mountOptions") here; test = distinct itself } ∷
-    record { name = codes "features-once"; level = host; section = codes ""; platforms = every; place = under (codes "linux") (under (codes "namespaces") here); test = distinct itself } ∷
-    record { name = codes "features-once"; level = host; section = codes ""; platforms = every; place = under (codes "linux") (under (codes "capabilities") here); test = distinct itself } ∷
-    record { name = codes "features-once"; level = host; section = codes ""; platforms = every; place = under (codes "linux") (under (codes "seccomp") (under (codes "actions") here)); test = distinct itself } ∷
-    record { name = codes "features-once"; level = host; section = codes ""; platforms = every; place = under (codes "linux") (under (codes "seccomp") (under (codes "operators") here)); test = distinct itself } ∷
-    record { name = codes "features-once"; level = host; section = codes ""; platforms = every; place = under (codes "linux") (under (codes "seccomp") (under (codes "archs") here)); test = distinct itself } ∷
-    record { name = codes "features-once"; level = host; section = codes ""; platforms = every; place = under (codes "linux") (under (codes "seccomp") (under (codes "knownFlags") here)); test = distinct itself } ∷
-    record { name = codes "features-once"; level = host; section = codes ""; platforms = every; place = under (codes "linux") (under (codes "seccomp") (under (codes "supportedFlags") here)); test = distinct itself } ∷
+    record { name = codes "features-once"; level = host; section = codes "common practice"; platforms = every; place = under (codes "hooks") here; test = distinct itself } ∷
+    record { name = codes "features-once"; level = host; section = codes "common practice"; platforms = every; place = under (codes "mountOptions") here; test = distinct itself } ∷
+    record { name = codes "features-once"; level = host; section = codes "common practice"; platforms = every; place = under (codes "linux") (under (codes "namespaces") here); test = distinct itself } ∷
+    record { name = codes "features-once"; level = host; section = codes "common practice"; platforms = every; place = under (codes "linux") (under (codes "capabilities") here); test = distinct itself } ∷
+    record { name = codes "features-once"; level = host; section = codes "common practice"; platforms = every; place = under (codes "linux") (under (codes "seccomp") (under (codes "actions") here)); test = distinct itself } ∷
+    record { name = codes "features-once"; level = host; section = codes "common practice"; platforms = every; place = under (codes "linux") (under (codes "seccomp") (under (codes "operators") here)); test = distinct itself } ∷
+    record { name = codes "features-once"; level = host; section = codes "common practice"; platforms = every; place = under (codes "linux") (under (codes "seccomp") (under (codes "archs") here)); test = distinct itself } ∷
+    record { name = codes "features-once"; level = host; section = codes "common practice"; platforms = every; place = under (codes "linux") (under (codes "seccomp") (under (codes "knownFlags") here)); test = distinct itself } ∷
+    record { name = codes "features-once"; level = host; section = codes "common practice"; platforms = every; place = under (codes "linux") (under (codes "seccomp") (under (codes "supportedFlags") here)); test = distinct itself } ∷
     [])
     ++
     map (beneath (λ p. under (codes "annotations") p)) features_annotations_rules

@@ -15,14 +15,14 @@ process_rules =
     record { name = codes "process-command-line"; level = must; section = codes "runtime config.md#process"; platforms = windows ∷ []; place = under (codes "process") here; test = either (codes "args" ∷ codes "commandLine" ∷ []) } ∷
     record { name = codes "process-env"; level = stated; section = codes "runtime config.md#process"; platforms = every; place = under (codes "process") (under (codes "env") (each_item here)); test = text EnvironmentEntry } ∷
     record { name = codes "process-env-name"; level = host; section = codes "XBD 8.1"; platforms = every; place = under (codes "process") (under (codes "env") (each_item here)); test = text PortableEntry } ∷
-    record { name = codes "process-env-once"; level = host; section = codes ""; platforms = every; place = under (codes "process") (under (codes "env") here); test = distinct entry_name } ∷
+    record { name = codes "process-env-once"; level = host; section = codes "common practice"; platforms = every; place = under (codes "process") (under (codes "env") here); test = distinct entry_name } ∷
     record { name = codes "console-size-there"; level = must; section = codes "runtime config.md#process"; platforms = every; place = under (codes "process") (under (codes "consoleSize") here); test = there (codes "height") } ∷
     record { name = codes "console-size-there"; level = must; section = codes "runtime config.md#process"; platforms = every; place = under (codes "process") (under (codes "consoleSize") here); test = there (codes "width") } ∷
     record { name = codes "console-size-terminal"; level = host; section = codes "runtime config.md#process"; platforms = every; place = under (codes "process") (if_so (asks the_part (codes "terminal" ∷ []) false (is_truth true)) here); test = absent (codes "consoleSize") } ∷
     record { name = codes "user-ids-there"; level = must; section = codes "runtime config.md#user"; platforms = posix; place = under (codes "process") (under (codes "user") here); test = there (codes "uid") } ∷
     record { name = codes "user-ids-there"; level = must; section = codes "runtime config.md#user"; platforms = posix; place = under (codes "process") (under (codes "user") here); test = there (codes "gid") } ∷
     record { name = codes "user-umask"; level = host; section = codes "umask(2)"; platforms = every; place = under (codes "process") (under (codes "user") (under (codes "umask") here)); test = within (pos 0) (pos 511) } ∷
-    record { name = codes "user-gids-once"; level = host; section = codes ""; platforms = every; place = under (codes "process") (under (codes "user") (under (codes "additionalGids") here)); test = distinct itself } ∷
+    record { name = codes "user-gids-once"; level = host; section = codes "common practice"; platforms = every; place = under (codes "process") (under (codes "user") (under (codes "additionalGids") here)); test = distinct itself } ∷
     record { name = codes "user-name-windows"; level = stated; section = codes "runtime config.md#user"; platforms = posix; place = under (codes "process") (under (codes "user") here); test = absent (codes "username") } ∷
     record { name = codes "rlimit-limits-there"; level = must; section = codes "runtime config.md#posix-process"; platforms = every; place = under (codes "process") (under (codes "rlimits") (each_item here)); test = there (codes "soft") } ∷
     record { name = codes "rlimit-limits-there"; level = must; section = codes "runtime config.md#posix-process"; platforms = every; place = under (codes "process") (under (codes "rlimits") (each_item here)); test = there (codes "hard") } ∷
@@ -50,11 +50,11 @@ process_capabilities_rules =
     record { name = codes "capability-spelling"; level = stated; section = codes "runtime config.md#linux-process"; platforms = every; place = under (codes "process") (under (codes "capabilities") (under (codes "inheritable") (each_item here))); test = one_of capabilities } ∷
     record { name = codes "capability-spelling"; level = stated; section = codes "runtime config.md#linux-process"; platforms = every; place = under (codes "process") (under (codes "capabilities") (under (codes "permitted") (each_item here))); test = one_of capabilities } ∷
     record { name = codes "capability-spelling"; level = stated; section = codes "runtime config.md#linux-process"; platforms = every; place = under (codes "process") (under (codes "capabilities") (under (codes "ambient") (each_item here))); test = one_of capabilities } ∷
-    record { name = codes "capability-once"; level = host; section = codes ""; platforms = every; place = under (codes "process") (under (codes "capabilities") (under (codes "bounding") here)); test = distinct itself } ∷
-    record { name = codes "capability-once"; level = host; section = codes ""; platforms = every; place = under (codes "process") (under (codes "capabilities") (under (codes "effective") here)); test = distinct itself } ∷
-    record { name = codes "capability-once"; level = host; section = codes ""; platforms = every; place = under (codes "process") (under (codes "capabilities") (under (codes "inheritable") here)); test = distinct itself } ∷
-    record { name = codes "capability-once"; level = host; section = codes ""; platforms = every; place = under (codes "process") (under (codes "capabilities") (under (codes "permitted") here)); test = distinct itself } ∷
-    record { name = codes "capability-once"; level = host; section = codes ""; platforms = every; place = under (codes "process") (under (codes "capabilities") (under (codes "ambient") here)); test = distinct itself } ∷
+    record { name = codes "capability-once"; level = host; section = codes "common practice"; platforms = every; place = under (codes "process") (under (codes "capabilities") (under (codes "bounding") here)); test = distinct itself } ∷
+    record { name = codes "capability-once"; level = host; section = codes "common practice"; platforms = every; place = under (codes "process") (under (codes "capabilities") (under (codes "effective") here)); test = distinct itself } ∷
+    record { name = codes "capability-once"; level = host; section = codes "common practice"; platforms = every; place = under (codes "process") (under (codes "capabilities") (under (codes "inheritable") here)); test = distinct itself } ∷
+    record { name = codes "capability-once"; level = host; section = codes "common practice"; platforms = every; place = under (codes "process") (under (codes "capabilities") (under (codes "permitted") here)); test = distinct itself } ∷
+    record { name = codes "capability-once"; level = host; section = codes "common practice"; platforms = every; place = under (codes "process") (under (codes "capabilities") (under (codes "ambient") here)); test = distinct itself } ∷
     record { name = codes "scheduler-nice-range"; level = host; section = codes "sched(7)"; platforms = every; place = under (codes "process") (under (codes "scheduler") (under (codes "nice") here)); test = within (negsuc 19) (pos 19) } ∷
     record { name = codes "scheduler-nice-policy"; level = host; section = codes "sched(7)"; platforms = every; place = under (codes "process") (under (codes "scheduler") (if_so (asks the_part (codes "policy" ∷ []) false (is_text (codes "SCHED_OTHER" ∷ codes "SCHED_BATCH" ∷ []))) (under (codes "nice") here))); test = within (pos 0) (pos 0) } ∷
     record { name = codes "scheduler-priority-policy"; level = stated; section = codes "runtime config.md#linux-process"; platforms = every; place = under (codes "process") (under (codes "scheduler") (if_so (asks the_part (codes "policy" ∷ []) false (is_text (codes "SCHED_FIFO" ∷ codes "SCHED_RR" ∷ []))) (under (codes "priority") here))); test = within (pos 0) (pos 0) } ∷

@@ -53,9 +53,9 @@ spec_mounts_rules =
     record { name = codes "mount-tmpcopyup"; level = stated; section = codes "runtime config.md#linux-mount-options"; platforms = every; place = under (codes "mounts") (each_item (if_so (asks the_part (codes "options" ∷ []) true (has_text (codes "tmpcopyup" ∷ []))) here)); test = there (codes "type") } ∷
     record { name = codes "mount-tmpcopyup"; level = stated; section = codes "runtime config.md#linux-mount-options"; platforms = every; place = under (codes "mounts") (each_item (if_so (asks the_part (codes "options" ∷ []) true (has_text (codes "tmpcopyup" ∷ []))) (under (codes "type") here))); test = one_of (codes "tmpfs" ∷ []) } ∷
     record { name = codes "mount-type-there"; level = host; section = codes "mount(2)"; platforms = linux ∷ []; place = under (codes "mounts") (each_item (if_so (asks the_part (codes "options" ∷ []) false (has_text (codes "bind" ∷ codes "rbind" ∷ []))) here)); test = there (codes "type") } ∷
-    record { name = codes "mount-texts-no-nul"; level = host; section = codes ""; platforms = every; place = under (codes "mounts") (each_item (under (codes "destination") here)); test = text NoNul } ∷
-    record { name = codes "mount-texts-no-nul"; level = host; section = codes ""; platforms = every; place = under (codes "mounts") (each_item (under (codes "source") here)); test = text NoNul } ∷
-    record { name = codes "mount-texts-no-nul"; level = host; section = codes ""; platforms = every; place = under (codes "mounts") (each_item (under (codes "type") here)); test = text NoNul } ∷
+    record { name = codes "mount-texts-no-nul"; level = host; section = codes "common practice"; platforms = every; place = under (codes "mounts") (each_item (under (codes "destination") here)); test = text NoNul } ∷
+    record { name = codes "mount-texts-no-nul"; level = host; section = codes "common practice"; platforms = every; place = under (codes "mounts") (each_item (under (codes "source") here)); test = text NoNul } ∷
+    record { name = codes "mount-texts-no-nul"; level = host; section = codes "common practice"; platforms = every; place = under (codes "mounts") (each_item (under (codes "type") here)); test = text NoNul } ∷
     record { name = codes "mount-options-agree"; level = host; section = codes "mount(8)"; platforms = every; place = under (codes "mounts") (each_item (under (codes "options") (if_so (asks the_part [] true (has_text (codes "ro" ∷ []))) (each_item here)))); test = none_of (codes "rw" ∷ []) } ∷
     record { name = codes "mount-options-agree"; level = host; section = codes "mount(8)"; platforms = every; place = under (codes "mounts") (each_item (under (codes "options") (if_so (asks the_part [] true (has_text (codes "suid" ∷ []))) (each_item here)))); test = none_of (codes "nosuid" ∷ []) } ∷
     record { name = codes "mount-options-agree"; level = host; section = codes "mount(8)"; platforms = every; place = under (codes "mounts") (each_item (under (codes "options") (if_so (asks the_part [] true (has_text (codes "dev" ∷ []))) (each_item here)))); test = none_of (codes "nodev" ∷ []) } ∷

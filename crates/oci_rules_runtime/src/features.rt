@@ -112,7 +112,7 @@ static RULES: [Rule<'static>; 20] = [
     Rule {
         name: "features-once",
         level: Level::Host,
-        section: "",
+        section: "common practice",
         wanted: "each name once",
         platforms: EVERY,
         place: &[Step::Member("hooks")],
@@ -121,7 +121,7 @@ static RULES: [Rule<'static>; 20] = [
     Rule {
         name: "features-once",
         level: Level::Host,
-        section: "",
+        section: "common practice",
         wanted: "each name once",
         platforms: EVERY,
         place: &[Step::Member("mountOptions")],
@@ -130,7 +130,7 @@ static RULES: [Rule<'static>; 20] = [
     Rule {
         name: "features-once",
         level: Level::Host,
-        section: "",
+        section: "common practice",
         wanted: "each name once",
         platforms: EVERY,
         place: &[Step::Member("linux"), Step::Member("namespaces")],
@@ -139,7 +139,7 @@ static RULES: [Rule<'static>; 20] = [
     Rule {
         name: "features-once",
         level: Level::Host,
-        section: "",
+        section: "common practice",
         wanted: "each name once",
         platforms: EVERY,
         place: &[Step::Member("linux"), Step::Member("capabilities")],
@@ -148,7 +148,7 @@ static RULES: [Rule<'static>; 20] = [
     Rule {
         name: "features-once",
         level: Level::Host,
-        section: "",
+        section: "common practice",
         wanted: "each name once",
         platforms: EVERY,
         place: &[
@@ -161,7 +161,7 @@ static RULES: [Rule<'static>; 20] = [
     Rule {
         name: "features-once",
         level: Level::Host,
-        section: "",
+        section: "common practice",
         wanted: "each name once",
         platforms: EVERY,
         place: &[
@@ -174,7 +174,7 @@ static RULES: [Rule<'static>; 20] = [
     Rule {
         name: "features-once",
         level: Level::Host,
-        section: "",
+        section: "common practice",
         wanted: "each name once",
         platforms: EVERY,
         place: &[
@@ -187,7 +187,7 @@ static RULES: [Rule<'static>; 20] = [
     Rule {
         name: "features-once",
         level: Level::Host,
-        section: "",
+        section: "common practice",
         wanted: "each name once",
         platforms: EVERY,
         place: &[
@@ -200,7 +200,7 @@ static RULES: [Rule<'static>; 20] = [
     Rule {
         name: "features-once",
         level: Level::Host,
-        section: "",
+        section: "common practice",
         wanted: "each name once",
         platforms: EVERY,
         place: &[

@@ -249,7 +249,7 @@ static RULES: [Rule<'static>; 30] = [
     Rule {
         name: "device-path-once",
         level: Level::Host,
-        section: "",
+        section: "common practice",
         wanted: "each path once",
         platforms: EVERY,
         place: &[Step::Member("linux"), Step::Member("devices")],
@@ -316,7 +316,7 @@ static RULES: [Rule<'static>; 30] = [
     Rule {
         name: "paths-need-mount",
         level: Level::Host,
-        section: "",
+        section: "common practice",
         wanted: "no such paths without a mount namespace of its own",
         platforms: EVERY,
         place: &[
@@ -333,7 +333,7 @@ static RULES: [Rule<'static>; 30] = [
     Rule {
         name: "paths-need-mount",
         level: Level::Host,
-        section: "",
+        section: "common practice",
         wanted: "no such paths without a mount namespace of its own",
         platforms: EVERY,
         place: &[
@@ -415,7 +415,7 @@ static RULES: [Rule<'static>; 30] = [
     Rule {
         name: "rdt-clos-id",
         level: Level::Host,
-        section: "",
+        section: "common practice",
         wanted: "the name of one directory",
         platforms: EVERY,
         place: &[

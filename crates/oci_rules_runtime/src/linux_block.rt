@@ -296,7 +296,7 @@ static RULES: [Rule<'static>; 24] = [
     Rule {
         name: "block-device-once",
         level: Level::Host,
-        section: "",
+        section: "common practice",
         wanted: "each device once",
         platforms: EVERY,
         place: &[
@@ -310,7 +310,7 @@ static RULES: [Rule<'static>; 24] = [
     Rule {
         name: "block-device-once",
         level: Level::Host,
-        section: "",
+        section: "common practice",
         wanted: "each device once",
         platforms: EVERY,
         place: &[
@@ -324,7 +324,7 @@ static RULES: [Rule<'static>; 24] = [
     Rule {
         name: "block-device-once",
         level: Level::Host,
-        section: "",
+        section: "common practice",
         wanted: "each device once",
         platforms: EVERY,
         place: &[
@@ -338,7 +338,7 @@ static RULES: [Rule<'static>; 24] = [
     Rule {
         name: "block-device-once",
         level: Level::Host,
-        section: "",
+        section: "common practice",
         wanted: "each device once",
         platforms: EVERY,
         place: &[
@@ -352,7 +352,7 @@ static RULES: [Rule<'static>; 24] = [
     Rule {
         name: "block-device-once",
         level: Level::Host,
-        section: "",
+        section: "common practice",
         wanted: "each device once",
         platforms: EVERY,
         place: &[

@@ -204,7 +204,7 @@ static RULES: [Rule<'static>; 30] = [
     Rule {
         name: "memory-swap-needs-limit",
         level: Level::Host,
-        section: "",
+        section: "common practice",
         wanted: "a limit of memory, where one of swap stands",
         platforms: EVERY,
         place: &[
@@ -354,7 +354,7 @@ static RULES: [Rule<'static>; 30] = [
     Rule {
         name: "hugepage-once",
         level: Level::Host,
-        section: "",
+        section: "common practice",
         wanted: "each size of pages once",
         platforms: EVERY,
         place: &[
@@ -397,7 +397,7 @@ static RULES: [Rule<'static>; 30] = [
     Rule {
         name: "network-priority-once",
         level: Level::Host,
-        section: "",
+        section: "common practice",
         wanted: "each interface once",
         platforms: EVERY,
         place: &[

@@ -95,7 +95,7 @@ static RULES: [Rule<'static>; 18] = [
     Rule {
         name: "seccomp-name-some",
         level: Level::Host,
-        section: "",
+        section: "common practice",
         wanted: "a name that is not empty",
         platforms: EVERY,
         place: &[
@@ -165,7 +165,7 @@ static RULES: [Rule<'static>; 18] = [
     Rule {
         name: "seccomp-listener-absolute",
         level: Level::Host,
-        section: "",
+        section: "common practice",
         wanted: "an absolute path",
         platforms: EVERY,
         place: &[
@@ -178,7 +178,7 @@ static RULES: [Rule<'static>; 18] = [
     Rule {
         name: "seccomp-notify-default",
         level: Level::Host,
-        section: "",
+        section: "common practice",
         wanted: "another default action than SCMP_ACT_NOTIFY",
         platforms: EVERY,
         place: &[
@@ -191,7 +191,7 @@ static RULES: [Rule<'static>; 18] = [
     Rule {
         name: "seccomp-notify-write",
         level: Level::Host,
-        section: "",
+        section: "common practice",
         wanted: "another call than write, for SCMP_ACT_NOTIFY",
         platforms: EVERY,
         place: &[
@@ -298,7 +298,7 @@ static RULES: [Rule<'static>; 18] = [
     Rule {
         name: "seccomp-architecture-once",
         level: Level::Host,
-        section: "",
+        section: "common practice",
         wanted: "each once",
         platforms: EVERY,
         place: &[
@@ -311,7 +311,7 @@ static RULES: [Rule<'static>; 18] = [
     Rule {
         name: "seccomp-architecture-once",
         level: Level::Host,
-        section: "",
+        section: "common practice",
         wanted: "each once",
         platforms: EVERY,
         place: &[

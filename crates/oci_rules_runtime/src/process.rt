@@ -75,7 +75,7 @@ static RULES: [Rule<'static>; 27] = [
     Rule {
         name: "process-env-once",
         level: Level::Host,
-        section: "",
+        section: "common practice",
         wanted: "each variable once",
         platforms: EVERY,
         place: &[Step::Member("process"), Step::Member("env")],
@@ -150,7 +150,7 @@ static RULES: [Rule<'static>; 27] = [
     Rule {
         name: "user-gids-once",
         level: Level::Host,
-        section: "",
+        section: "common practice",
         wanted: "each group once",
         platforms: EVERY,
         place: &[

@@ -126,7 +126,7 @@ static RULES: [Rule<'static>; 24] = [
     Rule {
         name: "capability-once",
         level: Level::Host,
-        section: "",
+        section: "common practice",
         wanted: "each capability once",
         platforms: EVERY,
         place: &[
@@ -139,7 +139,7 @@ static RULES: [Rule<'static>; 24] = [
     Rule {
         name: "capability-once",
         level: Level::Host,
-        section: "",
+        section: "common practice",
         wanted: "each capability once",
         platforms: EVERY,
         place: &[
@@ -152,7 +152,7 @@ static RULES: [Rule<'static>; 24] = [
     Rule {
         name: "capability-once",
         level: Level::Host,
-        section: "",
+        section: "common practice",
         wanted: "each capability once",
         platforms: EVERY,
         place: &[
@@ -165,7 +165,7 @@ static RULES: [Rule<'static>; 24] = [
     Rule {
         name: "capability-once",
         level: Level::Host,
-        section: "",
+        section: "common practice",
         wanted: "each capability once",
         platforms: EVERY,
         place: &[
@@ -178,7 +178,7 @@ static RULES: [Rule<'static>; 24] = [
     Rule {
         name: "capability-once",
         level: Level::Host,
-        section: "",
+        section: "common practice",
         wanted: "each capability once",
         platforms: EVERY,
         place: &[

@@ -48,7 +48,7 @@ static RULES: [Rule<'static>; 23] = [
     Rule {
         name: "process-state-fds-once",
         level: Level::Host,
-        section: "",
+        section: "common practice",
         wanted: "each name once",
         platforms: EVERY,
         place: &[Step::Member("fds")],

@@ -221,7 +221,7 @@ static RULES: [Rule<'static>; 25] = [
     Rule {
         name: "mount-texts-no-nul",
         level: Level::Host,
-        section: "",
+        section: "common practice",
         wanted: "a string without NUL",
         platforms: EVERY,
         place: &[
@@ -234,7 +234,7 @@ static RULES: [Rule<'static>; 25] = [
     Rule {
         name: "mount-texts-no-nul",
         level: Level::Host,
-        section: "",
+        section: "common practice",
         wanted: "a string without NUL",
         platforms: EVERY,
         place: &[
@@ -247,7 +247,7 @@ static RULES: [Rule<'static>; 25] = [
     Rule {
         name: "mount-texts-no-nul",
         level: Level::Host,
-        section: "",
+        section: "common practice",
         wanted: "a string without NUL",
         platforms: EVERY,
         place: &[Step::Member("mounts"), Step::EachItem, Step::Member("type")],

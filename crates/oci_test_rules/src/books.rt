@@ -2,7 +2,7 @@
 use anyhow::{Context, Result, bail};
 use oci_doc_run::Kind;
 use oci_rule_books::rules_of;
-use oci_rules::{Broken, Platform, broken};
+use oci_rules::{Broken, Platform, broken, platform_of_document};
 use serde_json::Value;
 use std::alloc::Global;
 
@@ -32,26 +32,7 @@ pub fn platform_of(word: &str, value: &Value) -> Result<Platform> {
         "vm" => Platform::Vm,
         "zos" => Platform::Zos,
         "freebsd" => Platform::FreeBsd,
-        "-" => of_document(value),
+        "-" => platform_of_document(value),
         _ => bail!("no platform"),
     })
-}
-
-fn of_document(value: &Value) -> Platform {
-    if has(value, "windows") {
-        Platform::Windows
-    } else if has(value, "zos") {
-        Platform::Zos
-    } else if has(value, "solaris") {
-        Platform::Solaris
-    } else {
-        Platform::Linux
-    }
-}
-
-fn has(value: &Value, name: &str) -> bool {
-    match value.get(name) {
-        Some(part) => !part.is_null(),
-        None => false,
-    }
 }

@@ -1,7 +1,6 @@
 //! What breaks rules in the documents of standard input.
 use crate::books::{broken_of, platform_of};
 use anyhow::{Context, Result};
-use oci_rules::Level;
 use serde_json::Value;
 use std::io::Read;
 
@@ -23,16 +22,7 @@ pub fn list(rt: &HostRuntime) -> Result<()> {
 
 fn list_of(rt: &HostRuntime, kind: &str, platform: &str, value: &Value) -> Result<()> {
     for it in &broken_of(kind, platform_of(platform, value)?, value, rt.alloc())? {
-        let pointer = it.pointer.as_str();
-        let name = it.rule.name;
-        let section = it.rule.section;
-        let level = match it.rule.level {
-            Level::Must => "must",
-            Level::Stated => "stated",
-            Level::Should => "should",
-            Level::Host => "host",
-        };
-        println!(rt; "{pointer}: {name} ({level}, {section})")?;
+        println!(rt; "{it}")?;
     }
     Ok(())
 }

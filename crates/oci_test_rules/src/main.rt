@@ -5,7 +5,7 @@
 //! with `#` is a remark. `tools/gen_rules` writes them from `tools/rules/rows`.
 //!
 //! With an argument, `list`, it reads `KIND PLATFORM DOCUMENT` from each line of standard input, and writes a line for each part that
-//! breaks a rule, `POINTER: RULE (LEVEL, SECTION)`, and an empty line behind each document; `tools/peers_rules` asks it so. Before any
+//! breaks a rule, `POINTER: RULE (LEVEL, SECTION): WANTED`, and an empty line behind each document; `tools/peers_rules` asks it so. Before any
 //! proof: `rt try $(for it in data/*; do echo --data "${it#data/}=$it"; done)`.
 #![tactic(auto)]
 
