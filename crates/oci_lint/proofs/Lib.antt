@@ -1,0 +1,5 @@
+pub mod Own
+pub mod Repeats
+pub mod Sets
+pub mod Sizes
+pub mod Unlisted

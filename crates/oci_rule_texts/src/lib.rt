@@ -1,0 +1,21 @@
+//! The grammars of texts that the rules of the specifications ask for, and what decides them.
+#![tactic(auto)]
+
+mod base64_text;
+mod classes;
+mod controls;
+mod cuts;
+mod date_time;
+mod entries;
+mod grammar;
+mod licenses;
+mod media_type;
+mod names;
+mod numbers;
+mod parts;
+mod paths;
+mod settings;
+mod uris;
+mod versions;
+
+pub use grammar::Grammar;

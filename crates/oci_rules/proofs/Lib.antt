@@ -1,0 +1,12 @@
+pub mod Breaking
+pub mod Cuts
+pub mod Deciding
+pub mod Documents
+pub mod Extents
+pub mod Found
+pub mod Grammars
+pub mod Others
+pub mod Sets
+pub mod Steps
+pub mod Telling
+pub mod Twins

@@ -1,0 +1,9 @@
+pub mod Breaks
+pub mod Decided
+pub mod Documents
+pub mod Listed
+pub mod Parts
+pub mod Platforms
+pub mod Rules
+pub mod Tables
+pub mod Tests

@@ -1,0 +1,211 @@
+//! What breaks rules in a value.
+ghost use Rattle.std.specs.Prelude.{◌≡◌, ◌↔◌, ◌++◌, [], map, IfOk, OnOk};
+ghost use Rattle.std.specs.List.{Contains};
+ghost use Rattle.serde_json.specs.View.{view, items_view, members_view};
+ghost use Rattle.oci_rules.specs.Breaks.{Told, Breaks, KeepsAll};
+ghost use Rattle.oci_rules.specs.Platforms.{is_for as is_among, is_platform};
+ghost use Rattle.oci_rules.specs.Listed.{all_broken, when, told_of, of_each, of_each_member, of_each_name, told_at, told_by};
+ghost use Rattle.oci_rules.specs.Tables.{told, rule_of, test_of, place_of, platform_of};
+
+use crate::conditions::holds;
+use crate::items::{add_items_broken, push};
+use crate::parts::present;
+use crate::passes::{passes, pointer_of};
+use crate::rule::{Broken, Platform, Rule, Step};
+use oci_schema_walks::place::{under_index, under_name};
+use serde_json::{Map, Value};
+use std::alloc::{AllocError, Global};
+
+/// What breaks the rules for the platform in the value, rule by rule and part by part.
+pub fn broken<'a>(
+    rules: &'a [Rule<'a>],
+    platform: Platform,
+    value: &Value,
+    alloc: Global,
+) -> Result<Vec<Broken<'a>>, AllocError>
+    ensures all { IfOk result (λ v. map told v.items ≡ all_broken (map rule_of rules.now) (platform_of platform) (view value.now)) }
+    ensures listed { IfOk result (λ v. (x : Told) → Contains (map told v.items) x ↔ Breaks (map rule_of rules.now) (platform_of platform) (view value.now) x) }
+    ensures none { IfOk result (λ v. (v.items ≡ []) ↔ KeepsAll (map rule_of rules.now) (platform_of platform) (view value.now)) }
+{
+    let mut found = Vec::new(alloc);
+    add_rules(rules, platform, value, &mut found, alloc)?;
+    Ok(found)
+}
+
+fn add_rules<'a>(
+    rules: &'a [Rule<'a>],
+    platform: Platform,
+    value: &Value,
+    found: &mut Vec<Broken<'a>>,
+    alloc: Global,
+) -> Result<(), AllocError>
+    ensures { OnOk result (map told found.new.items ≡ map told found.old.items ++ all_broken (map rule_of rules.now) (platform_of platform) (view value.now)) }
+{
+    for rule in rules {
+        add_rule(rule, platform, value, found, alloc)?;
+    }
+    Ok(())
+}
+
+fn add_rule<'a>(
+    rule: &'a Rule<'a>,
+    platform: Platform,
+    value: &Value,
+    found: &mut Vec<Broken<'a>>,
+    alloc: Global,
+) -> Result<(), AllocError>
+    ensures { OnOk result (map told found.new.items ≡ map told found.old.items ++ when (is_among (platform_of platform) (map platform_of rule.now.platforms.now)) (told_of (rule_of rule.now) (view value.now))) }
+{
+    if is_for(platform, rule.platforms) {
+        add_at(rule.place, rule, value, value, "", found, alloc)
+    } else {
+        Ok(())
+    }
+}
+
+/// Whether the platform is one of these.
+fn is_for(platform: Platform, platforms: &[Platform]) -> bool
+    ensures { result ≡ is_among (platform_of platform) (map platform_of platforms.now) }
+{
+    for other in platforms {
+        if is_same(platform, *other) {
+            return true;
+        }
+    }
+    false
+}
+
+fn is_same(platform: Platform, other: Platform) -> bool
+    ensures { result ≡ is_platform (platform_of platform) (platform_of other) }
+{
+    match (platform, other) {
+        (Platform::Linux, Platform::Linux)
+        | (Platform::Windows, Platform::Windows)
+        | (Platform::Solaris, Platform::Solaris)
+        | (Platform::Vm, Platform::Vm)
+        | (Platform::Zos, Platform::Zos)
+        | (Platform::FreeBsd, Platform::FreeBsd) => true,
+        _ => false,
+    }
+}
+
+/// Adds what the part breaks.
+fn add_part<'a>(
+    rule: &'a Rule<'a>,
+    part: &Value,
+    at: &str,
+    found: &mut Vec<Broken<'a>>,
+    alloc: Global,
+) -> Result<(), AllocError>
+    ensures { OnOk result (map told found.new.items ≡ map told found.old.items ++ told_by (test_of rule.now.test) (rule_of rule.now) at.now (view part.now)) }
+{
+    if !passes(&rule.test, part) {
+        let place = pointer_of(&rule.test, at, alloc)?;
+        push(rule, place.as_str(), found, alloc)?;
+    }
+    add_items_broken(rule, part, at, found, alloc)
+}
+
+/// Adds what breaks the rule in the parts of the document that the steps lead to from the value at this place.
+#[cycle(walk)]
+fn add_at<'a>(
+    steps: &'a [Step<'a>],
+    rule: &'a Rule<'a>,
+    document: &Value,
+    value: &Value,
+    at: &str,
+    found: &mut Vec<Broken<'a>>,
+    alloc: Global,
+) -> Result<(), AllocError>
+    ensures { OnOk result (map told found.new.items ≡ map told found.old.items ++ told_at (view document.now) (place_of steps.now) (told_by (test_of rule.now.test) (rule_of rule.now)) at.now (view value.now)) }
+{
+    let Some((step, rest)) = steps.split_first() else {
+        return add_part(rule, value, at, found, alloc);
+    };
+    match step {
+        Step::Member(name) => match present(value, name) {
+            Some(member) => {
+                let place = under_name(alloc, at, name)?;
+                add_at(rest, rule, document, member, place.as_str(), found, alloc)
+            }
+            None => Ok(()),
+        },
+        Step::EachItem => match value.as_array() {
+            Some(items) => add_items(rest, rule, document, items, at, found, alloc),
+            None => Ok(()),
+        },
+        Step::EachMember => match value.as_object() {
+            Some(members) => add_members(rest, rule, document, members, at, found, alloc),
+            None => Ok(()),
+        },
+        Step::EachName => match value.as_object() {
+            Some(members) => add_names(rest, rule, document, members, at, found, alloc),
+            None => Ok(()),
+        },
+        Step::When(condition) => {
+            if holds(document, condition, value) {
+                add_at(rest, rule, document, value, at, found, alloc)
+            } else {
+                Ok(())
+            }
+        }
+    }
+}
+
+#[cycle(walk)]
+fn add_items<'a>(
+    steps: &'a [Step<'a>],
+    rule: &'a Rule<'a>,
+    document: &Value,
+    items: &Vec<Value>,
+    at: &str,
+    found: &mut Vec<Broken<'a>>,
+    alloc: Global,
+) -> Result<(), AllocError>
+    ensures { OnOk result (map told found.new.items ≡ map told found.old.items ++ of_each (told_at (view document.now) (place_of steps.now) (told_by (test_of rule.now.test) (rule_of rule.now))) at.now 0 (items_view items.now.items)) }
+{
+    for (index, item) in items.iter().enumerate() {
+        let place = under_index(alloc, at, index)?;
+        add_at(steps, rule, document, item, place.as_str(), found, alloc)?;
+    }
+    Ok(())
+}
+
+#[cycle(walk)]
+fn add_members<'a>(
+    steps: &'a [Step<'a>],
+    rule: &'a Rule<'a>,
+    document: &Value,
+    members: &Map<String, Value>,
+    at: &str,
+    found: &mut Vec<Broken<'a>>,
+    alloc: Global,
+) -> Result<(), AllocError>
+    ensures { OnOk result (map told found.new.items ≡ map told found.old.items ++ of_each_member (told_at (view document.now) (place_of steps.now) (told_by (test_of rule.now.test) (rule_of rule.now))) at.now (members_view members.now.entries)) }
+{
+    for (name, member) in members.iter() {
+        let place = under_name(alloc, at, name.as_str())?;
+        add_at(steps, rule, document, member, place.as_str(), found, alloc)?;
+    }
+    Ok(())
+}
+
+#[cycle(walk)]
+fn add_names<'a>(
+    steps: &'a [Step<'a>],
+    rule: &'a Rule<'a>,
+    document: &Value,
+    members: &Map<String, Value>,
+    at: &str,
+    found: &mut Vec<Broken<'a>>,
+    alloc: Global,
+) -> Result<(), AllocError>
+    ensures { OnOk result (map told found.new.items ≡ map told found.old.items ++ of_each_name (told_at (view document.now) (place_of steps.now) (told_by (test_of rule.now.test) (rule_of rule.now))) at.now (members_view members.now.entries)) }
+{
+    for (name, _) in members.iter() {
+        let place = under_name(alloc, at, name.as_str())?;
+        let text = Value::String(String::from_str(alloc, name.as_str())?);
+        add_at(steps, rule, document, &text, place.as_str(), found, alloc)?;
+    }
+    Ok(())
+}

@@ -1,0 +1,16 @@
+//! Rules as values, and what breaks them in a JSON value.
+#![tactic(auto)]
+
+mod conditions;
+pub mod document;
+pub mod find;
+mod items;
+mod keys;
+mod parts;
+mod passes;
+pub mod rule;
+mod show;
+
+pub use document::{broken_in, platform_of_document};
+pub use find::broken;
+pub use rule::{Broken, Check, Condition, Key, Level, Origin, Platform, Rule, Step, Test};

@@ -1,0 +1,155 @@
+//! Whether a part passes a test, as far as its own items are not compared.
+ghost use Rattle.std.specs.Prelude.{◌≡◌, IfOk, string_bytes};
+ghost use Rattle.std.specs.List.{list_any};
+ghost use Rattle.serde_json.specs.View.{view, items_view};
+ghost use Rattle.oci_rule_texts.specs.Tests.{is_of};
+ghost use Rattle.oci_rules.specs.Decided.{has as does_have, is_passed, begins_with as does_begin, is_at_most, is_sum_at_most, some_item, has_text_under as does_have_text};
+ghost use Rattle.oci_rules.specs.Listed.{shown_at};
+ghost use Rattle.oci_rules.specs.Tables.{texts_of, test_of};
+
+use crate::conditions::{has_text, is_among, is_in};
+use crate::parts::{extent, has, natural_at, text_at, whole, whole_at};
+use crate::rule::Test;
+use oci_rule_texts::Grammar;
+use oci_schema_walks::place::under_name;
+use serde_json::Value;
+use std::alloc::{AllocError, Global};
+
+/// Whether the part passes the test; where a test compares items, nothing is asked here.
+pub fn passes(test: &Test, part: &Value) -> bool
+    ensures { result ≡ is_passed (test_of test.now) (view part.now) }
+{
+    match test {
+        Test::Text(grammar) => match part.as_str() {
+            Some(text) => accepts(*grammar, text),
+            None => true,
+        },
+        Test::OneOf(texts) => match part.as_str() {
+            Some(text) => is_among(texts, text),
+            None => true,
+        },
+        Test::NoneOf(texts) => match part.as_str() {
+            Some(text) => !is_among(texts, text),
+            None => true,
+        },
+        Test::Begins(front) => match part.as_str() {
+            Some(text) => begins_with(front, text),
+            None => true,
+        },
+        Test::Reserved(front, texts) => match part.as_str() {
+            Some(text) => !begins_with(front, text) || is_among(texts, text),
+            None => true,
+        },
+        Test::Within(low, high) => match whole(part) {
+            Some(number) => is_in(*low, *high, number),
+            None => true,
+        },
+        Test::Boolean(boolean) => match part.as_bool() {
+            Some(found) => *boolean == found,
+            None => true,
+        },
+        Test::There(name) => !part.is_object() || has(part, name),
+        Test::Absent(name) => !has(part, name),
+        Test::Either(names) => !part.is_object() || has_one(part, names),
+        Test::NotEmpty => match extent(part) {
+            Some(length) => length != 0,
+            None => true,
+        },
+        Test::LengthAtMost(most) => match extent(part) {
+            Some(length) => length <= *most,
+            None => true,
+        },
+        Test::AtMost(first, second) => is_no_more(whole_at(part, first), whole_at(part, second)),
+        Test::SumAtMost(first, second, most) => {
+            is_sum_no_more(natural_at(part, first), natural_at(part, second), *most)
+        }
+        Test::Lists(texts) => match part.as_array() {
+            Some(items) => has_text(texts, items),
+            None => true,
+        },
+        Test::ListsItem(name, text) => match part.as_array() {
+            Some(items) => has_text_under(name, text, items),
+            None => true,
+        },
+        Test::Distinct(_) | Test::Among(_, _) => true,
+    }
+}
+
+fn accepts(grammar: Grammar, text: &str) -> bool
+    ensures { result ≡ is_of grammar text.now }
+{
+    grammar.accepts(text)
+}
+
+fn begins_with(front: &str, text: &str) -> bool
+    ensures { result ≡ does_begin front.now text.now }
+{
+    text.as_bytes().starts_with(front.as_bytes())
+}
+
+/// Whether the value has one of the members.
+fn has_one(value: &Value, names: &[&str]) -> bool
+    ensures { result ≡ list_any (does_have (view value.now)) (texts_of names.now) }
+{
+    for name in names {
+        if has(value, name) {
+            return true;
+        }
+    }
+    false
+}
+
+fn is_no_more(first: Option<i128>, second: Option<i128>) -> bool
+    ensures { result ≡ is_at_most first second }
+{
+    match first {
+        Some(first) => match second {
+            Some(second) => first <= second,
+            None => true,
+        },
+        None => true,
+    }
+}
+
+fn is_sum_no_more(first: Option<u64>, second: Option<u64>, most: u64) -> bool
+    ensures { result ≡ is_sum_at_most most first second }
+{
+    match first {
+        Some(first) => match second {
+            Some(second) => first as u128 + second as u128 <= most as u128,
+            None => true,
+        },
+        None => true,
+    }
+}
+
+/// Whether one of the items has this string under the name.
+fn has_text_under(name: &str, text: &str, items: &Vec<Value>) -> bool
+    ensures { result ≡ some_item (does_have_text name.now text.now) (items_view items.now.items) }
+{
+    for item in items {
+        if is_text_at(name, text, item) {
+            return true;
+        }
+    }
+    false
+}
+
+fn is_text_at(name: &str, text: &str, item: &Value) -> bool
+    ensures { result ≡ does_have_text name.now text.now (view item.now) }
+{
+    match text_at(item, name) {
+        Some(found) => text == found,
+        None => false,
+    }
+}
+
+/// The pointer of what is shown of a part that does not pass.
+pub fn pointer_of(test: &Test, at: &str, alloc: Global) -> Result<String, AllocError>
+    ensures { IfOk result (λ s. string_bytes s ≡ shown_at (test_of test.now) at.now) }
+{
+    match test {
+        Test::There(name) | Test::Absent(name) | Test::AtMost(name, _) => under_name(alloc, at, name),
+        _ => String::from_str(alloc, at),
+    }
+}

@@ -1,0 +1,28 @@
+//! What breaks rules in the documents of standard input.
+use crate::books::{broken_of, platform_of};
+use anyhow::{Context, Result};
+use serde_json::Value;
+use std::io::Read;
+
+/// Lists what breaks rules in each line's document.
+pub fn list(rt: &HostRuntime) -> Result<()> {
+    let mut text = String::new(rt.alloc());
+    rt.stdin().read_to_string(&mut text)?;
+    for line in text.as_str().lines() {
+        let (kind, rest) = line.split_once(' ').context("a line has no kind")?;
+        let (platform, document) = rest.split_once(' ').context("a line has no platform")?;
+        match Value::from_str(rt.alloc(), document) {
+            Ok(value) => list_of(rt, kind, platform, &value)?,
+            Err(_) => println!(rt; ": json (must, -)")?,
+        }
+        println!(rt; "")?;
+    }
+    Ok(())
+}
+
+fn list_of(rt: &HostRuntime, kind: &str, platform: &str, value: &Value) -> Result<()> {
+    for it in &broken_of(kind, platform_of(platform, value)?, value, rt.alloc())? {
+        println!(rt; "{it}")?;
+    }
+    Ok(())
+}

@@ -1,0 +1,46 @@
+//! The program `oci_test_rules`: asks the rules of documents, and prints how many rows of each kind it checked.
+//!
+//! `data/KIND.rows` has the rows of a kind of documents, with an empty line between them. A row is three lines: the platform, or `-` for
+//! the document's own; the document; and what is listed, in order: `RULE POINTER` with two blanks between entries, or `-`. What begins
+//! with `#` is a remark. `tools/gen_rules` writes them from `tools/rules/rows`.
+//!
+//! With an argument, `list`, it reads `KIND PLATFORM DOCUMENT` from each line of standard input, and writes a line for each part that
+//! breaks a rule, `POINTER: RULE (LEVEL, SECTION): WANTED`, and an empty line behind each document; `tools/peers_rules` asks it so. Before any
+//! proof: `rt try $(for it in data/*; do echo --data "${it#data/}=$it"; done)`.
+#![tactic(auto)]
+
+mod books;
+mod listing;
+mod rows;
+
+use anyhow::Result;
+use listing::list;
+use rows::rows;
+use std::env;
+use std::process::ExitCode;
+
+const KINDS: [&str; 14] = [
+    "manifest", "index", "config", "artifact", "layout", "descriptor", "error", "repositories", "tags", "reference", "spec", "state",
+    "process-state", "features",
+];
+
+fn run(rt: &HostRuntime) -> Result<()> {
+    let mut words = env::args(rt)?.skip(1);
+    if words.next().is_some() {
+        return list(rt);
+    }
+    for kind in &KINDS {
+        rows(rt, kind);
+    }
+    Ok(())
+}
+
+fn main(rt: HostRuntime) -> ExitCode {
+    match run(&rt) {
+        Ok(()) => ExitCode::from(0),
+        Err(fault) => {
+            let _ = eprintln!(&rt; "{fault}");
+            ExitCode::from(1)
+        }
+    }
+}

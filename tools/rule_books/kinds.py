@@ -1,0 +1,72 @@
+"""The books of each kind of documents, in a crate above those of the books; that each place stands in its documents' shape."""
+from generator.records import snake
+from rule_books.specs import pascal
+
+CRATE = "oci_rule_books"
+
+
+def variant(kind):
+    return pascal(kind)
+
+
+def kinds_specs(model):
+    """The rules of each kind: those of its books."""
+    imports = {}
+    for _, names in model.kinds.values():
+        for name in names:
+            group = model.groups[name]
+            imports.setdefault((model.crate[group.file], pascal(group.file)), []).append(f"{group.word}_rules")
+    out = "-- The rules of each kind of documents: those of its books.\n"
+    out += "use Rattle.std.specs.Prelude.{List, [], ◌++◌}\n"
+    out += "use Rattle.oci_doc_run.specs.declared.kind.Kind.{Kind}\n"
+    out += f"use Rattle.oci_doc_run.specs.declared.kind.Kind.TheVariants.{{{', '.join(variant(it) for it in model.kinds)}}}\n"
+    out += "use Rattle.oci_rules.specs.Rules.{Rule}\n"
+    for (crate, file), words in sorted(imports.items()):
+        out += f"use Rattle.{crate}.specs.{file}.{{{', '.join(dict.fromkeys(words))}}}\n"
+    out += "\nabbrev pub rules_of : Kind → List Rule\n"
+    for kind, (_, names) in model.kinds.items():
+        words = " ++ (".join(f"{model.groups[it].word}_rules" for it in names)
+        out += f"rules_of {variant(kind)} = {words} ++ []{')' * (len(names) - 1)}\n"
+    return out
+
+
+def kinds_source(model):
+    """The call that returns the books of a kind."""
+    most = max(len(names) for _, names in model.kinds.values())
+    used = {}
+    for _, names in model.kinds.values():
+        for name in names:
+            used.setdefault(model.crate[model.groups[name].file], []).append(f"{model.groups[name].word}_rules")
+    out = "//! The books of rules of each kind of documents.\n#![tactic(auto)]\n"
+    out += "ghost use Rattle.std.specs.Prelude.{◌≡◌, map};\nghost use Rattle.std.specs.List.{flat_map};\n"
+    out += "ghost use Rattle.oci_rules.specs.Tables.{rule_of};\n"
+    out += f"ghost use Rattle.{CRATE}.specs.Kinds as kinds;\n\n"
+    out += "use oci_doc_run::Kind;\nuse oci_rules::Rule;\n"
+    for crate, words in sorted(used.items()):
+        out += f"use {crate}::{{{', '.join(sorted(set(words)))}}};\n"
+    out += "\n/// The number of books that the kind with the most of them has.\npub const BOOKS: usize = " + str(most) + ";\n"
+    out += "\nstatic NONE: [Rule<'static>; 0] = [];\n"
+    out += "\n/// Returns the books of a kind of documents, in their order; those behind the last are empty.\n"
+    out += "pub fn rules_of(kind: Kind) -> [&'static [Rule<'static>]; BOOKS]\n"
+    out += "    ensures { flat_map (λ b. map rule_of b.now) result ≡ kinds.rules_of kind }\n{\n    match kind {\n"
+    for kind, (_, names) in model.kinds.items():
+        calls = [f"{model.groups[it].word}_rules()" for it in names] + ["&NONE"] * (most - len(names))
+        out += f"        Kind::{variant(kind)} => [{', '.join(calls)}],\n"
+    return out + "    }\n}\n"
+
+
+def places(model):
+    """That each place of each kind's rules stands in the shape of its documents."""
+    out = "-- Each place of the rules of a kind stands in the shape of its documents.\n"
+    out += "use Rattle.std.specs.Prelude.{◌≡◌, true, refl}\n"
+    out += "use Rattle.oci_doc_run.specs.declared.kind.Kind.{Kind}\n"
+    out += f"use Rattle.oci_doc_run.specs.declared.kind.Kind.TheVariants.{{{', '.join(variant(it) for it in model.kinds)}}}\n"
+    out += f"use Rattle.oci_doc_run.specs.Kinds.{{shape_of}}\nuse Rattle.{CRATE}.specs.Kinds.{{rules_of}}\nuse Rattle.{CRATE}.specs.Stands.{{stands_in}}\n"
+    out += "\npub each_stands : (kind : Kind) → stands_in (shape_of kind) (rules_of kind) ≡ true\n"
+    return out + "".join(f"each_stands {variant(kind)} = refl\n" for kind in model.kinds)
+
+
+def files(model):
+    """All files, by their paths."""
+    folder = f"crates/{CRATE}"
+    return {f"{folder}/specs/Kinds.antt": kinds_specs(model), f"{folder}/src/lib.rt": kinds_source(model), f"{folder}/proofs/Places.antt": places(model)}
