@@ -46,33 +46,23 @@ fn value_of(rt: &impl Abort, alloc: Global, text: &str) -> Value {
     Value::from_str(alloc, text).expect(rt, "a value")
 }
 
-/// Read, and written in all forms.
-fn check_read(
-    rt: &impl Abort,
-    alloc: Global,
-    read: Result<ImageConfiguration>,
-    text: &str,
-    pretty: &str,
-) {
-    let document = read.expect(rt, "a configuration");
+/// Read of bytes; written compact, and displayed.
+fn check_document(rt: &impl Abort, alloc: Global, text: &str, pretty: &str) {
+    let document: ImageConfiguration = from_slice(alloc, text.as_bytes()).expect(rt, "a document");
     check_result(rt, to_string(&document, alloc), text);
-    check_result(rt, to_string_pretty(&document, alloc), pretty);
     let shown = format!(in alloc; "{document}").expect(rt, "memory");
     check_long(rt, shown.as_str(), pretty);
 }
 
-fn check_document(rt: &impl Abort, alloc: Global, text: &str, pretty: &str) {
-    let bytes = text.as_bytes();
-    check_read(rt, alloc, from_slice(alloc, bytes), text, pretty);
-    check_read(
+/// Read of a reader; written indented, and from a reader to a writer.
+fn check_streams(rt: &impl Abort, alloc: Global, text: &str, pretty: &str) {
+    let document: ImageConfiguration = from_reader(alloc, Input::new(text.as_bytes())).expect(
         rt,
-        alloc,
-        from_reader(alloc, Input::new(bytes)),
-        text,
-        pretty,
+        "a document",
     );
-    let mut output = Output::new(alloc);
-    let done = normalize::<ImageConfiguration, _, _>(alloc, Input::new(bytes), &mut output);
+    check_result(rt, to_string_pretty(&document, alloc), pretty);
+    let (input, mut output) = (Input::new(text.as_bytes()), Output::new(alloc));
+    let done = normalize::<ImageConfiguration, _, _>(alloc, input, &mut output);
     check_written(rt, done, &output, text);
 }
 
@@ -111,6 +101,13 @@ fn many_items(rt: HostRuntime) {
 }
 
 #[test]
+fn many_items_in_streams(rt: HostRuntime) {
+    let text = with_layers(&rt, rt.alloc(), 99_999, "\"d\"");
+    let pretty = indented(&rt, rt.alloc(), text.as_str());
+    check_streams(&rt, rt.alloc(), text.as_str(), pretty.as_str());
+}
+
+#[test]
 fn many_items_by_schema(rt: HostRuntime) {
     let text = with_layers(&rt, rt.alloc(), 99_999, "\"d\"");
     let pretty = indented(&rt, rt.alloc(), text.as_str());
@@ -122,6 +119,7 @@ fn long_text(rt: HostRuntime) {
     let text = with_author(&rt, rt.alloc(), 70_000);
     let pretty = indented(&rt, rt.alloc(), text.as_str());
     check_document(&rt, rt.alloc(), text.as_str(), pretty.as_str());
+    check_streams(&rt, rt.alloc(), text.as_str(), pretty.as_str());
     check_schema(&rt, rt.alloc(), text.as_str(), pretty.as_str());
 }
 
