@@ -110,9 +110,10 @@ mutual
   items_unique at i no_items = ((λ e. tt), (λ h. refl))
   items_unique at i (item j js) =
       let one = unique (under_index at i) j in
-      let rest = items_unique at (i + 1) js in
-      ((λ e. (one.0 (none_first (repeated (under_index at i) j) _ e), rest.0 (none_later (repeated (under_index at i) j) _ e))),
-      (λ h. no_more (repeated (under_index at i) j) _ (one.1 h.0) (rest.1 h.1)))
+      let rest = items_unique at (i + 1) js in (
+        (λ e. (one.0 (none_first (repeated (under_index at i) j) _ e), rest.0 (none_later (repeated (under_index at i) j) _ e))),
+        (λ h. no_more (repeated (under_index at i) j) _ (one.1 h.0) (rest.1 h.1)),
+      )
 
   members_unique : (at : List ℕ) (p : List ℕ → Bool) (ms : Members) → (repeated_members at p ms ≡ []) ↔ (Fresh p (keys ms) × Once (keys ms) × MembersHaveUniqueKeys ms)
   members_unique at p no_members = ((λ e. (tt, tt, tt)), (λ h. refl))
@@ -124,13 +125,14 @@ mutual
       let one = unique (under_name at k) j in
       let rest = members_unique at (with_name k p) ms in
       let split = fresh_with p k (keys ms) in
-      let others = apart k (keys ms) in
-      ((λ e.
-          let front = none_first (here ++ inner) later e in
-          let behind = rest.0 (none_later (here ++ inner) later e) in
-          let names = split.0 behind.0 in
-          ((own.0 (none_first here inner front), names.0), (others.0 names.1, behind.1), (one.0 (none_later here inner front), behind.2))),
-      (λ h. no_more (here ++ inner) later (no_more here inner (own.1 h.0.0) (one.1 h.2.0)) (rest.1 (split.1 (h.0.1, others.1 h.1.0), h.1.1, h.2.1))))
+      let others = apart k (keys ms) in (
+        (λ e.
+            let front = none_first (here ++ inner) later e in
+            let behind = rest.0 (none_later (here ++ inner) later e) in
+            let names = split.0 behind.0 in
+            ((own.0 (none_first here inner front), names.0), (others.0 names.1, behind.1), (one.0 (none_later here inner front), behind.2))),
+        (λ h. no_more (here ++ inner) later (no_more here inner (own.1 h.0.0) (one.1 h.2.0)) (rest.1 (split.1 (h.0.1, others.1 h.1.0), h.1.1, h.2.1))),
+      )
 
 nothing : (v : List (String Global)) → map string_bytes v ≡ [] → v ≡ []
 nothing [] e = refl

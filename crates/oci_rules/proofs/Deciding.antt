@@ -95,7 +95,7 @@ item_tells name ts with without d =
     Decides-and (there_and (is_listed ts) (text_at name d)) (list_all (has d) with && list_all (lacks d) without)
     (there_and_tells (is_listed ts) (λ t. IsTrue (is_listed ts t)) (λ t. itself (is_listed ts t)) (text_at name d))
     (Decides-and (list_all (has d) with) (list_all (lacks d) without) (each_name_tells (has d) (λ n. IsThere n d) (has_tells d) with)
-      (each_name_tells (lacks d) (λ n. IsAbsent n d) (lacks_tells d) without))
+    (each_name_tells (lacks d) (λ n. IsAbsent n d) (lacks_tells d) without))
 
 so_tells : (check : Check) (d : Data) → Decides (is_so check d) (IsSo check d)
 so_tells is_there d = ((λ e. tt), (λ h. refl))

@@ -141,7 +141,7 @@ law (begins front) r at d = alone (is_passed (begins front) d) (Passes (begins f
 law (reserved front ts) r at d =
     alone (is_passed (reserved front ts) d) (Passes (reserved front ts) d) r at
     (if_any_tells (λ t. not (begins_with front t) || is_listed ts t) (λ t. BeginsWith front t → IsTrue (is_listed ts t))
-      (λ t. then_tells (begins_with front t) (is_listed ts t) (BeginsWith front t) (IsTrue (is_listed ts t)) (begins_tells front t) (itself (is_listed ts t))) (as_str d))
+    (λ t. then_tells (begins_with front t) (is_listed ts t) (BeginsWith front t) (IsTrue (is_listed ts t)) (begins_tells front t) (itself (is_listed ts t))) (as_str d))
 law (within low high) r at d = alone (is_passed (within low high) d) (Passes (within low high) d) r at (if_any_tells (is_in low high) (IsWithin low high) (in_tells low high) (as_whole d))
 law (truth b) r at d = alone (is_passed (truth b) d) (Passes (truth b) d) r at (if_any_tells (beq b) (λ c. c ≡ b) (same_tells b) (as_bool d))
 law (there name) r at d = alone (is_passed (there name) d) (Passes (there name) d) r (under_name at name) (object_tells (has d name) (IsThere name d) d (has_tells d name))
@@ -157,7 +157,7 @@ law (at_most a b) r at d =
 law (sum_at_most a b most) r at d =
     alone (is_passed (sum_at_most a b most) d) (Passes (sum_at_most a b most) d) r at
     (if_any_tells (λ x. if_any (λ y. nat_le (x + y) most) (natural_at b d)) (λ x. IfSome (natural_at b d) (λ y. x + y ≤ most))
-      (λ x. if_any_tells (λ y. nat_le (x + y) most) (λ y. x + y ≤ most) (λ y. nat_tells (x + y) most) (natural_at b d)) (natural_at a d))
+    (λ x. if_any_tells (λ y. nat_le (x + y) most) (λ y. x + y ≤ most) (λ y. nat_tells (x + y) most) (natural_at b d)) (natural_at a d))
 law (lists ts) r at d =
     alone (is_passed (lists ts) d) (Passes (lists ts) d) r at (if_any_tells (some_item (is_one_of ts)) (SomeItem (IsOneOf ts)) (some_item_tells (is_one_of ts) (IsOneOf ts) (one_of_tells ts)) (as_array d))
 law (lists_item name t) r at d =
