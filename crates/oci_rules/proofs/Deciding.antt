@@ -1,6 +1,6 @@
 -- Conditions and tests come to what they ask.
-use Rattle.std.proofs.Common.{◌≡◌, ℕ, ◌<◌, ◌≤◌, ◌+◌, List, [], ◌∷◌, ◌++◌, Bool, true, false, not, ◌&&◌, ◌||◌, length, drop, ℤ, Option, Some, None, IfSome, is_some, refl, sym, subst, true≢false, leb-true, le-leb, arith}
-use Rattle.std.specs.Prelude.{zero, suc, ◌≤ℤ◌, T, ◌==◌, int_le, nat_le, bytes_eq, IsSomeAnd, IsSome, IsTrue}
+use Rattle.std.proofs.Common.{◌≡◌, ℕ, ◌<◌, ◌≤◌, List, [], ◌∷◌, Bool, true, false, not, ◌&&◌, ◌||◌, length, drop, ℤ, Option, Some, None, IfSome, is_some, refl, sym, subst, true≢false, leb-true, le-leb, arith}
+use Rattle.std.specs.Prelude.{zero, suc, ◌≤ℤ◌, T, ◌==◌, int_le, nat_le, bytes_eq, IsSomeAnd, IsTrue}
 use Rattle.std.specs.Bool.{Decides, beq}
 use Rattle.std.specs.Cmp.{booleans_Decides}
 use Rattle.std.specs.Int.Signed.{le_z_yes}
