@@ -257,8 +257,8 @@ rows_is rs below at d x =
     split : In (rows rs) at d x → ((ms : Members) × (as_object d ≡ Some ms) × Unlisted (names rs) at ms x) ⊎ InRows rs at d x
     split (qs, shown, part, inl same, so) =
         inl (subst (λ (z : Rows). (ms : Members) × (as_object d ≡ Some ms) × Unlisted (names z) at ms x) same.0
-          (subst (λ (a : List ℕ). (ms : Members) × (as_object d ≡ Some ms) × Unlisted (names qs) a ms x) same.1
-            (subst (λ (c : Data). (ms : Members) × (as_object c ≡ Some ms) × Unlisted (names qs) shown ms x) same.2 so)))
+        (subst (λ (a : List ℕ). (ms : Members) × (as_object d ≡ Some ms) × Unlisted (names qs) a ms x) same.1
+        (subst (λ (c : Data). (ms : Members) × (as_object c ≡ Some ms) × Unlisted (names qs) shown ms x) same.2 so)))
     split (qs, shown, part, inr is, so) = inr (qs, shown, part, is, so)
 
 row_is : (name : List ℕ) (alias : Option (List ℕ)) (p : shape.Presence) (s : Shape) (rs : Rows) → Lists (unknown s) (In s) → Lists (unknown_in rs) (InRows rs)

@@ -1,7 +1,8 @@
 //! Names that stand twice in one object.
-ghost use Rattle.std.specs.Prelude.{◌≡◌, ◌++◌, [], ℕ, List, Some, Err, None, map, option_map, string_bytes, IfOk, OnOk};
+ghost use Rattle.std.specs.Prelude.{◌≡◌, ◌↔◌, ◌++◌, [], ℕ, List, Some, Err, None, map, option_map, string_bytes, IfOk, IsSomeAnd, OnOk};
 ghost use Rattle.std.specs.BTreeSet.{contains_text};
 ghost use Rattle.json.specs.Json.{document};
+ghost use Rattle.json.specs.Strict.{HasUniqueKeys};
 ghost use Rattle.json.specs.Value.{value_view, items_view, members_view};
 ghost use Rattle.oci_lint.specs.Twice.{repeated, repeated_items, repeated_members, no_name, with_name, if_there};
 
@@ -13,8 +14,10 @@ use std::collections::BTreeSet;
 /// Returns the pointer (RFC 6901) of each member of `text` whose name an earlier member of the same object has, once for each that
 /// is too much. Names are compared by what they spell, `"a"` and `"\u0061"` alike. `Invalid` if the text is not JSON, else fails only if
 /// out of memory.
+#[tactic(auto, using(crate::proofs::Unique::none_twice))]
 pub fn repeated_names(text: &str, alloc: Global) -> Result<Vec<String>, Error>
     ensures all { IfOk result (λ v. option_map (repeated []) (document text.now) ≡ Some (map string_bytes v.items)) }
+    ensures none { IfOk result (λ v. (v.items ≡ []) ↔ IsSomeAnd (document text.now) HasUniqueKeys) }
     ensures invalid { result ≡ Err Error.Invalid → document text.now ≡ None }
 {
     let mut scratch = Scratch::new(alloc);

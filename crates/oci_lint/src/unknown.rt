@@ -147,7 +147,11 @@ fn add_unless_listed(
     }
     let pointer = under_name(alloc, at, name)?;
     let name = String::from_str(alloc, name)?;
-    found.push(UnknownMember { pointer, name, owner })?;
+    found.push(UnknownMember {
+        pointer,
+        name,
+        owner,
+    })?;
     Ok(())
 }
 
@@ -239,9 +243,25 @@ fn add_member<T: Records>(
 ) -> Result<(), AllocError>
     ensures { OnOk result (map reported found.new.items ≡ map reported found.old.items ++ (of_named (unknown (schema_shape (T.shape_at records.now) member.now.schema)) (Some member.now.name.now) at.now (view value.now) ++ of_named (unknown (schema_shape (T.shape_at records.now) member.now.schema)) (alias_of member.now.alias) at.now (view value.now))) }
 {
-    add_found(records, &member.schema, member.name, value.get(member.name), at, found, alloc)?;
+    add_found(
+        records,
+        &member.schema,
+        member.name,
+        value.get(member.name),
+        at,
+        found,
+        alloc,
+    )?;
     match member.alias {
-        Some(alias) => add_found(records, &member.schema, alias, value.get(alias), at, found, alloc),
+        Some(alias) => add_found(
+            records,
+            &member.schema,
+            alias,
+            value.get(alias),
+            at,
+            found,
+            alloc,
+        ),
         None => Ok(()),
     }
 }

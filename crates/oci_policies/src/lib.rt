@@ -1,4 +1,4 @@
-//! Policies: rules of one's own, as books that stand for their descriptions in `policies/`.
+//! Policies: rules of one's own, as books that are proved to be their descriptions in `policies/`.
 #![tactic(auto)]
 
 mod lists;

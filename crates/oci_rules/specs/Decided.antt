@@ -1,9 +1,9 @@
 -- What conditions and tests come to, as computations. That they are what conditions and tests ask is proved.
-use Rattle.std.specs.Prelude.{ℕ, ◌+◌, ◌&&◌, ◌||◌, ◌==◌, ℤ, int_le, nat_le, List, [], ◌∷◌, Bool, true, false, not, bytes_eq, Option, Some, None, is_some, is_none, unwrap_or}
+use Rattle.std.specs.Prelude.{ℕ, ◌+◌, ◌&&◌, ◌||◌, ◌==◌, ℤ, int_le, nat_le, List, Bool, true, false, not, bytes_eq, Option, Some, None, is_some}
 use Rattle.std.specs.Bool.{beq, nat_eq}
 use Rattle.std.specs.List.{list_any, list_all, starts_with}
 use Rattle.serde_json.specs.Data.{Data, Items, no_items, item}
-use Rattle.serde_json.specs.Find.{as_bool, as_str, as_array, as_object}
+use Rattle.serde_json.specs.Find.{as_bool, as_str, as_array}
 use Rattle.oci_json_model.specs.Means.{as_whole, is_object}
 use Rattle.oci_text_base.specs.Names.{is_listed}
 use Rattle.oci_rule_texts.specs.Tests.{is_of}

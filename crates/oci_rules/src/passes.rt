@@ -149,7 +149,9 @@ pub fn pointer_of(test: &Test, at: &str, alloc: Global) -> Result<String, AllocE
     ensures { IfOk result (λ s. string_bytes s ≡ shown_at (test_of test.now) at.now) }
 {
     match test {
-        Test::There(name) | Test::Absent(name) | Test::AtMost(name, _) => under_name(alloc, at, name),
+        Test::There(name) | Test::Absent(name) | Test::AtMost(name, _) => under_name(
+            alloc, at, name,
+        ),
         _ => String::from_str(alloc, at),
     }
 }

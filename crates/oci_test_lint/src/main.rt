@@ -15,7 +15,12 @@ use std::fs;
 use std::process::ExitCode;
 use std::rt::Files;
 
-const FILES: [&str; 4] = ["restricted-container", "published-image", "unknown", "twice"];
+const FILES: [&str; 4] = [
+    "restricted-container",
+    "published-image",
+    "unknown",
+    "twice",
+];
 
 fn check_rows<R: Files + Print + AllocGlobal>(rt: &R, name: &str) -> Result<()> {
     let path = format!(in rt.alloc(); "{name}.rows")?;
