@@ -17,7 +17,7 @@ opened_text table text = by (is_listed table text) refl
     by false e = rw e refl
 
 -- the first byte of a joined text is one of its first part
-first_lower : (text : List ℕ) → IsAlgorithm text → (b : ℕ) (rest : List ℕ) × (text ≡ b ∷ rest) × (is_lower b ≡ true)
+first_lower : (text : List ℕ) → IsAlgorithm text → (b : ℕ) × (rest : List ℕ) × (text ≡ b ∷ rest) × (is_lower b ≡ true)
 first_lower [] (one part h) = absurd (let k = h.0 in omega arith)
 first_lower (b ∷ rest) (one part h) = (b, rest, refl, (both (is_lower b) _ h.1).0)
 first_lower text (more front separator part j s p) =

@@ -31,6 +31,21 @@ pub struct Claim {
     pub size: u64,
 }
 
+impl Claim {
+    ghost use Rattle.std.specs.Prelude.{◌≡◌};
+    ghost use Rattle.oci_layout.specs.Looks.{may_miss};
+
+    /// Whether its content may be missing: a subject's, and that of a nondistributable layer that has URLs.
+    pub fn may_be_missing(&self) -> bool
+        ensures { result ≡ may_miss self.now }
+    {
+        match self.role {
+            Role::Subject => true,
+            _ => self.elsewhere,
+        }
+    }
+}
+
 /// What stands against a claim.
 #[derive(Clone, Copy, Debug, PartialEq, Eq)]
 pub enum Fault {
@@ -56,6 +71,16 @@ pub enum Fault {
     OtherType,
 }
 
+/// What is found of the content that a descriptor holds itself.
+#[derive(Clone, Copy, Debug, PartialEq, Eq)]
+pub struct Held {
+    /// The descriptor's role in its document.
+    pub role: Role,
+    /// Its index among the descriptors of its document.
+    pub at: usize,
+    pub embedded: Embedded,
+}
+
 /// What was seen at a claim.
 #[derive(Drop)]
 pub struct Seen {
@@ -63,7 +88,7 @@ pub struct Seen {
     /// What its document claims, in the order in which it stands there.
     pub claims: Vec<Claim>,
     /// What is found of the content that each of these descriptors holds itself.
-    pub embedded: Vec<Embedded>,
+    pub held: Vec<Held>,
     /// The violations of its schema, if it is JSON.
     pub violations: Vec<Violation>,
 }

@@ -6,7 +6,7 @@ ghost use Rattle.serde_json.specs.View.{view, items_view};
 ghost use Rattle.oci_content.specs.Embedded.{TellsData};
 ghost use Rattle.oci_layout.specs.Claims.{claim_of, claim_at, claims_at, claims_of, string_at, number_at, items_at, has_some};
 
-use crate::claim::{Claim, Role};
+use crate::claim::{Claim, Held, Role};
 use crate::kind::{Kind, is_nondistributable_type};
 use oci_content::{Embedded, verify_base64};
 use oci_text::Digest;
@@ -75,7 +75,7 @@ fn embedded_in(alloc: Global, claim: &Claim, value: &Value) -> Result<Embedded, 
 #[derive(Debug, Drop)]
 pub struct Claimed {
     pub claims: Vec<Claim>,
-    pub embedded: Vec<Embedded>,
+    pub held: Vec<Held>,
 }
 
 impl Claimed {
@@ -84,7 +84,11 @@ impl Claimed {
     {
         let claim = claim_of_value(alloc, role, value)?;
         let embedded = embedded_in(alloc, &claim, value)?;
-        self.embedded.push(embedded)?;
+        self.held.push(Held {
+            role,
+            at: self.claims.len(),
+            embedded,
+        })?;
         self.claims.push(claim)?;
         Ok(())
     }
@@ -137,7 +141,7 @@ pub fn claims_of_document(alloc: Global, kind: Kind, value: &Value) -> Result<Cl
 {
     let mut claimed = Claimed {
         claims: Vec::new(alloc),
-        embedded: Vec::new(alloc),
+        held: Vec::new(alloc),
     };
     match kind {
         Kind::Index | Kind::DockerList => {

@@ -26,7 +26,7 @@ impl Seen {
         Seen {
             fault: None,
             claims: Vec::new(alloc),
-            embedded: Vec::new(alloc),
+            held: Vec::new(alloc),
             violations: Vec::new(alloc),
         }
     }
@@ -38,7 +38,7 @@ impl Seen {
         Seen {
             fault: Some(fault),
             claims: Vec::new(alloc),
-            embedded: Vec::new(alloc),
+            held: Vec::new(alloc),
             violations: Vec::new(alloc),
         }
     }
@@ -72,7 +72,7 @@ fn read_value(alloc: Global, kind: Kind, schema: &Schema, value: &Value) -> Resu
         return Ok(Seen {
             fault: Some(Fault::NoDocument),
             claims: Vec::new(alloc),
-            embedded: Vec::new(alloc),
+            held: Vec::new(alloc),
             violations,
         });
     }
@@ -80,7 +80,7 @@ fn read_value(alloc: Global, kind: Kind, schema: &Schema, value: &Value) -> Resu
     Ok(Seen {
         fault: own_type_fault(kind, value),
         claims: claimed.claims,
-        embedded: claimed.embedded,
+        held: claimed.held,
         violations,
     })
 }

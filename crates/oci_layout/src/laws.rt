@@ -10,7 +10,6 @@ ghost use Rattle.oci_layout.specs.declared.claim.Fault.{Fault};
 
 /// Where a walk over known contents found nothing that stands against a claim, all that is reached is there, as large and with the
 /// digest that is claimed, and is the document of its kind; or it is missing, and may be.
-#[tactic(auto, using(crate::proofs::Sound::sound_where_reached))]
 pub fn sound_where_reached()
     ensures { (limit : ℕ) (contents : List ℕ → Option (List ℕ)) (start all : List Claim) (faults : List (Option Fault))
         → IsWalk (Shows false limit (Some contents)) start all faults → AreFine all faults
@@ -18,7 +17,6 @@ pub fn sound_where_reached()
 {}
 
 /// Both parts of a digest are plain names of files: neither is empty, `.` or `..`, and neither has a slash.
-#[tactic(auto, using(crate::proofs::Paths::plain_parts))]
 pub fn plain_parts()
     ensures { (text algorithm encoded : List ℕ) → IsDigest text algorithm encoded → IsPlainName algorithm × IsPlainName encoded }
 {}

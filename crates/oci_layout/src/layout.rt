@@ -12,13 +12,22 @@ use std::alloc::{AllocError, Global};
 use std::io::Read;
 
 /// A store whose contents are looked at.
-#[derive(Clone, Copy)]
 pub struct Layout<'a, S> {
     pub store: &'a S,
     /// How large a document may be.
     pub limit: u64,
     /// Whether contents that are no documents are left unread: their sizes alone are looked at.
     pub quick: bool,
+}
+
+impl<'a, S> Drop for Layout<'a, S> {
+    fn drop(self) {
+        let Layout {
+            store,
+            limit,
+            quick,
+        } = self;
+    }
 }
 
 impl<'a, S: Store> Shown for Layout<'a, S> {
@@ -135,7 +144,7 @@ fn judged(alloc: Global, verdict: Verdict, kind: Kind, bytes: &[u8]) -> Result<S
 }
 
 /// All that is left to read, or a beginning of it that is longer than `size`; none where a read fails. Fails if out of memory.
-fn read_sized<R: Read>(
+pub fn read_sized<R: Read>(
     alloc: Global,
     reader: &mut R,
     size: u64,

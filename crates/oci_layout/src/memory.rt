@@ -2,11 +2,13 @@
 ghost use Rattle.std.specs.Prelude.{◌≡◌, option_map};
 ghost use Rattle.oci_layout.specs.Memory.{content_of};
 
-use crate::store::{Opened, Store};
+use crate::path::blob_path;
+use crate::store::{ImageLayout, Listed, Opened, Store};
 use oci_text::Digest;
 use std::alloc::{AllocError, Global};
 
-/// A content and the name under which it is kept: the text of a digest, which need not be its own.
+/// A content and the name under which it is kept: the text of a digest, which need not be its own, or the name of a file beside
+/// `blobs`.
 #[derive(Clone, Copy)]
 pub struct Kept<'a> {
     pub name: &'a str,
@@ -43,5 +45,32 @@ impl<'a> Store for Memory<'a> {
             Some(bytes) => Ok(Opened::Content(bytes, Some(bytes.len() as u64))),
             None => Ok(Opened::Missing),
         }
+    }
+}
+
+impl<'a> ImageLayout for Memory<'a> {
+    ghost use Rattle.std.specs.Prelude.{Some};
+
+    ghost tops = { λ s. Some (content_of s.kept.now) };
+
+    fn top(&self, _alloc: Global, name: &str) -> Result<Opened<&'a [u8]>, AllocError> {
+        match find(self.kept, name) {
+            Some(bytes) => Ok(Opened::Content(bytes, Some(bytes.len() as u64))),
+            None => Ok(Opened::Missing),
+        }
+    }
+
+    fn list(&self, alloc: Global) -> Result<Vec<Listed>, AllocError> {
+        let mut listed = Vec::new(alloc);
+        for kept in self.kept {
+            if let Ok(digest) = Digest::from_str(alloc, kept.name) {
+                listed.push(Listed {
+                    path: blob_path(alloc, &digest)?,
+                    size: Some(kept.bytes.len() as u64),
+                    cut: false,
+                })?;
+            }
+        }
+        Ok(listed)
     }
 }

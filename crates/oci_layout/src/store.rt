@@ -1,4 +1,4 @@
-//! Stores of contents.
+//! Stores of contents, and image layouts.
 ghost use Rattle.std.specs.Prelude.{IfOk};
 ghost use Rattle.oci_layout.specs.Looks.{Gives};
 
@@ -28,4 +28,30 @@ pub trait Store {
     /// What there is under a digest. Fails if out of memory.
     fn open(&self, alloc: Global, digest: &Digest) -> Result<Opened<Self::Blob>, AllocError>
         ensures { IfOk result (Gives Self.Blob.remaining (contents self.now) digest.now) };
+}
+
+/// A name below `blobs`.
+#[derive(Debug, Drop)]
+pub struct Listed {
+    /// The path in the layout; of a folder that cannot be listed, or not to its end, the folder's.
+    pub path: String,
+    /// The size in bytes, if it is a file.
+    pub size: Option<u64>,
+    /// Whether it is a folder that cannot be listed to its end.
+    pub cut: bool,
+}
+
+/// A store that is an image layout (image specification, "Image Layout").
+pub trait ImageLayout: Store {
+    ghost use Rattle.oci_layout.specs.Looks.{Contents};
+
+    // the files beside `blobs` by name, where they are known
+    ghost tops: { Self → Contents };
+
+    /// What there is under a name beside `blobs`, as `index.json`. Fails if out of memory.
+    fn top(&self, alloc: Global, name: &str) -> Result<Opened<Self::Blob>, AllocError>
+        ensures { IfOk result (Gives Self.Blob.remaining (tops self.now) name.now) };
+
+    /// What there is below `blobs`. Fails if out of memory.
+    fn list(&self, alloc: Global) -> Result<Vec<Listed>, AllocError>;
 }

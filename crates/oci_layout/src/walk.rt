@@ -4,8 +4,7 @@ ghost use Rattle.std.specs.List.{Contains};
 ghost use Rattle.oci_layout.specs.declared.claim.Claim.{Claim};
 ghost use Rattle.oci_layout.specs.Walk.{IsUnderway, IsWalk, Extends, IsWithin, IsOnly};
 
-use crate::claim::{Claim, Fault, Seen, Shown};
-use oci_content::Embedded;
+use crate::claim::{Claim, Fault, Held, Shown};
 use oci_schema_walks::Violation;
 use std::alloc::{AllocError, Global};
 use std::collections::BTreeMap;
@@ -23,9 +22,16 @@ pub struct Mention {
 #[derive(Drop)]
 pub struct Detail {
     /// What is found of the content that each descriptor of its document holds itself.
-    pub embedded: Vec<Embedded>,
+    pub held: Vec<Held>,
     /// The violations of its schema.
     pub violations: Vec<Violation>,
+}
+
+impl Detail {
+    /// Whether nothing was seen.
+    pub fn is_empty(&self) -> bool {
+        self.held.is_empty() && self.violations.is_empty()
+    }
 }
 
 /// A walk: all claims that were reached so far, where each was found first, and for those that were looked at, from the first on,
@@ -78,7 +84,7 @@ impl Walk {
         let seen = store.look(alloc, claim, buffer)?;
         self.faults.push(seen.fault)?;
         self.details.push(Detail {
-            embedded: seen.embedded,
+            held: seen.held,
             violations: seen.violations,
         })?;
         self.add_all(alloc, Some(place), seen.claims)?;
