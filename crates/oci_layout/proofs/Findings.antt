@@ -1,0 +1,62 @@
+-- Whether nothing stands against the claims of a walk.
+use Rattle.std.proofs.Common.{◌≡◌, ℕ, ◌<◌, Bool, true, false, List, length, get_or, slice_get, Option, Some, None, Result, Ok, Err, IfOk, sym, ap, subst, ◌∙◌, arith}
+use Rattle.std.proofs.lemmas.Option.{slice_get-get_or, slice_get_within}
+use Rattle.oci_layout.specs.Documents.{IsRead}
+use Rattle.oci_layout.specs.Looks.{Contents, Shows}
+use Rattle.oci_layout.specs.Sound.{IsFine, AreFine, IsFileOf, IsSoundFrom, IsSoundLayout}
+use Rattle.oci_layout.specs.Walk.{IsWalk}
+use Rattle.std.specs.Prelude.{codes, IsTrue}
+use Rattle.oci_text_base.specs.declared.error.OciSpecError.{OciSpecError}
+use Rattle.oci_layout.proofs.Sound.{sound_where_reached}
+use Rattle.oci_layout.specs.declared.kind.Kind.TheVariants.{Index}
+use Rattle.oci_layout.specs.declared.claim.Claim.{Claim}
+use Rattle.oci_layout.specs.declared.claim.Fault.{Fault}
+
+-- at one place
+abbrev pub IsFineAt : List Claim → List (Option Fault) → ℕ → Type 0
+IsFineAt all faults i = (c : Claim) (f : Option Fault) → slice_get all i ≡ Some c → slice_get faults i ≡ Some f → IsFine c f
+
+some : {X : Type 0} {x y : X} → Some x ≡ Some y → x ≡ y
+some e = cc
+
+pub fine_at : (all : List Claim) (faults : List (Option Fault)) (i : ℕ) (claim : Claim) (fault : Option Fault)
+    → i < length all → claim ≡ get_or all i claim → i < length faults → fault ≡ get_or faults i fault → IsFine claim fault → IsFineAt all faults i
+fine_at all faults i claim fault below is within told fine c f e g =
+    let same : claim ≡ c = some (ap Some is ∙ sym (slice_get-get_or all i claim below) ∙ e) in
+    let one : fault ≡ f = some (ap Some told ∙ sym (slice_get-get_or faults i fault within) ∙ g) in
+    subst (λ x. IsFine c x) one (subst (λ x. IsFine x fault) same fine)
+
+pub all_fine : (all : List Claim) (faults : List (Option Fault)) (n : ℕ) → length faults ≡ n → ((i : ℕ) → i < n → IsFineAt all faults i) → AreFine all faults
+all_fine all faults n counted fine i c f e g = fine i (let h = slice_get_within faults i f g in omega arith) c f e g
+
+-- what is so of a layout whose walk found nothing
+pub sound_layout : (limit : ℕ) (quick : Bool) (contents tops : Contents) (index : List ℕ) (fault : Option Fault) (claims all : List Claim) (faults : List (Option Fault))
+    → IsRead Index index fault claims → IsWalk (Shows quick limit contents) claims all faults → fault ≡ None → AreFine all faults → quick ≡ false
+    → IsFileOf tops (codes "index.json") index → IsSoundLayout limit tops contents
+sound_layout limit quick contents None index fault claims all faults read w none fine full there = tt
+sound_layout limit quick None (Some tops) index fault claims all faults read w none fine full there = tt
+sound_layout limit true (Some contents) (Some tops) index fault claims all faults read w none fine full there = cc full
+sound_layout limit false (Some contents) (Some tops) index fault claims all faults read w none fine full there = record {
+  index = index;
+  there = there;
+  claims = claims;
+  document = subst (λ f. IsRead Index index f claims) none read;
+  reached = sound_where_reached limit contents claims all faults w fine;
+}
+
+-- the same, by what was read of the index and found behind it
+pub seen_sound : (limit : ℕ) (quick : Bool) (contents : Contents) (index : List ℕ) (f fault : Option Fault) (cs claims : List Claim) (r : Result Bool OciSpecError)
+    → IsRead Index index f cs → IfOk r (λ sound. IsTrue sound → IsSoundFrom quick limit contents fault claims) → f ≡ fault → cs ≡ claims
+    → IfOk r (λ sound. IsTrue sound → quick ≡ false → (tops : Contents) → IsFileOf tops (codes "index.json") index → IsSoundLayout limit tops contents)
+seen_sound limit quick contents index f fault cs claims (Err e) read h same these = tt
+seen_sound limit quick contents index f fault cs claims (Ok sound) read h same these = λ told full tops there.
+    let w = h told in
+    sound_layout limit quick contents tops index fault claims w.all w.faults
+    (subst (λ x. IsRead Index index x claims) same (subst (λ l. IsRead Index index f l) these read)) w.walk w.nothing_before w.fine full there
+
+-- what the bytes of the index tell of the layout that they were read from
+pub of_top : (limit : ℕ) (quick : Bool) (tops contents : Contents) (index : List ℕ) (r : Result Bool OciSpecError) → IsFileOf tops (codes "index.json") index
+    → IfOk r (λ sound. IsTrue sound → quick ≡ false → (t : Contents) → IsFileOf t (codes "index.json") index → IsSoundLayout limit t contents)
+    → IfOk r (λ sound. IsTrue sound → quick ≡ false → IsSoundLayout limit tops contents)
+of_top limit quick tops contents index (Err e) there h = tt
+of_top limit quick tops contents index (Ok sound) there h = λ told full. h told full tops there

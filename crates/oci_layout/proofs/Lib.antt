@@ -1,0 +1,7 @@
+pub mod Findings
+pub mod Items
+pub mod Looks
+pub mod Paths
+pub mod Same
+pub mod Sound
+pub mod Walks

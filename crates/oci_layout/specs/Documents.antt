@@ -1,0 +1,54 @@
+-- What is found in the bytes of a document.
+use Rattle.std.specs.Prelude.{◌≡◌, ◌⊎◌, ℕ, List, [], bytes_eq, if◌then◌else◌, Option, Some, None, option_and_then}
+use Rattle.serde_json.specs.Data.{Data}
+use Rattle.serde_json.specs.Find.{as_str, get}
+use Rattle.oci_json_model.specs.Plain.{Plain}
+use Rattle.oci_json_model.specs.Shape.{Shape}
+use Rattle.oci_json_model.specs.Means.{Means}
+use Rattle.oci_json_io.specs.Engines.{ReadsAs, IsNoJson}
+use Rattle.std.specs.Prelude.{codes}
+use Rattle.oci_layout.specs.Kinds.{own_type, document_shape}
+use Rattle.oci_layout.specs.Claims.{claims_of}
+use Rattle.oci_layout.specs.declared.kind.Kind.{Kind}
+use Rattle.oci_layout.specs.declared.claim.Claim.{Claim}
+use Rattle.oci_layout.specs.declared.claim.Fault.{Fault}
+use Rattle.oci_layout.specs.declared.claim.Fault.TheVariants.{NoJson, NoDocument, OtherType}
+
+-- the schema allows the value
+abbrev pub IsValid : Shape → Data → Type 0
+IsValid s d = (p : Plain) × Means s d p
+
+-- the media type that a document says itself beside the one that is said of it, where both are said
+abbrev pub compared : Option (List ℕ) → Option (List ℕ) → Option Fault
+compared None own = None
+compared (Some said) None = None
+compared (Some said) (Some own) = if bytes_eq own said then None else Some OtherType
+
+abbrev pub type_fault : Kind → Data → Option Fault
+type_fault k d = compared (own_type k) (option_and_then as_str (get (codes "mediaType") d))
+
+-- a value that the schema allows, with what it claims
+pub record IsDocument (s : Shape) (k : Kind) (value : Data) (fault : Option Fault) (claims : List Claim) : Type 0 where
+  pub valid : IsValid s value
+  pub own : fault ≡ type_fault k value
+  pub claimed : claims ≡ claims_of k value
+
+-- nothing is claimed where there is this fault
+abbrev pub IsFault : Fault → Option Fault → List Claim → Type 0
+IsFault f fault claims = (fault ≡ Some f) × (claims ≡ [])
+
+-- what is found in the value of a document
+abbrev pub IsJudged : Shape → Kind → Data → Option Fault → List Claim → Type 0
+IsJudged s k value fault claims = IsDocument s k value fault claims ⊎ ((¬ IsValid s value) × IsFault NoDocument fault claims)
+
+-- what is found in its bytes
+abbrev pub IsReadAs : Shape → Kind → List ℕ → Option Fault → List Claim → Type 0
+IsReadAs s k bytes fault claims = ((d : Data) × ReadsAs bytes d × IsJudged s k d fault claims) ⊎ (IsNoJson bytes × IsFault NoJson fault claims)
+
+-- of bytes that are not read, nothing is found
+abbrev pub IsReadBy : Option Shape → Kind → List ℕ → Option Fault → List Claim → Type 0
+IsReadBy None k bytes fault claims = (fault ≡ None) × (claims ≡ [])
+IsReadBy (Some s) k bytes fault claims = IsReadAs s k bytes fault claims
+
+abbrev pub IsRead : Kind → List ℕ → Option Fault → List Claim → Type 0
+IsRead k bytes fault claims = IsReadBy (document_shape k) k bytes fault claims

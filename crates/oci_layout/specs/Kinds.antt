@@ -1,0 +1,45 @@
+-- What the contents of an image layout are read as (image specification, "Media Types", "Compatibility Matrix").
+use Rattle.std.specs.Prelude.{ℕ, List, codes, bytes_eq, Bool, ◌||◌, if◌then◌else◌, Option, Some, None}
+use Rattle.oci_json_model.specs.Shape.{Shape}
+use Rattle.oci_shapes.specs.ImageConfiguration.{image_configuration}
+use Rattle.oci_shapes.specs.ImageIndex.{image_index}
+use Rattle.oci_shapes.specs.ImageManifest.{image_manifest}
+use Rattle.oci_layout.specs.declared.kind.Kind.{Kind}
+use Rattle.oci_layout.specs.declared.kind.Kind.TheVariants.{Index, DockerList, Manifest, DockerManifest, Config, DockerConfig, Opaque}
+
+-- what a content of this media type is read as
+abbrev pub kind_of : List ℕ → Kind
+kind_of type =
+    if bytes_eq type (codes "application/vnd.oci.image.index.v1+json") then Index
+    else (if bytes_eq type (codes "application/vnd.docker.distribution.manifest.list.v2+json") then DockerList
+    else (if bytes_eq type (codes "application/vnd.oci.image.manifest.v1+json") then Manifest
+    else (if bytes_eq type (codes "application/vnd.docker.distribution.manifest.v2+json") then DockerManifest
+    else (if bytes_eq type (codes "application/vnd.oci.image.config.v1+json") then Config
+    else (if bytes_eq type (codes "application/vnd.docker.container.image.v1+json") then DockerConfig
+    else Opaque)))))
+
+-- the media type of a document that can say it itself
+abbrev pub own_type : Kind → Option (List ℕ)
+own_type Index = Some (codes "application/vnd.oci.image.index.v1+json")
+own_type DockerList = Some (codes "application/vnd.docker.distribution.manifest.list.v2+json")
+own_type Manifest = Some (codes "application/vnd.oci.image.manifest.v1+json")
+own_type DockerManifest = Some (codes "application/vnd.docker.distribution.manifest.v2+json")
+own_type _ = None
+
+-- the documents of a kind, where it is one of documents
+abbrev pub document_shape : Kind → Option Shape
+document_shape Index = Some image_index
+document_shape DockerList = Some image_index
+document_shape Manifest = Some image_manifest
+document_shape DockerManifest = Some image_manifest
+document_shape Config = Some image_configuration
+document_shape DockerConfig = Some image_configuration
+document_shape Opaque = None
+
+-- a layer that may be had elsewhere alone
+abbrev pub is_nondistributable : List ℕ → Bool
+is_nondistributable type =
+    bytes_eq type (codes "application/vnd.oci.image.layer.nondistributable.v1.tar")
+    || bytes_eq type (codes "application/vnd.oci.image.layer.nondistributable.v1.tar+gzip")
+    || bytes_eq type (codes "application/vnd.oci.image.layer.nondistributable.v1.tar+zstd")
+    || bytes_eq type (codes "application/vnd.docker.image.rootfs.foreign.diff.tar.gzip")

@@ -1,0 +1,109 @@
+//! What a document claims of a content, and what is found there.
+ghost use Rattle.std.specs.Prelude.{IfOk};
+
+use crate::kind::Kind;
+use oci_content::{Checksum, Embedded};
+use oci_schema_walks::Violation;
+use oci_text::Digest;
+use std::alloc::{AllocError, Global};
+
+/// What a content is to the document that claims it.
+#[derive(Clone, Copy, Debug, PartialEq, Eq)]
+pub enum Role {
+    /// One of `manifests`.
+    Manifest,
+    /// The configuration.
+    Config,
+    /// One of `layers`.
+    Layer,
+    /// The manifest that this one refers to, which may be missing (image specification, "Image Manifest", `subject`).
+    Subject,
+}
+
+/// What a descriptor says of its content, as far as it can be judged.
+#[derive(Debug, Drop, PartialEq, Eq)]
+pub struct Claim {
+    pub role: Role,
+    pub kind: Kind,
+    /// Whether it is a nondistributable layer with `urls`, which may be missing.
+    pub elsewhere: bool,
+    pub digest: Digest,
+    pub size: u64,
+}
+
+impl Claim {
+    ghost use Rattle.std.specs.Prelude.{◌≡◌};
+    ghost use Rattle.oci_layout.specs.Looks.{may_miss};
+
+    /// Whether its content may be missing: a subject's, and that of a nondistributable layer that has URLs.
+    pub fn may_be_missing(&self) -> bool
+        ensures { result ≡ may_miss self.now }
+    {
+        match self.role {
+            Role::Subject => true,
+            _ => self.elsewhere,
+        }
+    }
+}
+
+/// What stands against a claim.
+#[derive(Clone, Copy, Debug, PartialEq, Eq)]
+pub enum Fault {
+    /// Nothing is there.
+    Missing,
+    /// What is there cannot be read, or is no file.
+    Unreadable,
+    /// It is said to be larger than a document may be, and is not read.
+    TooLarge,
+    /// It ends after so many bytes, which are fewer than is said.
+    Shorter(u64),
+    /// It has more bytes than is said.
+    Longer,
+    /// It has the size, and this digest in place of the one that is said.
+    OtherDigest(Checksum),
+    /// It has the size, and the digest is by an algorithm that is not known.
+    Unjudged,
+    /// It has the size and the digest, and is no JSON text.
+    NoJson,
+    /// It has the size and the digest, and its schema does not allow it.
+    NoDocument,
+    /// It is a document whose `mediaType` is another than its descriptor says.
+    OtherType,
+}
+
+/// What is found of the content that a descriptor holds itself.
+#[derive(Clone, Copy, Debug, PartialEq, Eq)]
+pub struct Held {
+    /// The descriptor's role in its document.
+    pub role: Role,
+    /// Its index among the descriptors of its document.
+    pub at: usize,
+    pub embedded: Embedded,
+}
+
+/// What was seen at a claim.
+#[derive(Drop)]
+pub struct Seen {
+    pub fault: Option<Fault>,
+    /// What its document claims, in the order in which it stands there.
+    pub claims: Vec<Claim>,
+    /// What is found of the content that each of these descriptors holds itself.
+    pub held: Vec<Held>,
+    /// The violations of its schema, if it is JSON.
+    pub violations: Vec<Violation>,
+}
+
+/// Where claims are looked at.
+pub trait Shown {
+    ghost use Rattle.std.specs.Prelude.{◌<◌, List, Option, length};
+    ghost use Rattle.oci_layout.specs.declared.claim.Claim.{Claim};
+    ghost use Rattle.oci_layout.specs.declared.claim.Fault.{Fault};
+
+    // at this claim this fault is found, and its document claims these
+    ghost shows: { Self → Claim → Option Fault → List Claim → Type 0 };
+
+    /// What is found at a claim, read in pieces of the buffer's length. Fails if out of memory.
+    fn look(&self, alloc: Global, claim: &Claim, buffer: &mut [u8]) -> Result<Seen, AllocError>
+        requires { 0 < length buffer.old }
+        ensures { IfOk result (λ s. shows self.now claim.now s.fault s.claims.items) };
+}

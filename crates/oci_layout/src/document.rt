@@ -1,0 +1,99 @@
+//! What is found in the bytes of documents.
+ghost use Rattle.std.specs.Prelude.{◌≡◌, IfOk};
+ghost use Rattle.serde_json.specs.View.{view};
+ghost use Rattle.oci_schema_types.specs.Shapes.{schema_shape, shape_at};
+ghost use Rattle.oci_schemas.specs.Table.{shapes};
+ghost use Rattle.oci_layout.specs.Documents.{IsRead, IsJudged, IsFault, type_fault};
+
+use crate::claim::{Fault, Seen};
+use crate::descriptor::claims_of_document;
+use crate::kind::Kind;
+use oci_schema::violations;
+use oci_schema_types::Schema;
+use oci_schemas::OciRecords;
+use serde_json::Value;
+use std::alloc::{AllocError, Global};
+
+impl Seen {
+    ghost use Rattle.std.specs.Prelude.{None, []};
+    ghost use Rattle.oci_layout.specs.Documents.{IsFault};
+
+    /// Nothing stands against it, and it claims nothing.
+    pub fn nothing(alloc: Global) -> Seen
+        ensures fault { result.fault ≡ None }
+        ensures claims { result.claims.items ≡ [] }
+    {
+        Seen {
+            fault: None,
+            claims: Vec::new(alloc),
+            held: Vec::new(alloc),
+            violations: Vec::new(alloc),
+        }
+    }
+
+    /// This fault, and nothing is claimed.
+    pub fn of_fault(alloc: Global, fault: Fault) -> Seen
+        ensures { IsFault fault result.fault result.claims.items }
+    {
+        Seen {
+            fault: Some(fault),
+            claims: Vec::new(alloc),
+            held: Vec::new(alloc),
+            violations: Vec::new(alloc),
+        }
+    }
+}
+
+/// What is found in bytes that are as they are claimed to be, read as a kind says. Fails if out of memory.
+pub fn read_document(alloc: Global, kind: Kind, bytes: &[u8]) -> Result<Seen, AllocError>
+    ensures { IfOk result (λ s. IsRead kind bytes.now s.fault s.claims.items) }
+{
+    let Some(schema) = kind.schema() else {
+        return Ok(Seen::nothing(alloc));
+    };
+    match Value::from_slice(alloc, bytes) {
+        Ok(value) => read_value(alloc, kind, schema, &value),
+        Err(fault) => {
+            if fault.is_memory() {
+                Err(AllocError)
+            } else {
+                Ok(Seen::of_fault(alloc, Fault::NoJson))
+            }
+        }
+    }
+}
+
+/// What is found in the value of a document.
+fn read_value(alloc: Global, kind: Kind, schema: &Schema, value: &Value) -> Result<Seen, AllocError>
+    ensures { IfOk result (λ s. IsJudged (schema_shape (shape_at shapes) schema.now) kind (view value.now) s.fault s.claims.items) }
+{
+    let violations = violations(&OciRecords, schema, value, alloc)?;
+    if !violations.is_empty() {
+        return Ok(Seen {
+            fault: Some(Fault::NoDocument),
+            claims: Vec::new(alloc),
+            held: Vec::new(alloc),
+            violations,
+        });
+    }
+    let claimed = claims_of_document(alloc, kind, value)?;
+    Ok(Seen {
+        fault: own_type_fault(kind, value),
+        claims: claimed.claims,
+        held: claimed.held,
+        violations,
+    })
+}
+
+/// Whether the document says another media type itself.
+fn own_type_fault(kind: Kind, value: &Value) -> Option<Fault>
+    ensures { result ≡ type_fault kind (view value.now) }
+{
+    let said = kind.own_type()?;
+    let own = value.get("mediaType").and_then(Value::as_str)?;
+    if own == said {
+        None
+    } else {
+        Some(Fault::OtherType)
+    }
+}

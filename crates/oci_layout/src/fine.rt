@@ -1,0 +1,46 @@
+//! Whether nothing stands against the claims of a walk.
+ghost use Rattle.std.specs.Prelude.{◌≡◌, IsTrue};
+ghost use Rattle.oci_layout.specs.Sound.{IsFine, AreFine};
+
+use crate::claim::{Claim, Fault};
+use crate::walk::Walk;
+
+/// Whether nothing stands against a claim, or its content is missing and may be.
+pub fn is_fine(claim: &Claim, fault: Option<Fault>) -> bool
+    ensures { IsTrue result → IsFine claim.now fault }
+{
+    match fault {
+        None => true,
+        Some(Fault::Missing) => claim.may_be_missing(),
+        Some(_) => false,
+    }
+}
+
+/// The same, for each claim and the fault at its place.
+pub fn are_fine(claims: &[Claim], faults: &[Option<Fault>]) -> bool
+    ensures { IsTrue result → AreFine claims.now faults.now }
+{
+    'each: for place in 0..faults.len() {
+        let Some(fault) = faults.get(place) else {
+            return false;
+        };
+        let Some(claim) = claims.get(place) else {
+            return false;
+        };
+        if !is_fine(claim, *fault) {
+            return false;
+        }
+    }
+    true
+}
+
+/// Whether nothing stands against the index of a layout, nor against the claims of a walk.
+pub fn is_sound_walk(fault: Option<Fault>, walk: &Walk) -> bool
+    ensures fault { IsTrue result → fault ≡ None }
+    ensures fine { IsTrue result → AreFine walk.now.claims.items walk.now.faults.items }
+{
+    match fault {
+        None => are_fine(walk.claims.as_slice(), walk.faults.as_slice()),
+        Some(_) => false,
+    }
+}

@@ -1,0 +1,131 @@
+//! A folder as an image layout. What files hold no contract can say.
+ghost use Rattle.std.specs.Prelude.{None};
+
+use crate::path::blob_path;
+use crate::store::{ImageLayout, Listed, Opened, Store};
+use oci_text::Digest;
+use std::alloc::{AllocError, Global};
+use std::fs;
+use std::io::ErrorKind;
+use std::rt::Files;
+
+/// The folder of an image layout, by its path.
+#[derive(Clone, Copy)]
+pub struct Folder<'a, R> {
+    pub rt: &'a R,
+    pub root: &'a str,
+}
+
+impl<'a, R: Files> Store for Folder<'a, R> {
+    type Blob = R::File;
+
+    ghost contents = { λ _. None };
+
+    fn open(&self, alloc: Global, digest: &Digest) -> Result<Opened<R::File>, AllocError> {
+        let path = blob_path(alloc, digest)?;
+        open_file(self.rt, alloc, self.root, path.as_str())
+    }
+}
+
+impl<'a, R: Files + AllocGlobal + Clone + Drop> ImageLayout for Folder<'a, R> {
+    ghost tops = { λ _. None };
+
+    fn top(&self, alloc: Global, name: &str) -> Result<Opened<R::File>, AllocError> {
+        open_file(self.rt, alloc, self.root, name)
+    }
+
+    fn list(&self, alloc: Global) -> Result<Vec<Listed>, AllocError> {
+        let mut listed = Vec::new(alloc);
+        list_folders(self.rt, alloc, self.root, &mut listed)?;
+        Ok(listed)
+    }
+}
+
+/// A file below the root. A link is followed; what is no file, as a folder, a device or a FIFO, is not opened.
+fn open_file<R: Files>(
+    rt: &R,
+    alloc: Global,
+    root: &str,
+    name: &str,
+) -> Result<Opened<R::File>, AllocError> {
+    let path = format!(in alloc; "{root}/{name}")?;
+    let about = match fs::metadata(rt, path.as_str()) {
+        Ok(about) => about,
+        Err(fault) => {
+            return Ok(if fault.kind() == ErrorKind::NotFound {
+                Opened::Missing
+            } else {
+                Opened::Unreadable
+            });
+        }
+    };
+    if !about.is_file() {
+        return Ok(Opened::Unreadable);
+    }
+    match fs::open(rt, path.as_str()) {
+        Ok(file) => Ok(Opened::Content(file, Some(about.len()))),
+        Err(_) => Ok(Opened::Unreadable),
+    }
+}
+
+/// Adds what lies in the folders of `blobs`.
+fn list_folders<R: Files + AllocGlobal + Clone + Drop>(
+    rt: &R,
+    alloc: Global,
+    root: &str,
+    listed: &mut Vec<Listed>,
+) -> Result<(), AllocError> {
+    let blobs = format!(in alloc; "{root}/blobs")?;
+    let Ok(folders) = fs::read_dir(rt, blobs.as_str()) else {
+        listed.push(cut_at(alloc, "blobs")?)?;
+        return Ok(());
+    };
+    for folder in folders {
+        match folder {
+            Ok(folder) => {
+                let name = folder.file_name();
+                let path = format!(in alloc; "blobs/{name}")?;
+                list_folder(rt, alloc, root, path.as_str(), listed)?;
+            }
+            Err(_) => listed.push(cut_at(alloc, "blobs")?)?,
+        }
+    }
+    Ok(())
+}
+
+/// Adds what lies in one folder.
+fn list_folder<R: Files + AllocGlobal + Clone + Drop>(
+    rt: &R,
+    alloc: Global,
+    root: &str,
+    folder: &str,
+    listed: &mut Vec<Listed>,
+) -> Result<(), AllocError> {
+    let whole = format!(in alloc; "{root}/{folder}")?;
+    let Ok(files) = fs::read_dir(rt, whole.as_str()) else {
+        listed.push(cut_at(alloc, folder)?)?;
+        return Ok(());
+    };
+    for file in files {
+        match file {
+            Ok(file) => {
+                let name = file.file_name();
+                listed.push(Listed {
+                    path: format!(in alloc; "{folder}/{name}")?,
+                    size: fs::metadata(rt, file.path()).ok().map(|about| about.len()),
+                    cut: false,
+                })?;
+            }
+            Err(_) => listed.push(cut_at(alloc, folder)?)?,
+        }
+    }
+    Ok(())
+}
+
+fn cut_at(alloc: Global, folder: &str) -> Result<Listed, AllocError> {
+    Ok(Listed {
+        path: String::from_str(alloc, folder)?,
+        size: None,
+        cut: true,
+    })
+}

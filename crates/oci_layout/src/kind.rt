@@ -1,0 +1,80 @@
+//! What the contents of an image layout are read as.
+ghost use Rattle.std.specs.Prelude.{◌≡◌, option_map};
+ghost use Rattle.oci_layout.specs.Kinds.{kind_of, own_type, document_shape, is_nondistributable};
+ghost use Rattle.oci_schema_types.specs.Shapes.{schema_shape, shape_at};
+ghost use Rattle.oci_schemas.specs.Table.{shapes};
+
+use oci_schema_types::Schema;
+use oci_schemas::image::image_configuration;
+use oci_schemas::image_manifest::{image_index, image_manifest};
+
+/// What a content is read as, by its media type (image specification, "Media Types", and what it is compatible with).
+#[derive(Clone, Copy, Debug, PartialEq, Eq)]
+pub enum Kind {
+    /// An image index.
+    Index,
+    /// Docker's manifest list, which is read as an image index.
+    DockerList,
+    /// An image manifest.
+    Manifest,
+    /// Docker's image manifest, version 2, schema 2, which is read as an image manifest.
+    DockerManifest,
+    /// An image configuration.
+    Config,
+    /// Docker's image configuration, which is read as an image configuration.
+    DockerConfig,
+    /// Bytes that are not read, as layers.
+    Opaque,
+}
+
+impl Kind {
+    /// What a content of this media type is read as.
+    pub fn of_media_type(media_type: &str) -> Kind
+        ensures { result ≡ kind_of media_type.now }
+    {
+        match media_type {
+            "application/vnd.oci.image.index.v1+json" => Kind::Index,
+            "application/vnd.docker.distribution.manifest.list.v2+json" => Kind::DockerList,
+            "application/vnd.oci.image.manifest.v1+json" => Kind::Manifest,
+            "application/vnd.docker.distribution.manifest.v2+json" => Kind::DockerManifest,
+            "application/vnd.oci.image.config.v1+json" => Kind::Config,
+            "application/vnd.docker.container.image.v1+json" => Kind::DockerConfig,
+            _ => Kind::Opaque,
+        }
+    }
+
+    /// The media type of a document that can say it itself, in `mediaType`.
+    pub fn own_type(self) -> Option<&'static str>
+        ensures { option_map (λ t. t.now) result ≡ own_type self }
+    {
+        match self {
+            Kind::Index => Some("application/vnd.oci.image.index.v1+json"),
+            Kind::DockerList => Some("application/vnd.docker.distribution.manifest.list.v2+json"),
+            Kind::Manifest => Some("application/vnd.oci.image.manifest.v1+json"),
+            Kind::DockerManifest => Some("application/vnd.docker.distribution.manifest.v2+json"),
+            Kind::Config | Kind::DockerConfig | Kind::Opaque => None,
+        }
+    }
+
+    /// The schema of the documents of this kind, by the records of `OciRecords`; none where the bytes are not read.
+    pub fn schema(self) -> Option<&'static Schema>
+        ensures { option_map (λ s. schema_shape (shape_at shapes) s.now) result ≡ document_shape self }
+    {
+        match self {
+            Kind::Index | Kind::DockerList => Some(image_index()),
+            Kind::Manifest | Kind::DockerManifest => Some(image_manifest()),
+            Kind::Config | Kind::DockerConfig => Some(image_configuration()),
+            Kind::Opaque => None,
+        }
+    }
+}
+
+/// Whether a layer of this media type may be had elsewhere alone (image specification, "Non-Distributable Layers").
+pub fn is_nondistributable_type(media_type: &str) -> bool
+    ensures { result ≡ is_nondistributable media_type.now }
+{
+    media_type == "application/vnd.oci.image.layer.nondistributable.v1.tar"
+        || media_type == "application/vnd.oci.image.layer.nondistributable.v1.tar+gzip"
+        || media_type == "application/vnd.oci.image.layer.nondistributable.v1.tar+zstd"
+        || media_type == "application/vnd.docker.image.rootfs.foreign.diff.tar.gzip"
+}

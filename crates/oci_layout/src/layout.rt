@@ -1,0 +1,170 @@
+//! Looking at claims in a store of contents.
+ghost use Rattle.std.specs.Prelude.{◌≡◌, ◌<◌, ℕ, List, length, None, IfOk, IfSome};
+ghost use Rattle.oci_layout.specs.Kinds.{document_shape};
+ghost use Rattle.oci_layout.specs.Looks.{Shows, IsFound, IsVerified, IsVerifiedOrUnreadable, IsJudgedBy, IsCut, fault_of};
+
+use crate::claim::{Claim, Fault, Seen, Shown};
+use crate::document::read_document;
+use crate::kind::Kind;
+use crate::store::{Opened, Store};
+use oci_content::{Verdict, verify_bytes, verify_reader_bytes};
+use std::alloc::{AllocError, Global};
+use std::io::Read;
+
+/// A store whose contents are looked at.
+pub struct Layout<'a, S> {
+    pub store: &'a S,
+    /// How large a document may be.
+    pub limit: u64,
+    /// Whether contents that are no documents are left unread: their sizes alone are looked at.
+    pub quick: bool,
+}
+
+impl<'a, S> Drop for Layout<'a, S> {
+    fn drop(self) {
+        let Layout {
+            store,
+            limit,
+            quick,
+        } = self;
+    }
+}
+
+impl<'a, S: Store> Shown for Layout<'a, S> {
+    ghost shows = { λ l. Shows l.quick l.limit (S.contents l.store.now) };
+
+    fn look(&self, alloc: Global, claim: &Claim, buffer: &mut [u8]) -> Result<Seen, AllocError> {
+        match self.store.open(alloc, &claim.digest)? {
+            Opened::Missing => Ok(Seen::of_fault(alloc, Fault::Missing)),
+            Opened::Unreadable => Ok(Seen::of_fault(alloc, Fault::Unreadable)),
+            Opened::Content(mut blob, size) => {
+                if let Some(seen) = look_at_size(alloc, claim, size) {
+                    return Ok(seen);
+                }
+                if self.quick && claim.kind.schema().is_none() {
+                    return Ok(Seen::nothing(alloc));
+                }
+                look_at(alloc, claim, self.limit, &mut blob, buffer)
+            }
+        }
+    }
+}
+
+/// What is found by the size of a content alone, where it is not the one that is said.
+fn look_at_size(alloc: Global, claim: &Claim, size: Option<u64>) -> Option<Seen>
+    ensures { IfSome result (λ s. (bytes : List ℕ) → IfSome size (λ n. n ≡ length bytes) → IsVerified bytes claim.now s.fault s.claims.items) }
+{
+    let found = size?;
+    if found < claim.size {
+        Some(Seen::of_fault(alloc, Fault::Shorter(found)))
+    } else if found > claim.size {
+        Some(Seen::of_fault(alloc, Fault::Longer))
+    } else {
+        None
+    }
+}
+
+/// What is found at a claim of what is left to read.
+fn look_at<R: Read>(
+    alloc: Global,
+    claim: &Claim,
+    limit: u64,
+    blob: &mut R,
+    buffer: &mut [u8],
+) -> Result<Seen, AllocError>
+    requires { 0 < length buffer.old }
+    ensures { IfOk result (λ s. IfSome (R.remaining blob.old) (λ bytes. IsFound limit bytes claim.now s.fault s.claims.items)) }
+{
+    match claim.kind.schema() {
+        None => look_at_bytes(alloc, claim, blob, buffer),
+        Some(_) => {
+            if claim.size > limit {
+                Ok(Seen::of_fault(alloc, Fault::TooLarge))
+            } else {
+                look_at_document(alloc, claim, blob, buffer)
+            }
+        }
+    }
+}
+
+/// What is found at a claim of bytes that are no document.
+fn look_at_bytes<R: Read>(
+    alloc: Global,
+    claim: &Claim,
+    blob: &mut R,
+    buffer: &mut [u8],
+) -> Result<Seen, AllocError>
+    requires { 0 < length buffer.old }
+    ensures { document_shape claim.now.kind ≡ None → IfOk result (λ s. IfSome (R.remaining blob.old) (λ bytes. IsVerifiedOrUnreadable bytes claim.now s.fault s.claims.items)) }
+{
+    match verify_reader_bytes(claim.digest.as_ref(), claim.size, blob, buffer) {
+        Ok(verdict) => judged(alloc, verdict, claim.kind, &[]),
+        Err(_) => Ok(Seen::of_fault(alloc, Fault::Unreadable)),
+    }
+}
+
+/// What is found at a claim of a document.
+fn look_at_document<R: Read>(
+    alloc: Global,
+    claim: &Claim,
+    blob: &mut R,
+    buffer: &mut [u8],
+) -> Result<Seen, AllocError>
+    requires { 0 < length buffer.old }
+    ensures { IfOk result (λ s. IfSome (R.remaining blob.old) (λ bytes. IsVerifiedOrUnreadable bytes claim.now s.fault s.claims.items)) }
+{
+    let Some(bytes) = read_sized(alloc, blob, claim.size, buffer)? else {
+        return Ok(Seen::of_fault(alloc, Fault::Unreadable));
+    };
+    let verdict = verify_bytes(claim.digest.as_ref(), claim.size, bytes.as_slice());
+    judged(alloc, verdict, claim.kind, bytes.as_slice())
+}
+
+/// What stands against a content by its verdict.
+fn verdict_fault(verdict: Verdict) -> Option<Fault>
+    ensures { result ≡ fault_of verdict }
+{
+    match verdict {
+        Verdict::Same => None,
+        Verdict::Shorter(found) => Some(Fault::Shorter(found)),
+        Verdict::Longer => Some(Fault::Longer),
+        Verdict::OtherDigest(found) => Some(Fault::OtherDigest(found)),
+        Verdict::Unjudged => Some(Fault::Unjudged),
+    }
+}
+
+/// What is found in bytes with this verdict.
+fn judged(alloc: Global, verdict: Verdict, kind: Kind, bytes: &[u8]) -> Result<Seen, AllocError>
+    ensures { IfOk result (λ s. IsJudgedBy (fault_of verdict) kind bytes.now s.fault s.claims.items) }
+{
+    match verdict_fault(verdict) {
+        None => read_document(alloc, kind, bytes),
+        Some(fault) => Ok(Seen::of_fault(alloc, fault)),
+    }
+}
+
+/// All that is left to read, or a beginning of it that is longer than `size`; none where a read fails. Fails if out of memory.
+pub fn read_sized<R: Read>(
+    alloc: Global,
+    reader: &mut R,
+    size: u64,
+    buffer: &mut [u8],
+) -> Result<Option<Vec<u8>>, AllocError>
+    requires { 0 < length buffer.old }
+    ensures { IfOk result (λ read. IfSome read (λ bytes. IfSome (R.remaining reader.old) (λ all. IsCut bytes.items all size))) }
+{
+    let mut bytes = Vec::new(alloc);
+    'pieces: loop {
+        let Ok(count) = reader.read(buffer) else {
+            return Ok(None);
+        };
+        if count == 0 {
+            break;
+        }
+        bytes.extend_from_slice(&buffer[..count])?;
+        if bytes.len() as u64 > size {
+            break;
+        }
+    }
+    Ok(Some(bytes))
+}

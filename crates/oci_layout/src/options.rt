@@ -1,0 +1,32 @@
+//! How a layout is verified.
+
+/// How a layout is verified, and how that is told.
+#[derive(Clone, Copy, Debug, PartialEq, Eq)]
+pub struct Options {
+    /// One JSON document at the end, in place of lines.
+    pub json: bool,
+    /// Notes count as findings.
+    pub strict: bool,
+    /// Contents that are no documents are left unread: their sizes alone are looked at.
+    pub quick: bool,
+    /// A line a second of what was done, on the error stream.
+    pub progress: bool,
+    /// How large a document may be, in bytes.
+    pub limit: u64,
+}
+
+/// What registries have to take: 4 MiB (distribution specification, "Pushing Manifests").
+pub const DOCUMENT_LIMIT: u64 = 4194304;
+
+impl Options {
+    /// No option, and documents of 4 MiB at most.
+    pub fn new() -> Options {
+        Options {
+            json: false,
+            strict: false,
+            quick: false,
+            progress: false,
+            limit: DOCUMENT_LIMIT,
+        }
+    }
+}
