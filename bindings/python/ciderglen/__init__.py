@@ -157,7 +157,10 @@ def _raise(number: int) -> None:
 
 
 def _output(capacity: int, function: Callable[..., int], *inputs: object, outputs: tuple = ()) -> bytes:
-    """Calls with a buffer of the first capacity, and again with the capacity that is needed."""
+    """Calls with a buffer of the first capacity, and again with the capacity that is needed.
+
+    No pointer is NULL: inputs are `bytes`, which have an address where they are empty, too, and a buffer has one byte at least.
+    """
     length = ctypes.c_size_t()
     while True:
         buffer = ctypes.create_string_buffer(max(capacity, 1))

@@ -12,8 +12,8 @@
 //! # Ok::<(), ciderglen::Error>(())
 //! ```
 //!
-//! The static library `libciderglen.a` is linked; `CIDERGLEN_LIB_DIR` names its folder where the linker does not find it by itself. All
-//! calls may be made from any thread.
+//! The static library `libciderglen.a` is linked: from the folder that `CIDERGLEN_LIB_DIR` names, or else where pkg-config finds it, or
+//! in `/usr/local/lib`. All calls may be made from any thread.
 
 use ciderglen_sys as sys;
 use std::fmt;
@@ -177,7 +177,7 @@ fn text(bytes: Vec<u8>) -> Result<String, Error> {
 ///
 /// `InvalidJson` or `InvalidDocument` if there is none, and `OutOfMemory`.
 pub fn normalize(kind: Kind, document: &[u8]) -> Result<Vec<u8>, Error> {
-    // SAFETY: the pointers are not null, those of slices with these lengths, and the outputs overlap nothing.
+    // SAFETY: the pointers are those of slices with these lengths, not null where they are empty, too, and the outputs overlap nothing.
     output(document.len() + 64, |buffer, capacity, len| unsafe {
         sys::ciderglen_normalize(
             kind as u32,

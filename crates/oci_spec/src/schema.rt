@@ -9,7 +9,7 @@ pub mod typed;
 pub use oci_schema::{
     DefaultValue, Expected, Kind, Member, Part, Presence, Record, Records, Scalar, Schema,
     Violation, is_valid, normal_value_from_reader, normalize, normalize_pretty, normalize_value,
-    violations,
+    violation_lines, violations,
 };
 pub use oci_schemas::{OciRecords, oci_records};
 pub use typed::{

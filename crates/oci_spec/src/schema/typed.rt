@@ -1,5 +1,6 @@
 //! Schemas by types.
 ghost use Rattle.std.specs.Prelude.{◌≡◌, ◌↔◌, [], true, map, IfOk, IfErr, OnOk};
+ghost use Rattle.std.specs.List.{Contains};
 ghost use Rattle.serde_json.specs.View.{view};
 ghost use Rattle.oci_text_base.specs.Refused.{IsSchema, IsMemoryOrSchema};
 ghost use Rattle.oci_json_model.specs.Plain.{Plain};
@@ -8,7 +9,8 @@ ghost use Rattle.oci_json_model.specs.Value.{value as json_of};
 ghost use Rattle.oci_json_model.specs.Writable.{Writable};
 ghost use Rattle.oci_json_io.specs.Engines.{WritesDocument, ReadsBackDocument};
 ghost use Rattle.oci_schema_types.specs.Shapes.{schema_shape};
-ghost use Rattle.oci_schema_walks.specs.Violations.{reported, violations as all_violations};
+ghost use Rattle.oci_schema_walks.specs.Violations.{Report, reported, violations as all_violations};
+ghost use Rattle.oci_schema_walks.specs.Wants.{IsViolation};
 ghost use Rattle.oci_schema_walks.specs.Normalized.{HasNoNormalForm};
 ghost use Rattle.oci_schema.specs.Normalizes.{Normalizes, WritesPretty};
 
@@ -38,13 +40,14 @@ pub fn is_valid_as<T: HasSchema>(value: &Value) -> bool
     oci_schema::is_valid(records, schema, value)
 }
 
-/// Returns every violation of the schema of `T` in `value`, in schema order: none exactly if `value` is a valid `T`. Fails if out
-/// of memory.
+/// Returns every violation of the schema of `T` in `value`, in schema order, as `violations` does: none exactly if `value` is a valid
+/// `T`. Fails if out of memory.
 pub fn violations_as<T: HasSchema>(
     value: &Value,
     alloc: Global,
 ) -> std::result::Result<Vec<Violation>, AllocError>
     ensures all { IfOk result (λ v. map reported v.items ≡ all_violations T.shape [] (view value.now)) }
+    ensures exact { IfOk result (λ v. (x : Report) → Contains (map reported v.items) x ↔ IsViolation T.shape (view value.now) x) }
     ensures none { IfOk result (λ v. (v.items ≡ []) ↔ ((p : Plain) × Means T.shape (view value.now) p)) }
 {
     let (records, schema) = T::schema();
