@@ -5,7 +5,7 @@ use Rattle.oci_rule_texts.specs.declared.grammar.Grammar.TheVariants.{MediaType}
 use Rattle.oci_rules.specs.Rules.{Rule, must, stated, should, host, here, under, each_item, if_so, asks, the_part, is_there, is_text, text, one_of, none_of, within, there, absent, not_empty, beneath}
 use Rattle.oci_rules_image.specs.Lists.{every, layer_types, nondistributable_types, subject_types}
 use Rattle.oci_rules_image.specs.Annotations.{image_annotations_elsewhere_rules}
-use Rattle.oci_rules_image.specs.Descriptor.{any_descriptor_rules}
+use Rattle.oci_rules_image.specs.Descriptor.{bare_descriptor_rules}
 
 -- the book of manifest
 abbrev pub manifest_rules : List Rule
@@ -34,14 +34,29 @@ manifest_annotations_rules =
 -- the book of manifest config
 abbrev pub manifest_config_rules : List Rule
 manifest_config_rules =
-    map (beneath (λ p. under (codes "config") p)) any_descriptor_rules
+    map (beneath (λ p. under (codes "config") p)) bare_descriptor_rules
+
+-- the book of manifest config annotations
+abbrev pub manifest_config_annotations_rules : List Rule
+manifest_config_annotations_rules =
+    map (beneath (λ p. under (codes "config") (under (codes "annotations") p))) image_annotations_elsewhere_rules
 
 -- the book of manifest layers
 abbrev pub manifest_layers_rules : List Rule
 manifest_layers_rules =
-    map (beneath (λ p. under (codes "layers") (each_item p))) any_descriptor_rules
+    map (beneath (λ p. under (codes "layers") (each_item p))) bare_descriptor_rules
+
+-- the book of manifest layers annotations
+abbrev pub manifest_layers_annotations_rules : List Rule
+manifest_layers_annotations_rules =
+    map (beneath (λ p. under (codes "layers") (each_item (under (codes "annotations") p)))) image_annotations_elsewhere_rules
 
 -- the book of manifest subject
 abbrev pub manifest_subject_rules : List Rule
 manifest_subject_rules =
-    map (beneath (λ p. under (codes "subject") p)) any_descriptor_rules
+    map (beneath (λ p. under (codes "subject") p)) bare_descriptor_rules
+
+-- the book of manifest subject annotations
+abbrev pub manifest_subject_annotations_rules : List Rule
+manifest_subject_annotations_rules =
+    map (beneath (λ p. under (codes "subject") (under (codes "annotations") p))) image_annotations_elsewhere_rules
