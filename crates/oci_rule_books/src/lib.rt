@@ -2,7 +2,7 @@
 //! The books of rules of each kind of documents.
 #![tactic(auto)]
 
-ghost use Rattle.std.specs.Prelude.{◌≡◌, map};
+ghost use Rattle.std.specs.Prelude.{◌≡◌, map, IfOk};
 ghost use Rattle.std.specs.List.{flat_map};
 ghost use Rattle.oci_rules.specs.Tables.{rule_of};
 ghost use Rattle.oci_rule_books.specs.Kinds as kinds;
@@ -34,576 +34,205 @@ use oci_rules_runtime::{
     spec_hooks_2_rules, spec_hooks_3_rules, spec_hooks_rules, spec_mounts_2_rules,
     spec_mounts_3_rules, spec_mounts_rules, spec_rules, state_rules,
 };
+use std::alloc::{AllocError, Global};
 
-/// The number of books that the kind with the most of them has.
-pub const BOOKS: usize = 32;
-
-static NONE: [Rule<'static>; 0] = [];
-
-/// Returns the books of a kind of documents, in their order; those after the last are empty.
-pub fn rules_of(kind: Kind) -> [&'static [Rule<'static>]; BOOKS]
-    ensures { flat_map (λ b. map rule_of b.now) result ≡ kinds.rules_of kind }
+/// Returns the books of a kind of documents, in their order. Fails if out of memory.
+pub fn rules_of(kind: Kind, alloc: Global) -> Result<Vec<&'static [Rule<'static>]>, AllocError>
+    ensures { IfOk result (λ v. flat_map (λ b. map rule_of b.now) v.items ≡ kinds.rules_of kind) }
 {
     match kind {
-        Kind::Manifest => manifest_books(),
-        Kind::Index => index_books(),
-        Kind::Config => config_books(),
-        Kind::Artifact => artifact_books(),
-        Kind::Layout => layout_books(),
-        Kind::Descriptor => descriptor_books(),
-        Kind::Error => error_books(),
-        Kind::Repositories => repositories_books(),
-        Kind::Tags => tags_books(),
-        Kind::Reference => reference_books(),
-        Kind::Spec => spec_books(),
-        Kind::State => state_books(),
-        Kind::ProcessState => process_state_books(),
-        Kind::Features => features_books(),
+        Kind::Manifest => manifest_books(alloc),
+        Kind::Index => index_books(alloc),
+        Kind::Config => config_books(alloc),
+        Kind::Artifact => artifact_books(alloc),
+        Kind::Layout => layout_books(alloc),
+        Kind::Descriptor => descriptor_books(alloc),
+        Kind::Error => error_books(alloc),
+        Kind::Repositories => repositories_books(alloc),
+        Kind::Tags => tags_books(alloc),
+        Kind::Reference => reference_books(alloc),
+        Kind::Spec => spec_books(alloc),
+        Kind::State => state_books(alloc),
+        Kind::ProcessState => process_state_books(alloc),
+        Kind::Features => features_books(alloc),
     }
 }
 
-fn manifest_books() -> [&'static [Rule<'static>]; BOOKS]
-    ensures { flat_map (λ b. map rule_of b.now) result ≡ kinds.rules_of kind.Manifest }
+fn manifest_books(alloc: Global) -> Result<Vec<&'static [Rule<'static>]>, AllocError>
+    ensures { IfOk result (λ v. flat_map (λ b. map rule_of b.now) v.items ≡ kinds.rules_of kind.Manifest) }
 {
-    [
-        manifest_rules(),
-        manifest_2_rules(),
-        manifest_annotations_rules(),
-        manifest_config_rules(),
-        manifest_config_annotations_rules(),
-        manifest_layers_rules(),
-        manifest_layers_annotations_rules(),
-        manifest_subject_rules(),
-        manifest_subject_annotations_rules(),
-        &NONE,
-        &NONE,
-        &NONE,
-        &NONE,
-        &NONE,
-        &NONE,
-        &NONE,
-        &NONE,
-        &NONE,
-        &NONE,
-        &NONE,
-        &NONE,
-        &NONE,
-        &NONE,
-        &NONE,
-        &NONE,
-        &NONE,
-        &NONE,
-        &NONE,
-        &NONE,
-        &NONE,
-        &NONE,
-        &NONE,
-    ]
+    collected(
+        &[
+            manifest_rules(),
+            manifest_2_rules(),
+            manifest_annotations_rules(),
+            manifest_config_rules(),
+            manifest_config_annotations_rules(),
+            manifest_layers_rules(),
+            manifest_layers_annotations_rules(),
+            manifest_subject_rules(),
+            manifest_subject_annotations_rules(),
+        ],
+        alloc,
+    )
 }
 
-fn index_books() -> [&'static [Rule<'static>]; BOOKS]
-    ensures { flat_map (λ b. map rule_of b.now) result ≡ kinds.rules_of kind.Index }
+fn index_books(alloc: Global) -> Result<Vec<&'static [Rule<'static>]>, AllocError>
+    ensures { IfOk result (λ v. flat_map (λ b. map rule_of b.now) v.items ≡ kinds.rules_of kind.Index) }
 {
-    [
-        index_rules(),
-        index_2_rules(),
-        index_combinations_rules(),
-        index_combinations_2_rules(),
-        index_annotations_rules(),
-        index_manifests_rules(),
-        index_manifests_annotations_rules(),
-        index_subject_rules(),
-        index_subject_annotations_rules(),
-        &NONE,
-        &NONE,
-        &NONE,
-        &NONE,
-        &NONE,
-        &NONE,
-        &NONE,
-        &NONE,
-        &NONE,
-        &NONE,
-        &NONE,
-        &NONE,
-        &NONE,
-        &NONE,
-        &NONE,
-        &NONE,
-        &NONE,
-        &NONE,
-        &NONE,
-        &NONE,
-        &NONE,
-        &NONE,
-        &NONE,
-    ]
+    collected(
+        &[
+            index_rules(),
+            index_2_rules(),
+            index_combinations_rules(),
+            index_combinations_2_rules(),
+            index_annotations_rules(),
+            index_manifests_rules(),
+            index_manifests_annotations_rules(),
+            index_subject_rules(),
+            index_subject_annotations_rules(),
+        ],
+        alloc,
+    )
 }
 
-fn config_books() -> [&'static [Rule<'static>]; BOOKS]
-    ensures { flat_map (λ b. map rule_of b.now) result ≡ kinds.rules_of kind.Config }
+fn config_books(alloc: Global) -> Result<Vec<&'static [Rule<'static>]>, AllocError>
+    ensures { IfOk result (λ v. flat_map (λ b. map rule_of b.now) v.items ≡ kinds.rules_of kind.Config) }
 {
-    [
-        config_rules(),
-        config_2_rules(),
-        config_combinations_rules(),
-        config_combinations_2_rules(),
-        config_labels_rules(),
-        &NONE,
-        &NONE,
-        &NONE,
-        &NONE,
-        &NONE,
-        &NONE,
-        &NONE,
-        &NONE,
-        &NONE,
-        &NONE,
-        &NONE,
-        &NONE,
-        &NONE,
-        &NONE,
-        &NONE,
-        &NONE,
-        &NONE,
-        &NONE,
-        &NONE,
-        &NONE,
-        &NONE,
-        &NONE,
-        &NONE,
-        &NONE,
-        &NONE,
-        &NONE,
-        &NONE,
-    ]
+    collected(
+        &[
+            config_rules(),
+            config_2_rules(),
+            config_combinations_rules(),
+            config_combinations_2_rules(),
+            config_labels_rules(),
+        ],
+        alloc,
+    )
 }
 
-fn artifact_books() -> [&'static [Rule<'static>]; BOOKS]
-    ensures { flat_map (λ b. map rule_of b.now) result ≡ kinds.rules_of kind.Artifact }
+fn artifact_books(alloc: Global) -> Result<Vec<&'static [Rule<'static>]>, AllocError>
+    ensures { IfOk result (λ v. flat_map (λ b. map rule_of b.now) v.items ≡ kinds.rules_of kind.Artifact) }
 {
-    [
-        artifact_rules(),
-        artifact_annotations_rules(),
-        artifact_blobs_rules(),
-        artifact_blobs_annotations_rules(),
-        artifact_subject_rules(),
-        artifact_subject_annotations_rules(),
-        &NONE,
-        &NONE,
-        &NONE,
-        &NONE,
-        &NONE,
-        &NONE,
-        &NONE,
-        &NONE,
-        &NONE,
-        &NONE,
-        &NONE,
-        &NONE,
-        &NONE,
-        &NONE,
-        &NONE,
-        &NONE,
-        &NONE,
-        &NONE,
-        &NONE,
-        &NONE,
-        &NONE,
-        &NONE,
-        &NONE,
-        &NONE,
-        &NONE,
-        &NONE,
-    ]
+    collected(
+        &[
+            artifact_rules(),
+            artifact_annotations_rules(),
+            artifact_blobs_rules(),
+            artifact_blobs_annotations_rules(),
+            artifact_subject_rules(),
+            artifact_subject_annotations_rules(),
+        ],
+        alloc,
+    )
 }
 
-fn layout_books() -> [&'static [Rule<'static>]; BOOKS]
-    ensures { flat_map (λ b. map rule_of b.now) result ≡ kinds.rules_of kind.Layout }
+fn layout_books(alloc: Global) -> Result<Vec<&'static [Rule<'static>]>, AllocError>
+    ensures { IfOk result (λ v. flat_map (λ b. map rule_of b.now) v.items ≡ kinds.rules_of kind.Layout) }
 {
-    [
-        layout_rules(),
-        &NONE,
-        &NONE,
-        &NONE,
-        &NONE,
-        &NONE,
-        &NONE,
-        &NONE,
-        &NONE,
-        &NONE,
-        &NONE,
-        &NONE,
-        &NONE,
-        &NONE,
-        &NONE,
-        &NONE,
-        &NONE,
-        &NONE,
-        &NONE,
-        &NONE,
-        &NONE,
-        &NONE,
-        &NONE,
-        &NONE,
-        &NONE,
-        &NONE,
-        &NONE,
-        &NONE,
-        &NONE,
-        &NONE,
-        &NONE,
-        &NONE,
-    ]
+    collected(&[layout_rules()], alloc)
 }
 
-fn descriptor_books() -> [&'static [Rule<'static>]; BOOKS]
-    ensures { flat_map (λ b. map rule_of b.now) result ≡ kinds.rules_of kind.Descriptor }
+fn descriptor_books(alloc: Global) -> Result<Vec<&'static [Rule<'static>]>, AllocError>
+    ensures { IfOk result (λ v. flat_map (λ b. map rule_of b.now) v.items ≡ kinds.rules_of kind.Descriptor) }
 {
-    [
-        descriptor_rules(),
-        descriptor_annotations_rules(),
-        &NONE,
-        &NONE,
-        &NONE,
-        &NONE,
-        &NONE,
-        &NONE,
-        &NONE,
-        &NONE,
-        &NONE,
-        &NONE,
-        &NONE,
-        &NONE,
-        &NONE,
-        &NONE,
-        &NONE,
-        &NONE,
-        &NONE,
-        &NONE,
-        &NONE,
-        &NONE,
-        &NONE,
-        &NONE,
-        &NONE,
-        &NONE,
-        &NONE,
-        &NONE,
-        &NONE,
-        &NONE,
-        &NONE,
-        &NONE,
-    ]
+    collected(&[descriptor_rules(), descriptor_annotations_rules()], alloc)
 }
 
-fn error_books() -> [&'static [Rule<'static>]; BOOKS]
-    ensures { flat_map (λ b. map rule_of b.now) result ≡ kinds.rules_of kind.Error }
+fn error_books(alloc: Global) -> Result<Vec<&'static [Rule<'static>]>, AllocError>
+    ensures { IfOk result (λ v. flat_map (λ b. map rule_of b.now) v.items ≡ kinds.rules_of kind.Error) }
 {
-    [
-        error_rules(),
-        &NONE,
-        &NONE,
-        &NONE,
-        &NONE,
-        &NONE,
-        &NONE,
-        &NONE,
-        &NONE,
-        &NONE,
-        &NONE,
-        &NONE,
-        &NONE,
-        &NONE,
-        &NONE,
-        &NONE,
-        &NONE,
-        &NONE,
-        &NONE,
-        &NONE,
-        &NONE,
-        &NONE,
-        &NONE,
-        &NONE,
-        &NONE,
-        &NONE,
-        &NONE,
-        &NONE,
-        &NONE,
-        &NONE,
-        &NONE,
-        &NONE,
-    ]
+    collected(&[error_rules()], alloc)
 }
 
-fn repositories_books() -> [&'static [Rule<'static>]; BOOKS]
-    ensures { flat_map (λ b. map rule_of b.now) result ≡ kinds.rules_of kind.Repositories }
+fn repositories_books(alloc: Global) -> Result<Vec<&'static [Rule<'static>]>, AllocError>
+    ensures { IfOk result (λ v. flat_map (λ b. map rule_of b.now) v.items ≡ kinds.rules_of kind.Repositories) }
 {
-    [
-        repositories_rules(),
-        &NONE,
-        &NONE,
-        &NONE,
-        &NONE,
-        &NONE,
-        &NONE,
-        &NONE,
-        &NONE,
-        &NONE,
-        &NONE,
-        &NONE,
-        &NONE,
-        &NONE,
-        &NONE,
-        &NONE,
-        &NONE,
-        &NONE,
-        &NONE,
-        &NONE,
-        &NONE,
-        &NONE,
-        &NONE,
-        &NONE,
-        &NONE,
-        &NONE,
-        &NONE,
-        &NONE,
-        &NONE,
-        &NONE,
-        &NONE,
-        &NONE,
-    ]
+    collected(&[repositories_rules()], alloc)
 }
 
-fn tags_books() -> [&'static [Rule<'static>]; BOOKS]
-    ensures { flat_map (λ b. map rule_of b.now) result ≡ kinds.rules_of kind.Tags }
+fn tags_books(alloc: Global) -> Result<Vec<&'static [Rule<'static>]>, AllocError>
+    ensures { IfOk result (λ v. flat_map (λ b. map rule_of b.now) v.items ≡ kinds.rules_of kind.Tags) }
 {
-    [
-        tags_rules(),
-        &NONE,
-        &NONE,
-        &NONE,
-        &NONE,
-        &NONE,
-        &NONE,
-        &NONE,
-        &NONE,
-        &NONE,
-        &NONE,
-        &NONE,
-        &NONE,
-        &NONE,
-        &NONE,
-        &NONE,
-        &NONE,
-        &NONE,
-        &NONE,
-        &NONE,
-        &NONE,
-        &NONE,
-        &NONE,
-        &NONE,
-        &NONE,
-        &NONE,
-        &NONE,
-        &NONE,
-        &NONE,
-        &NONE,
-        &NONE,
-        &NONE,
-    ]
+    collected(&[tags_rules()], alloc)
 }
 
-fn reference_books() -> [&'static [Rule<'static>]; BOOKS]
-    ensures { flat_map (λ b. map rule_of b.now) result ≡ kinds.rules_of kind.Reference }
+fn reference_books(alloc: Global) -> Result<Vec<&'static [Rule<'static>]>, AllocError>
+    ensures { IfOk result (λ v. flat_map (λ b. map rule_of b.now) v.items ≡ kinds.rules_of kind.Reference) }
 {
-    [
-        reference_rules(),
-        &NONE,
-        &NONE,
-        &NONE,
-        &NONE,
-        &NONE,
-        &NONE,
-        &NONE,
-        &NONE,
-        &NONE,
-        &NONE,
-        &NONE,
-        &NONE,
-        &NONE,
-        &NONE,
-        &NONE,
-        &NONE,
-        &NONE,
-        &NONE,
-        &NONE,
-        &NONE,
-        &NONE,
-        &NONE,
-        &NONE,
-        &NONE,
-        &NONE,
-        &NONE,
-        &NONE,
-        &NONE,
-        &NONE,
-        &NONE,
-        &NONE,
-    ]
+    collected(&[reference_rules()], alloc)
 }
 
-fn spec_books() -> [&'static [Rule<'static>]; BOOKS]
-    ensures { flat_map (λ b. map rule_of b.now) result ≡ kinds.rules_of kind.Spec }
+fn spec_books(alloc: Global) -> Result<Vec<&'static [Rule<'static>]>, AllocError>
+    ensures { IfOk result (λ v. flat_map (λ b. map rule_of b.now) v.items ≡ kinds.rules_of kind.Spec) }
 {
-    [
-        spec_rules(),
-        spec_2_rules(),
-        spec_3_rules(),
-        spec_4_rules(),
-        spec_mounts_rules(),
-        spec_mounts_2_rules(),
-        spec_mounts_3_rules(),
-        spec_hooks_rules(),
-        spec_hooks_2_rules(),
-        spec_hooks_3_rules(),
-        process_rules(),
-        process_2_rules(),
-        process_3_rules(),
-        process_capabilities_rules(),
-        process_capabilities_2_rules(),
-        linux_rules(),
-        linux_2_rules(),
-        linux_3_rules(),
-        linux_mappings_rules(),
-        linux_mappings_2_rules(),
-        linux_mappings_host_rules(),
-        linux_mappings_host_2_rules(),
-        linux_resources_rules(),
-        linux_resources_2_rules(),
-        linux_resources_3_rules(),
-        linux_block_rules(),
-        linux_block_2_rules(),
-        linux_seccomp_rules(),
-        linux_seccomp_2_rules(),
-        linux_sysctl_rules(),
-        platforms_rules(),
-        platforms_2_rules(),
-    ]
+    collected(
+        &[
+            spec_rules(),
+            spec_2_rules(),
+            spec_3_rules(),
+            spec_4_rules(),
+            spec_mounts_rules(),
+            spec_mounts_2_rules(),
+            spec_mounts_3_rules(),
+            spec_hooks_rules(),
+            spec_hooks_2_rules(),
+            spec_hooks_3_rules(),
+            process_rules(),
+            process_2_rules(),
+            process_3_rules(),
+            process_capabilities_rules(),
+            process_capabilities_2_rules(),
+            linux_rules(),
+            linux_2_rules(),
+            linux_3_rules(),
+            linux_mappings_rules(),
+            linux_mappings_2_rules(),
+            linux_mappings_host_rules(),
+            linux_mappings_host_2_rules(),
+            linux_resources_rules(),
+            linux_resources_2_rules(),
+            linux_resources_3_rules(),
+            linux_block_rules(),
+            linux_block_2_rules(),
+            linux_seccomp_rules(),
+            linux_seccomp_2_rules(),
+            linux_sysctl_rules(),
+            platforms_rules(),
+            platforms_2_rules(),
+        ],
+        alloc,
+    )
 }
 
-fn state_books() -> [&'static [Rule<'static>]; BOOKS]
-    ensures { flat_map (λ b. map rule_of b.now) result ≡ kinds.rules_of kind.State }
+fn state_books(alloc: Global) -> Result<Vec<&'static [Rule<'static>]>, AllocError>
+    ensures { IfOk result (λ v. flat_map (λ b. map rule_of b.now) v.items ≡ kinds.rules_of kind.State) }
 {
-    [
-        state_rules(),
-        &NONE,
-        &NONE,
-        &NONE,
-        &NONE,
-        &NONE,
-        &NONE,
-        &NONE,
-        &NONE,
-        &NONE,
-        &NONE,
-        &NONE,
-        &NONE,
-        &NONE,
-        &NONE,
-        &NONE,
-        &NONE,
-        &NONE,
-        &NONE,
-        &NONE,
-        &NONE,
-        &NONE,
-        &NONE,
-        &NONE,
-        &NONE,
-        &NONE,
-        &NONE,
-        &NONE,
-        &NONE,
-        &NONE,
-        &NONE,
-        &NONE,
-    ]
+    collected(&[state_rules()], alloc)
 }
 
-fn process_state_books() -> [&'static [Rule<'static>]; BOOKS]
-    ensures { flat_map (λ b. map rule_of b.now) result ≡ kinds.rules_of kind.ProcessState }
+fn process_state_books(alloc: Global) -> Result<Vec<&'static [Rule<'static>]>, AllocError>
+    ensures { IfOk result (λ v. flat_map (λ b. map rule_of b.now) v.items ≡ kinds.rules_of kind.ProcessState) }
 {
-    [
-        process_state_rules(),
-        process_state_2_rules(),
-        &NONE,
-        &NONE,
-        &NONE,
-        &NONE,
-        &NONE,
-        &NONE,
-        &NONE,
-        &NONE,
-        &NONE,
-        &NONE,
-        &NONE,
-        &NONE,
-        &NONE,
-        &NONE,
-        &NONE,
-        &NONE,
-        &NONE,
-        &NONE,
-        &NONE,
-        &NONE,
-        &NONE,
-        &NONE,
-        &NONE,
-        &NONE,
-        &NONE,
-        &NONE,
-        &NONE,
-        &NONE,
-        &NONE,
-        &NONE,
-    ]
+    collected(&[process_state_rules(), process_state_2_rules()], alloc)
 }
 
-fn features_books() -> [&'static [Rule<'static>]; BOOKS]
-    ensures { flat_map (λ b. map rule_of b.now) result ≡ kinds.rules_of kind.Features }
+fn features_books(alloc: Global) -> Result<Vec<&'static [Rule<'static>]>, AllocError>
+    ensures { IfOk result (λ v. flat_map (λ b. map rule_of b.now) v.items ≡ kinds.rules_of kind.Features) }
 {
-    [
-        features_rules(),
-        features_2_rules(),
-        features_3_rules(),
-        &NONE,
-        &NONE,
-        &NONE,
-        &NONE,
-        &NONE,
-        &NONE,
-        &NONE,
-        &NONE,
-        &NONE,
-        &NONE,
-        &NONE,
-        &NONE,
-        &NONE,
-        &NONE,
-        &NONE,
-        &NONE,
-        &NONE,
-        &NONE,
-        &NONE,
-        &NONE,
-        &NONE,
-        &NONE,
-        &NONE,
-        &NONE,
-        &NONE,
-        &NONE,
-        &NONE,
-        &NONE,
-        &NONE,
-    ]
+    collected(
+        &[features_rules(), features_2_rules(), features_3_rules()],
+        alloc,
+    )
+}
+
+fn collected(
+    books: &[&'static [Rule<'static>]],
+    alloc: Global,
+) -> Result<Vec<&'static [Rule<'static>]>, AllocError>
+    ensures { IfOk result (λ v. v.items ≡ books.now) }
+{
+    let mut out = Vec::new(alloc);
+    out.extend_from_slice(books)?;
+    Ok(out)
 }
