@@ -1,7 +1,7 @@
 -- Licence expressions (SPDX specification 2.3, annex D, with identifiers by their shape: no list of licences or exceptions is asked).
-use Rattle.std.specs.Prelude.{ℕ, ◌≡◌, ◌&&◌, ◌||◌, ◌==◌, Bool, true, false, List, [], ◌∷◌, ◌++◌, map, drop, length, nat_eq, codes, bytes_eq, if◌then◌else◌}
+use Rattle.std.specs.Prelude.{ℕ, ◌&&◌, ◌||◌, ◌==◌, Bool, false, List, [], ◌∷◌, ◌++◌, map, drop, nat_eq, codes, bytes_eq, if◌then◌else◌}
 use Rattle.std.specs.List.{starts_with, onto_first}
-use Rattle.oci_text_base.specs.Classes.{colon, has, until, after}
+use Rattle.oci_text_base.specs.Classes.{colon, until, after}
 use Rattle.oci_rule_texts.specs.Classes.{is_id_byte, is_word_byte}
 use Rattle.oci_rule_texts.specs.Decided.{is_some_of, front_in, back_in}
 use Rattle.oci_rule_texts.specs.declared.licenses.Kind.{Kind}

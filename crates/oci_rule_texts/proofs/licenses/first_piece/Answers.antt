@@ -1,5 +1,5 @@
 -- The first piece is a word, a space or a mark.
-use Rattle.std.proofs.Common.{◌≡◌, ◌<◌, Bool, true, false, List, ℕ, ◌∷◌, length, drop, sym, ap, ◌∙◌, subst}
+use Rattle.std.proofs.Common.{◌≡◌, ◌<◌, true, false, ◌∷◌, length, drop, sym, ap, ◌∙◌, subst}
 use Rattle.std.specs.Prelude.{codes, bytes_eq, ◌==◌}
 use Rattle.oci_rule_texts.specs.Classes.{is_word_byte}
 use Rattle.oci_rule_texts.specs.Decided.{front_in, back_in}
