@@ -1,6 +1,6 @@
 -- Conditions and tests come to what they ask.
-use Rattle.std.proofs.Common.{◌≡◌, ℕ, ◌<◌, ◌≤◌, ◌+◌, List, [], ◌∷◌, ◌++◌, Bool, true, false, not, ◌&&◌, ◌||◌, length, drop, ℤ, Option, Some, None, IfSome, is_some, refl, sym, subst, true≢false, leb-true, le-leb, arith}
-use Rattle.std.specs.Prelude.{zero, suc, ◌≤ℤ◌, T, ◌==◌, int_le, nat_le, bytes_eq, IsSomeAnd, IsSome, IsTrue}
+use Rattle.std.proofs.Common.{◌≡◌, ℕ, ◌<◌, ◌≤◌, List, [], ◌∷◌, Bool, true, false, not, ◌&&◌, ◌||◌, length, drop, ℤ, Option, Some, None, IfSome, is_some, refl, sym, subst, true≢false, leb-true, le-leb, arith}
+use Rattle.std.specs.Prelude.{zero, suc, ◌≤ℤ◌, T, ◌==◌, int_le, nat_le, bytes_eq, IsSomeAnd, IsTrue}
 use Rattle.std.specs.Bool.{Decides, beq}
 use Rattle.std.specs.Cmp.{booleans_Decides}
 use Rattle.std.specs.Int.Signed.{le_z_yes}
@@ -95,7 +95,7 @@ item_tells name ts with without d =
     Decides-and (there_and (is_listed ts) (text_at name d)) (list_all (has d) with && list_all (lacks d) without)
     (there_and_tells (is_listed ts) (λ t. IsTrue (is_listed ts t)) (λ t. itself (is_listed ts t)) (text_at name d))
     (Decides-and (list_all (has d) with) (list_all (lacks d) without) (each_name_tells (has d) (λ n. IsThere n d) (has_tells d) with)
-      (each_name_tells (lacks d) (λ n. IsAbsent n d) (lacks_tells d) without))
+    (each_name_tells (lacks d) (λ n. IsAbsent n d) (lacks_tells d) without))
 
 so_tells : (check : Check) (d : Data) → Decides (is_so check d) (IsSo check d)
 so_tells is_there d = ((λ e. tt), (λ h. refl))

@@ -1,19 +1,11 @@
 -- Whether a text is of a grammar.
 use Rattle.std.proofs.Common.{◌≡◌, Bool, List, ℕ}
 use Rattle.std.specs.Prelude.{◌↔◌, IsTrue}
-use Rattle.std.specs.Bool.{Decides}
 use Rattle.std.proofs.lemmas.Bool.Decides.{same_from_decides}
 use Rattle.oci_rule_texts.specs.Grammars.{IsOf}
+use Rattle.oci_rule_texts.specs.Tests.{is_of}
 use Rattle.oci_rule_texts.specs.declared.grammar.Grammar.{Grammar}
-use Rattle.oci_rule_texts.specs.declared.grammar.Grammar.TheVariants.{AbsolutePath, MediaType}
-use Rattle.oci_rule_texts.proofs.Absolute.{absolute}
-use Rattle.oci_rule_texts.proofs.MediaTypes.{media}
-use Rattle.oci_rules.specs.Grammars.{is_of}
-
-pub is_of_decides : (g : Grammar) (t : List ℕ) → Decides (is_of g t) (IsOf g t)
-unfolding is_of
-is_of_decides AbsolutePath t = absolute t
-is_of_decides MediaType t = media t
+use Rattle.oci_rule_texts.proofs.Grammars.{is_of_decides}
 
 -- what decides a grammar comes to the same
 pub accepted : (g : Grammar) (t : List ℕ) (r : Bool) → IsTrue r ↔ IsOf g t → r ≡ is_of g t

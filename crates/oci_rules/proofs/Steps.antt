@@ -1,8 +1,8 @@
 -- One part more of a list, an object or a table that is gone through.
-use Rattle.std.proofs.Common.{◌≡◌, ℕ, zero, suc, ◌+◌, ◌<◌, List, [], ◌∷◌, ◌++◌, ◌||◌, Bool, bytes_eq, length, drop, map, not, slice_index_or, String, string_bytes, refl, subst, sym, ap, ◌∙◌, append_assoc, Option, Some, None, arith}
+use Rattle.std.proofs.Common.{◌≡◌, ℕ, zero, suc, ◌+◌, ◌<◌, List, [], ◌∷◌, ◌++◌, ◌||◌, Bool, bytes_eq, length, drop, not, slice_index_or, String, refl, subst, sym, ap, ◌∙◌, append_assoc, Option, Some, None, arith}
 use Rattle.std.specs.declared.alloc.Global.{Global}
 use Rattle.std.specs.BTreeSet.{BTreeSet, contains_text, IsEmpty}
-use Rattle.serde_json.specs.Data.{Data, Items, no_items, item}
+use Rattle.serde_json.specs.Data.{Items, no_items, item}
 use Rattle.serde_json.specs.Find.{as_str}
 use Rattle.serde_json.specs.View.{view, items_view}
 use Rattle.serde_json.specs.declared.value.Value.{Value}
@@ -11,7 +11,7 @@ use Rattle.oci_rules.specs.Rules.{Rule, Key}
 use Rattle.oci_rules.specs.Parts.{key_of}
 use Rattle.oci_rules.specs.Breaks.{Told}
 use Rattle.oci_rules.specs.Decided.{there_and, if_any}
-use Rattle.oci_rules.specs.Listed.{unless, no_text, with_text, has_text, twins, others, others_of}
+use Rattle.oci_rules.specs.Listed.{unless, no_text, with_text, has_text, twins, others}
 
 drop_at : {A : Type 0} (rs : List A) (i : ℕ) (x : A) → i < length rs → drop i rs ≡ slice_index_or rs i x ∷ drop (i + 1) rs
 drop_at [] i x below = absurd (omega arith)

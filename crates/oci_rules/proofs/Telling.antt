@@ -1,10 +1,10 @@
 -- What is told of one part.
-use Rattle.std.proofs.Common.{◌≡◌, inl, inr, ℕ, ◌+◌, List, [], ◌∷◌, ◌++◌, Bool, true, false, not, ◌||◌, Option, Some, None, IfSome, unwrap_or, is_some, refl, sym, ap, ◌∙◌, subst, true≢false, append-nil, arith}
-use Rattle.std.specs.Prelude.{◌↔◌, ◌⊎◌, ◌<◌, ◌≤◌, ◌≤ℤ◌, IsTrue, ◌==◌, int_le, nat_le, bytes_eq}
+use Rattle.std.proofs.Common.{◌≡◌, ℕ, ◌+◌, List, [], ◌++◌, Bool, true, false, not, ◌||◌, Option, Some, None, IfSome, unwrap_or, is_some, refl, sym, ap, ◌∙◌, subst, true≢false, arith}
+use Rattle.std.specs.Prelude.{◌↔◌, ◌<◌, ◌≤◌, ◌≤ℤ◌, IsTrue, ◌==◌, int_le, nat_le}
 use Rattle.std.specs.Bool.{Decides, beq}
 use Rattle.std.specs.Cmp.{booleans_Decides}
 use Rattle.std.specs.List.{Contains, list_any}
-use Rattle.std.proofs.lemmas.Bool.Decides.{Decides-not, Decides-like}
+use Rattle.std.proofs.lemmas.Bool.Decides.{Decides-not}
 use Rattle.serde_json.specs.Data.{Data, Items, no_items}
 use Rattle.serde_json.specs.Find.{as_bool, as_str, as_array, as_object, get_item}
 use Rattle.oci_json_model.specs.Means.{as_whole, is_object}
@@ -12,17 +12,17 @@ use Rattle.oci_text_base.specs.Names.{is_listed}
 use Rattle.oci_schema_walks.specs.Places.{under_name, under_index}
 use Rattle.oci_rule_texts.specs.Grammars.{IsOf}
 use Rattle.oci_rules.specs.Rules.{Key, Test, text, one_of, none_of, begins, reserved, within, truth, there, absent, either, not_empty, length_at_most, at_most, sum_at_most, lists, lists_item, distinct, among, Rule}
-use Rattle.oci_rules.specs.Parts.{present, text_at, whole_at, natural_at, items_at, extent, key_of}
+use Rattle.oci_rules.specs.Parts.{text_at, whole_at, natural_at, items_at, extent}
 use Rattle.oci_rules.specs.Tests.{SomeItem, SomeName, EachItem, IsThere, IsOneOf, IsWithin, BeginsWith, IsAmong, AreDistinct, Passes}
 use Rattle.oci_rules.specs.Breaks.{Told, Shows, HasEarlier, IsOther}
-use Rattle.oci_rules.specs.Grammars.{is_of}
+use Rattle.oci_rule_texts.specs.Tests.{is_of}
 use Rattle.oci_rules.specs.Decided.{if_any, some_item, has, is_one_of, is_in, begins_with, has_text_under, is_passed}
-use Rattle.oci_rules.specs.Listed.{unless, shown_at, twins, twins_of, others, others_of, has_text, no_text, items_told, told_by}
+use Rattle.oci_rules.specs.Listed.{unless, twins_of, others_of, has_text, told_by}
 use Rattle.oci_rules.proofs.Deciding.{clash, itself, if_any_tells, some_item_tells, some_name_tells, has_tells, lacks_tells, one_of_tells, int_tells, nat_tells, some_tells, in_tells, begins_tells, text_tells, then_tells}
-use Rattle.oci_rules.proofs.Grammars.{is_of_decides}
-use Rattle.oci_rules.proofs.Found.{nothing_in, not_nil, in_unless, none_unless, none_of as no_item_of}
+use Rattle.oci_rule_texts.proofs.Grammars.{is_of_decides}
+use Rattle.oci_rules.proofs.Found.{nothing_in, not_nil, in_unless, none_of as no_item_of}
 use Rattle.oci_rules.proofs.Others.{others_none, others_in}
-use Rattle.oci_rules.proofs.Twins.{IsTwin, twins_none, twins_found}
+use Rattle.oci_rules.proofs.Twins.{twins_none, twins_found}
 
 -- what is told of a part: the rule, that the part does not pass, and what is shown of it
 abbrev pub Fails : Test → Rule → List ℕ → Data → Told → Type 0
@@ -141,7 +141,7 @@ law (begins front) r at d = alone (is_passed (begins front) d) (Passes (begins f
 law (reserved front ts) r at d =
     alone (is_passed (reserved front ts) d) (Passes (reserved front ts) d) r at
     (if_any_tells (λ t. not (begins_with front t) || is_listed ts t) (λ t. BeginsWith front t → IsTrue (is_listed ts t))
-      (λ t. then_tells (begins_with front t) (is_listed ts t) (BeginsWith front t) (IsTrue (is_listed ts t)) (begins_tells front t) (itself (is_listed ts t))) (as_str d))
+    (λ t. then_tells (begins_with front t) (is_listed ts t) (BeginsWith front t) (IsTrue (is_listed ts t)) (begins_tells front t) (itself (is_listed ts t))) (as_str d))
 law (within low high) r at d = alone (is_passed (within low high) d) (Passes (within low high) d) r at (if_any_tells (is_in low high) (IsWithin low high) (in_tells low high) (as_whole d))
 law (truth b) r at d = alone (is_passed (truth b) d) (Passes (truth b) d) r at (if_any_tells (beq b) (λ c. c ≡ b) (same_tells b) (as_bool d))
 law (there name) r at d = alone (is_passed (there name) d) (Passes (there name) d) r (under_name at name) (object_tells (has d name) (IsThere name d) d (has_tells d name))
@@ -157,7 +157,7 @@ law (at_most a b) r at d =
 law (sum_at_most a b most) r at d =
     alone (is_passed (sum_at_most a b most) d) (Passes (sum_at_most a b most) d) r at
     (if_any_tells (λ x. if_any (λ y. nat_le (x + y) most) (natural_at b d)) (λ x. IfSome (natural_at b d) (λ y. x + y ≤ most))
-      (λ x. if_any_tells (λ y. nat_le (x + y) most) (λ y. x + y ≤ most) (λ y. nat_tells (x + y) most) (natural_at b d)) (natural_at a d))
+    (λ x. if_any_tells (λ y. nat_le (x + y) most) (λ y. x + y ≤ most) (λ y. nat_tells (x + y) most) (natural_at b d)) (natural_at a d))
 law (lists ts) r at d =
     alone (is_passed (lists ts) d) (Passes (lists ts) d) r at (if_any_tells (some_item (is_one_of ts)) (SomeItem (IsOneOf ts)) (some_item_tells (is_one_of ts) (IsOneOf ts) (one_of_tells ts)) (as_array d))
 law (lists_item name t) r at d =

@@ -1,8 +1,8 @@
 -- What it is that a part of a document breaks a rule, and that a document keeps its rules.
-use Rattle.std.specs.Prelude.{ℕ, ◌<◌, ◌≡◌, List, [], ◌∷◌, Some, unwrap_or, IsTrue}
+use Rattle.std.specs.Prelude.{ℕ, ◌<◌, ◌≡◌, List, [], Some, unwrap_or, IsTrue}
 use Rattle.std.specs.List.{Contains}
-use Rattle.serde_json.specs.Data.{Data, string, Items, no_items, Members}
-use Rattle.serde_json.specs.Find.{as_array, as_object, get_item}
+use Rattle.serde_json.specs.Data.{Data, string, Items, no_items}
+use Rattle.serde_json.specs.Find.{get_item}
 use Rattle.oci_schema_walks.specs.Places.{under_name, under_index}
 use Rattle.oci_schema_walks.specs.Leads.{HasMember, HasItem}
 use Rattle.oci_rules.specs.Rules.{Platform, Key, Test, text, one_of, none_of, begins, reserved, within, truth, there, absent, either, not_empty, length_at_most, at_most, sum_at_most, lists, lists_item, distinct, among, Place, here, under, each_item, each_member, each_name, if_so, Rule}

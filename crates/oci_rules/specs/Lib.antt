@@ -1,7 +1,6 @@
 pub mod Breaks
 pub mod Decided
 pub mod Documents
-pub mod Grammars
 pub mod Listed
 pub mod Parts
 pub mod Platforms

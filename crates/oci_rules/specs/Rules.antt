@@ -1,5 +1,5 @@
 -- What a rule is: where it looks, and what it asks of each part that stands there.
-use Rattle.std.specs.Prelude.{ℕ, ℤ, List, Bool, true, false}
+use Rattle.std.specs.Prelude.{ℕ, ℤ, List, Bool}
 use Rattle.oci_rule_texts.specs.declared.grammar.Grammar.{Grammar}
 
 -- how strongly a specification asks (RFC 2119)

@@ -1,6 +1,5 @@
 -- What conditions and tests ask. Of a part of another kind a test asks nothing: the schema tells of that.
-use Rattle.std.specs.Prelude.{ℕ, ℤ, ◌≡◌, ◌≢◌, ◌≤◌, ◌<◌, ◌+◌, ◌≤ℤ◌, ◌⊎◌, ⊤, List, [], ◌∷◌, ◌++◌, Bool, true, false, Option, Some, None, IfSome, IsSomeAnd, IsSome, IsTrue, unwrap_or}
-use Rattle.std.specs.List.{Contains}
+use Rattle.std.specs.Prelude.{ℕ, ℤ, ◌≡◌, ◌≢◌, ◌≤◌, ◌<◌, ◌+◌, ◌≤ℤ◌, ◌⊎◌, ⊤, List, [], ◌∷◌, ◌++◌, Bool, true, false, Some, None, IfSome, IsSomeAnd, IsSome, IsTrue, unwrap_or}
 use Rattle.serde_json.specs.Data.{Data, Items, no_items, item}
 use Rattle.serde_json.specs.Find.{as_bool, as_str, as_array, as_object}
 use Rattle.oci_json_model.specs.Means.{as_whole}

@@ -92,13 +92,7 @@ pub fn has_text(texts: &[&str], items: &Vec<Value>) -> bool
 }
 
 /// Whether one of the items has one of the strings under the name, all of the members `with` and none of the members `without`.
-fn has_item(
-    name: &str,
-    texts: &[&str],
-    with: &[&str],
-    without: &[&str],
-    items: &Vec<Value>,
-) -> bool
+fn has_item(name: &str, texts: &[&str], with: &[&str], without: &[&str], items: &Vec<Value>) -> bool
     ensures { result ≡ some_item (is_such_item name.now (texts_of texts.now) (texts_of with.now) (texts_of without.now)) (items_view items.now.items) }
 {
     for item in items {

@@ -49,11 +49,7 @@ fn scalar_at(way: &[&str], value: &Value, alloc: Global) -> Result<Option<String
 }
 
 /// What the ways lead to, as a JSON pointer (RFC 6901).
-fn joined(
-    ways: &[&[&str]],
-    value: &Value,
-    alloc: Global,
-) -> Result<Option<String>, AllocError>
+fn joined(ways: &[&[&str]], value: &Value, alloc: Global) -> Result<Option<String>, AllocError>
     ensures { IfOk result (λ o. option_map string_bytes o ≡ parts.joined [] (ways_of ways.now) (view value.now)) }
 {
     let mut at = String::new(alloc);

@@ -2,7 +2,7 @@
 ghost use Rattle.std.specs.Prelude.{◌≡◌, IfOk, string_bytes};
 ghost use Rattle.std.specs.List.{list_any};
 ghost use Rattle.serde_json.specs.View.{view, items_view};
-ghost use Rattle.oci_rules.specs.Grammars.{is_of};
+ghost use Rattle.oci_rule_texts.specs.Tests.{is_of};
 ghost use Rattle.oci_rules.specs.Decided.{has as does_have, is_passed, begins_with as does_begin, is_at_most, is_sum_at_most, some_item, has_text_under as does_have_text};
 ghost use Rattle.oci_rules.specs.Listed.{shown_at};
 ghost use Rattle.oci_rules.specs.Tables.{texts_of, test_of};
@@ -149,7 +149,9 @@ pub fn pointer_of(test: &Test, at: &str, alloc: Global) -> Result<String, AllocE
     ensures { IfOk result (λ s. string_bytes s ≡ shown_at (test_of test.now) at.now) }
 {
     match test {
-        Test::There(name) | Test::Absent(name) | Test::AtMost(name, _) => under_name(alloc, at, name),
+        Test::There(name) | Test::Absent(name) | Test::AtMost(name, _) => under_name(
+            alloc, at, name,
+        ),
         _ => String::from_str(alloc, at),
     }
 }

@@ -1,0 +1,3 @@
+pub mod Reported
+pub mod Twice
+pub mod Unknown
