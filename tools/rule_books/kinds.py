@@ -3,6 +3,8 @@ from generator.records import snake
 from rule_books.specs import pascal
 
 CRATE = "oci_rule_books"
+BOOKS = "Result<Vec<&'static [Rule<'static>]>, AllocError>"
+RULES = "flat_map (λ b. map rule_of b.now)"
 
 
 def variant(kind):
@@ -12,10 +14,9 @@ def variant(kind):
 def kinds_specs(model):
     """The rules of each kind: those of its books."""
     imports = {}
-    for _, names in model.kinds.values():
-        for name in names:
-            group = model.groups[name]
-            imports.setdefault((model.crate[group.file], pascal(group.file)), []).append(f"{group.word}_rules")
+    for kind in model.kinds:
+        for it in model.books_of(kind):
+            imports.setdefault((model.crate[it.file], pascal(it.file)), []).append(f"{it.word}_rules")
     out = "-- The rules of each kind of documents: those of its books.\n"
     out += "use Rattle.std.specs.Prelude.{List, [], ◌++◌}\n"
     out += "use Rattle.oci_doc_run.specs.declared.kind.Kind.{Kind}\n"
@@ -24,35 +25,43 @@ def kinds_specs(model):
     for (crate, file), words in sorted(imports.items()):
         out += f"use Rattle.{crate}.specs.{file}.{{{', '.join(dict.fromkeys(words))}}}\n"
     out += "\nabbrev pub rules_of : Kind → List Rule\n"
-    for kind, (_, names) in model.kinds.items():
-        words = " ++ (".join(f"{model.groups[it].word}_rules" for it in names)
-        out += f"rules_of {variant(kind)} = {words} ++ []{')' * (len(names) - 1)}\n"
+    for kind in model.kinds:
+        books = model.books_of(kind)
+        out += f"rules_of {variant(kind)} = {' ++ ('.join(f'{it.word}_rules' for it in books)} ++ []{')' * (len(books) - 1)}\n"
     return out
 
 
 def kinds_source(model):
     """The call that returns the books of a kind."""
-    most = max(len(names) for _, names in model.kinds.values())
     used = {}
-    for _, names in model.kinds.values():
-        for name in names:
-            used.setdefault(model.crate[model.groups[name].file], []).append(f"{model.groups[name].word}_rules")
+    for kind in model.kinds:
+        for it in model.books_of(kind):
+            used.setdefault(model.crate[it.file], []).append(f"{it.word}_rules")
     out = "//! The books of rules of each kind of documents.\n#![tactic(auto)]\n"
-    out += "ghost use Rattle.std.specs.Prelude.{◌≡◌, map};\nghost use Rattle.std.specs.List.{flat_map};\n"
+    out += "ghost use Rattle.std.specs.Prelude.{◌≡◌, map, IfOk};\nghost use Rattle.std.specs.List.{flat_map};\n"
     out += "ghost use Rattle.oci_rules.specs.Tables.{rule_of};\n"
-    out += f"ghost use Rattle.{CRATE}.specs.Kinds as kinds;\n\n"
+    out += f"ghost use Rattle.{CRATE}.specs.Kinds as kinds;\nghost use Rattle.oci_doc_run.specs.declared.kind.Kind.TheVariants as kind;\n\n"
     out += "use oci_doc_run::Kind;\nuse oci_rules::Rule;\n"
     for crate, words in sorted(used.items()):
         out += f"use {crate}::{{{', '.join(sorted(set(words)))}}};\n"
-    out += "\n/// The number of books that the kind with the most of them has.\npub const BOOKS: usize = " + str(most) + ";\n"
-    out += "\nstatic NONE: [Rule<'static>; 0] = [];\n"
-    out += "\n/// Returns the books of a kind of documents, in their order; those behind the last are empty.\n"
-    out += "pub fn rules_of(kind: Kind) -> [&'static [Rule<'static>]; BOOKS]\n"
-    out += "    ensures { flat_map (λ b. map rule_of b.now) result ≡ kinds.rules_of kind }\n{\n    match kind {\n"
-    for kind, (_, names) in model.kinds.items():
-        calls = [f"{model.groups[it].word}_rules()" for it in names] + ["&NONE"] * (most - len(names))
-        out += f"        Kind::{variant(kind)} => [{', '.join(calls)}],\n"
-    return out + "    }\n}\n"
+    out += "use std::alloc::{AllocError, Global};\n"
+    out += "\n/// Returns the books of a kind of documents, in their order. Fails if out of memory.\n"
+    out += f"pub fn rules_of(kind: Kind, alloc: Global) -> {BOOKS}\n"
+    out += f"    ensures {{ IfOk result (λ v. {RULES} v.items ≡ kinds.rules_of kind) }}\n{{\n    match kind {{\n"
+    for kind in model.kinds:
+        out += f"        Kind::{variant(kind)} => {snake_of(kind)}_books(alloc),\n"
+    out += "    }\n}\n"
+    for kind in model.kinds:
+        calls = ", ".join(f"{it.word}_rules()" for it in model.books_of(kind))
+        out += f"\nfn {snake_of(kind)}_books(alloc: Global) -> {BOOKS}\n"
+        out += f"    ensures {{ IfOk result (λ v. {RULES} v.items ≡ kinds.rules_of kind.{variant(kind)}) }}\n{{\n    collected(&[{calls}], alloc)\n}}\n"
+    out += f"\nfn collected(books: &[&'static [Rule<'static>]], alloc: Global) -> {BOOKS}\n"
+    out += "    ensures { IfOk result (λ v. v.items ≡ books.now) }\n{\n"
+    return out + "    let mut out = Vec::new(alloc);\n    out.extend_from_slice(books)?;\n    Ok(out)\n}\n"
+
+
+def snake_of(kind):
+    return kind.replace("-", "_")
 
 
 def places(model):

@@ -85,6 +85,41 @@ class Group:
                     yield line.beneath(steps)
 
 
+class Piece:
+    """A piece of a book, which is one constant of the code: some of its lines, or a set that it includes."""
+
+    def __init__(self, group, word, entries):
+        self.kind, self.file, self.word, self.entries = "book", group.file, word, entries
+        self.name = word.replace("_", "-")
+
+    def lines(self, groups):
+        for entry in self.entries:
+            yield from [entry] if isinstance(entry, Line) else (it.beneath(entry[0]) for it in groups[entry[1]].lines(groups))
+
+
+# the proof of a constant takes a time that grows with the square of its lines
+MOST = 12
+
+
+def pieces(group):
+    """The pieces of a book, in order: what it includes, and its own lines in as few runs of at most MOST as hold them."""
+    runs = []
+    for entry in group.entries:
+        if isinstance(entry, Description):
+            if not runs or not isinstance(runs[-1], list):
+                runs.append([])
+            runs[-1] += entry.lines
+        else:
+            runs.append(entry)
+    cut = []
+    for run in runs:
+        count = -(-len(run) // MOST) if isinstance(run, list) else 1
+        size = -(-len(run) // count) if isinstance(run, list) else 1
+        cut += [run[at : at + size] for at in range(0, len(run), size)] if isinstance(run, list) else [[run]]
+    words = [group.word] + [f"{group.word}_{number}" for number in range(2, len(cut) + 1)]
+    return [Piece(group, word, entries) for word, entries in zip(words, cut)]
+
+
 class Model:
     def __init__(self, folder):
         self.lists, self.grammars, self.groups, self.kinds, self.files = {}, {}, {}, {}, {}
@@ -163,4 +198,9 @@ class Model:
         return out
 
     def books_of(self, kind):
-        return [self.groups[it] for it in self.kinds[kind][1]]
+        """The pieces of a kind's books."""
+        return [piece for it in self.kinds[kind][1] for piece in pieces(self.groups[it])]
+
+    def constants(self, file):
+        """What a file defines: its sets, and the pieces of its books."""
+        return [it for group in self.files[file] for it in ([group] if group.kind == "set" else pieces(group))]

@@ -112,12 +112,30 @@ def lists(model, crate):
     return out
 
 
+ABOUT = {
+    "oci_rules_image": "The books of rules of image and distribution documents.",
+    "oci_rules_runtime": "The books of rules of containers' configurations, states and features.",
+}
+
+
+def books(model):
+    """The pieces of all books."""
+    return [it for file in model.files for it in model.constants(file) if it.kind == "book"]
+
+
+def root(model, crate):
+    """The root file of a crate of books."""
+    words = sorted(it.word for it in books(model) if model.crate[it.file] == crate)
+    out = f"//! {ABOUT[crate]}\n#![tactic(auto)]\n\n" + "".join(f"mod {it};\n" for it in sorted([*words, "lists"]))
+    return out + "\n" + "".join(f"pub use {it}::{it}_rules;\n" for it in words)
+
+
 def files(model):
     """All files of code, by their paths."""
     out = {}
-    for group in model.groups.values():
-        if group.kind == "book":
-            out[f"crates/{model.crate[group.file]}/src/{group.word}.rt"] = book(group, model)
+    for group in books(model):
+        out[f"crates/{model.crate[group.file]}/src/{group.word}.rt"] = book(group, model)
     for crate in model.crates():
         out[f"crates/{crate}/src/lists.rt"] = lists(model, crate)
+        out[f"crates/{crate}/src/lib.rt"] = root(model, crate)
     return out

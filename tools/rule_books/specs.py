@@ -1,5 +1,5 @@
 """The definitions of a file of rules: a list of rules for each set and each book, a line for each rule at each place."""
-from rule_books.model import PLATFORMS, POSIX
+from rule_books.model import PLATFORMS, POSIX, Line
 
 PRELUDE = ("ℕ", "List", "[]", "◌∷◌", "◌++◌", "◌≡◌", "map", "codes", "pos", "negsuc", "true", "false")
 WORDS = ("Rule", "Platform", "linux", "windows", "solaris", "vm", "zos", "freebsd", "must", "stated", "should", "host", "here", "under", "each_item",
@@ -105,11 +105,11 @@ def rule(line, names):
             f"place = {at}; test = {test(line.test, names)} }}")
 
 
-def pieces(group):
-    """The entries of a group: runs of its own lines, and what it includes."""
+def runs(group):
+    """The entries of a set or a piece: runs of its own lines, and what it includes."""
     out = []
     for entry in group.entries:
-        lines = getattr(entry, "lines", None)
+        lines = [entry] if isinstance(entry, Line) else getattr(entry, "lines", None)
         if lines is None:
             out.append(entry)
         elif out and isinstance(out[-1], list):
@@ -121,7 +121,7 @@ def pieces(group):
 
 def body(group, model, names):
     out = []
-    for piece in pieces(group):
+    for piece in runs(group):
         if isinstance(piece, list):
             out.append("".join(f"    {rule(it, names)} ∷\n" for it in piece) + "    []")
             continue
@@ -170,10 +170,10 @@ def files(model):
     for crate in model.crates():
         names = named_lists(model, crate)
         folder = f"crates/{crate}/specs"
-        for file, groups in model.files.items():
+        for file in model.files:
             if model.crate[file] != crate:
                 continue
-            text = "\n".join(f"{about(it)}\nabbrev pub {it.word}_rules : List Rule\n{it.word}_rules =\n{body(it, model, names)}\n" for it in groups)
+            text = "\n".join(f"{about(it)}\nabbrev pub {it.word}_rules : List Rule\n{it.word}_rules =\n{body(it, model, names)}\n" for it in model.constants(file))
             out[f"{folder}/{pascal(file)}.antt"] = f"-- {model.about[file]}\n{imports(text, model, file, crate)}\n{text}"
         out[f"{folder}/Lists.antt"] = lists(model, crate)
     return out

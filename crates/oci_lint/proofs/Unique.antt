@@ -1,5 +1,5 @@
 -- No name is listed exactly where no object has a name twice.
-use Rattle.std.proofs.Common.{◌≡◌, ◌≢◌, ℕ, ◌+◌, List, [], ◌∷◌, ◌++◌, ◌||◌, Bool, true, false, Option, Some, None, bytes_eq, string_bytes, String, map, refl, sym, ap, ◌∙◌, true≢false, option_map}
+use Rattle.std.proofs.Common.{◌≡◌, ℕ, ◌+◌, List, [], ◌∷◌, ◌++◌, ◌||◌, Bool, true, false, Option, Some, None, bytes_eq, string_bytes, String, map, refl, sym, ap, ◌∙◌, true≢false, option_map}
 use Rattle.std.specs.Prelude.{◌↔◌, IsSomeAnd}
 use Rattle.std.specs.declared.alloc.Global.{Global}
 use Rattle.std.specs.List.{IsDistinct, AllByRecursion, list_any}

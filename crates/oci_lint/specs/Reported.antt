@@ -1,5 +1,5 @@
 -- What an unknown member of the code says.
-use Rattle.std.specs.Prelude.{ℕ, List, [], ◌∷◌, ◌++◌, string_bytes}
+use Rattle.std.specs.Prelude.{ℕ, List, [], ◌∷◌, string_bytes}
 use Rattle.oci_json_model.specs.Shape.{with_second}
 use Rattle.oci_schema_types.specs.Shapes.{alias_of}
 use Rattle.oci_schema_types.specs.declared.record.Member.{Member}

@@ -2,246 +2,237 @@
 //! The books of rules of each kind of documents.
 #![tactic(auto)]
 
-ghost use Rattle.std.specs.Prelude.{◌≡◌, map};
+ghost use Rattle.std.specs.Prelude.{◌≡◌, map, IfOk};
 ghost use Rattle.std.specs.List.{flat_map};
 ghost use Rattle.oci_rules.specs.Tables.{rule_of};
 ghost use Rattle.oci_rule_books.specs.Kinds as kinds;
+ghost use Rattle.oci_doc_run.specs.declared.kind.Kind.TheVariants as kind;
 
 use oci_doc_run::Kind;
 use oci_rules::Rule;
 use oci_rules_image::{
-    artifact_blobs_rules, artifact_rules, artifact_subject_rules, config_combinations_rules,
-    config_labels_rules, config_rules, descriptor_rules, error_rules, index_annotations_rules,
-    index_combinations_rules, index_manifests_rules, index_rules, index_subject_rules,
-    layout_rules, manifest_annotations_rules, manifest_config_rules, manifest_layers_rules,
-    manifest_rules, manifest_subject_rules, reference_rules, repositories_rules, tags_rules,
+    artifact_annotations_rules, artifact_blobs_annotations_rules, artifact_blobs_rules,
+    artifact_rules, artifact_subject_annotations_rules, artifact_subject_rules, config_2_rules,
+    config_combinations_2_rules, config_combinations_rules, config_labels_rules, config_rules,
+    descriptor_annotations_rules, descriptor_rules, error_rules, index_2_rules,
+    index_annotations_rules, index_combinations_2_rules, index_combinations_rules,
+    index_manifests_annotations_rules, index_manifests_rules, index_rules,
+    index_subject_annotations_rules, index_subject_rules, layout_rules, manifest_2_rules,
+    manifest_annotations_rules, manifest_config_annotations_rules, manifest_config_rules,
+    manifest_layers_annotations_rules, manifest_layers_rules, manifest_rules,
+    manifest_subject_annotations_rules, manifest_subject_rules, reference_rules,
+    repositories_rules, tags_rules,
 };
 use oci_rules_runtime::{
-    features_rules, linux_block_rules, linux_mappings_host_rules, linux_mappings_rules,
-    linux_resources_rules, linux_rules, linux_seccomp_rules, linux_sysctl_rules, platforms_rules,
-    process_capabilities_rules, process_rules, process_state_rules, spec_hooks_rules,
-    spec_mounts_rules, spec_rules, state_rules,
+    features_2_rules, features_3_rules, features_rules, linux_2_rules, linux_3_rules,
+    linux_block_2_rules, linux_block_rules, linux_mappings_2_rules, linux_mappings_host_2_rules,
+    linux_mappings_host_rules, linux_mappings_rules, linux_resources_2_rules,
+    linux_resources_3_rules, linux_resources_rules, linux_rules, linux_seccomp_2_rules,
+    linux_seccomp_rules, linux_sysctl_rules, platforms_2_rules, platforms_rules, process_2_rules,
+    process_3_rules, process_capabilities_2_rules, process_capabilities_rules, process_rules,
+    process_state_2_rules, process_state_rules, spec_2_rules, spec_3_rules, spec_4_rules,
+    spec_hooks_2_rules, spec_hooks_3_rules, spec_hooks_rules, spec_mounts_2_rules,
+    spec_mounts_3_rules, spec_mounts_rules, spec_rules, state_rules,
 };
+use std::alloc::{AllocError, Global};
 
-/// The number of books that the kind with the most of them has.
-pub const BOOKS: usize = 13;
-
-static NONE: [Rule<'static>; 0] = [];
-
-/// Returns the books of a kind of documents, in their order; those behind the last are empty.
-pub fn rules_of(kind: Kind) -> [&'static [Rule<'static>]; BOOKS]
-    ensures { flat_map (λ b. map rule_of b.now) result ≡ kinds.rules_of kind }
+/// Returns the books of a kind of documents, in their order. Fails if out of memory.
+pub fn rules_of(kind: Kind, alloc: Global) -> Result<Vec<&'static [Rule<'static>]>, AllocError>
+    ensures { IfOk result (λ v. flat_map (λ b. map rule_of b.now) v.items ≡ kinds.rules_of kind) }
 {
     match kind {
-        Kind::Manifest => [
+        Kind::Manifest => manifest_books(alloc),
+        Kind::Index => index_books(alloc),
+        Kind::Config => config_books(alloc),
+        Kind::Artifact => artifact_books(alloc),
+        Kind::Layout => layout_books(alloc),
+        Kind::Descriptor => descriptor_books(alloc),
+        Kind::Error => error_books(alloc),
+        Kind::Repositories => repositories_books(alloc),
+        Kind::Tags => tags_books(alloc),
+        Kind::Reference => reference_books(alloc),
+        Kind::Spec => spec_books(alloc),
+        Kind::State => state_books(alloc),
+        Kind::ProcessState => process_state_books(alloc),
+        Kind::Features => features_books(alloc),
+    }
+}
+
+fn manifest_books(alloc: Global) -> Result<Vec<&'static [Rule<'static>]>, AllocError>
+    ensures { IfOk result (λ v. flat_map (λ b. map rule_of b.now) v.items ≡ kinds.rules_of kind.Manifest) }
+{
+    collected(
+        &[
             manifest_rules(),
+            manifest_2_rules(),
             manifest_annotations_rules(),
             manifest_config_rules(),
+            manifest_config_annotations_rules(),
             manifest_layers_rules(),
+            manifest_layers_annotations_rules(),
             manifest_subject_rules(),
-            &NONE,
-            &NONE,
-            &NONE,
-            &NONE,
-            &NONE,
-            &NONE,
-            &NONE,
-            &NONE,
+            manifest_subject_annotations_rules(),
         ],
-        Kind::Index => [
+        alloc,
+    )
+}
+
+fn index_books(alloc: Global) -> Result<Vec<&'static [Rule<'static>]>, AllocError>
+    ensures { IfOk result (λ v. flat_map (λ b. map rule_of b.now) v.items ≡ kinds.rules_of kind.Index) }
+{
+    collected(
+        &[
             index_rules(),
+            index_2_rules(),
             index_combinations_rules(),
+            index_combinations_2_rules(),
             index_annotations_rules(),
             index_manifests_rules(),
+            index_manifests_annotations_rules(),
             index_subject_rules(),
-            &NONE,
-            &NONE,
-            &NONE,
-            &NONE,
-            &NONE,
-            &NONE,
-            &NONE,
-            &NONE,
+            index_subject_annotations_rules(),
         ],
-        Kind::Config => [
+        alloc,
+    )
+}
+
+fn config_books(alloc: Global) -> Result<Vec<&'static [Rule<'static>]>, AllocError>
+    ensures { IfOk result (λ v. flat_map (λ b. map rule_of b.now) v.items ≡ kinds.rules_of kind.Config) }
+{
+    collected(
+        &[
             config_rules(),
+            config_2_rules(),
             config_combinations_rules(),
+            config_combinations_2_rules(),
             config_labels_rules(),
-            &NONE,
-            &NONE,
-            &NONE,
-            &NONE,
-            &NONE,
-            &NONE,
-            &NONE,
-            &NONE,
-            &NONE,
-            &NONE,
         ],
-        Kind::Artifact => [
+        alloc,
+    )
+}
+
+fn artifact_books(alloc: Global) -> Result<Vec<&'static [Rule<'static>]>, AllocError>
+    ensures { IfOk result (λ v. flat_map (λ b. map rule_of b.now) v.items ≡ kinds.rules_of kind.Artifact) }
+{
+    collected(
+        &[
             artifact_rules(),
+            artifact_annotations_rules(),
             artifact_blobs_rules(),
+            artifact_blobs_annotations_rules(),
             artifact_subject_rules(),
-            &NONE,
-            &NONE,
-            &NONE,
-            &NONE,
-            &NONE,
-            &NONE,
-            &NONE,
-            &NONE,
-            &NONE,
-            &NONE,
+            artifact_subject_annotations_rules(),
         ],
-        Kind::Layout => [
-            layout_rules(),
-            &NONE,
-            &NONE,
-            &NONE,
-            &NONE,
-            &NONE,
-            &NONE,
-            &NONE,
-            &NONE,
-            &NONE,
-            &NONE,
-            &NONE,
-            &NONE,
-        ],
-        Kind::Descriptor => [
-            descriptor_rules(),
-            &NONE,
-            &NONE,
-            &NONE,
-            &NONE,
-            &NONE,
-            &NONE,
-            &NONE,
-            &NONE,
-            &NONE,
-            &NONE,
-            &NONE,
-            &NONE,
-        ],
-        Kind::Error => [
-            error_rules(),
-            &NONE,
-            &NONE,
-            &NONE,
-            &NONE,
-            &NONE,
-            &NONE,
-            &NONE,
-            &NONE,
-            &NONE,
-            &NONE,
-            &NONE,
-            &NONE,
-        ],
-        Kind::Repositories => [
-            repositories_rules(),
-            &NONE,
-            &NONE,
-            &NONE,
-            &NONE,
-            &NONE,
-            &NONE,
-            &NONE,
-            &NONE,
-            &NONE,
-            &NONE,
-            &NONE,
-            &NONE,
-        ],
-        Kind::Tags => [
-            tags_rules(),
-            &NONE,
-            &NONE,
-            &NONE,
-            &NONE,
-            &NONE,
-            &NONE,
-            &NONE,
-            &NONE,
-            &NONE,
-            &NONE,
-            &NONE,
-            &NONE,
-        ],
-        Kind::Reference => [
-            reference_rules(),
-            &NONE,
-            &NONE,
-            &NONE,
-            &NONE,
-            &NONE,
-            &NONE,
-            &NONE,
-            &NONE,
-            &NONE,
-            &NONE,
-            &NONE,
-            &NONE,
-        ],
-        Kind::Spec => [
+        alloc,
+    )
+}
+
+fn layout_books(alloc: Global) -> Result<Vec<&'static [Rule<'static>]>, AllocError>
+    ensures { IfOk result (λ v. flat_map (λ b. map rule_of b.now) v.items ≡ kinds.rules_of kind.Layout) }
+{
+    collected(&[layout_rules()], alloc)
+}
+
+fn descriptor_books(alloc: Global) -> Result<Vec<&'static [Rule<'static>]>, AllocError>
+    ensures { IfOk result (λ v. flat_map (λ b. map rule_of b.now) v.items ≡ kinds.rules_of kind.Descriptor) }
+{
+    collected(&[descriptor_rules(), descriptor_annotations_rules()], alloc)
+}
+
+fn error_books(alloc: Global) -> Result<Vec<&'static [Rule<'static>]>, AllocError>
+    ensures { IfOk result (λ v. flat_map (λ b. map rule_of b.now) v.items ≡ kinds.rules_of kind.Error) }
+{
+    collected(&[error_rules()], alloc)
+}
+
+fn repositories_books(alloc: Global) -> Result<Vec<&'static [Rule<'static>]>, AllocError>
+    ensures { IfOk result (λ v. flat_map (λ b. map rule_of b.now) v.items ≡ kinds.rules_of kind.Repositories) }
+{
+    collected(&[repositories_rules()], alloc)
+}
+
+fn tags_books(alloc: Global) -> Result<Vec<&'static [Rule<'static>]>, AllocError>
+    ensures { IfOk result (λ v. flat_map (λ b. map rule_of b.now) v.items ≡ kinds.rules_of kind.Tags) }
+{
+    collected(&[tags_rules()], alloc)
+}
+
+fn reference_books(alloc: Global) -> Result<Vec<&'static [Rule<'static>]>, AllocError>
+    ensures { IfOk result (λ v. flat_map (λ b. map rule_of b.now) v.items ≡ kinds.rules_of kind.Reference) }
+{
+    collected(&[reference_rules()], alloc)
+}
+
+fn spec_books(alloc: Global) -> Result<Vec<&'static [Rule<'static>]>, AllocError>
+    ensures { IfOk result (λ v. flat_map (λ b. map rule_of b.now) v.items ≡ kinds.rules_of kind.Spec) }
+{
+    collected(
+        &[
             spec_rules(),
+            spec_2_rules(),
+            spec_3_rules(),
+            spec_4_rules(),
             spec_mounts_rules(),
+            spec_mounts_2_rules(),
+            spec_mounts_3_rules(),
             spec_hooks_rules(),
+            spec_hooks_2_rules(),
+            spec_hooks_3_rules(),
             process_rules(),
+            process_2_rules(),
+            process_3_rules(),
             process_capabilities_rules(),
+            process_capabilities_2_rules(),
             linux_rules(),
+            linux_2_rules(),
+            linux_3_rules(),
             linux_mappings_rules(),
+            linux_mappings_2_rules(),
             linux_mappings_host_rules(),
+            linux_mappings_host_2_rules(),
             linux_resources_rules(),
+            linux_resources_2_rules(),
+            linux_resources_3_rules(),
             linux_block_rules(),
+            linux_block_2_rules(),
             linux_seccomp_rules(),
+            linux_seccomp_2_rules(),
             linux_sysctl_rules(),
             platforms_rules(),
+            platforms_2_rules(),
         ],
-        Kind::State => [
-            state_rules(),
-            &NONE,
-            &NONE,
-            &NONE,
-            &NONE,
-            &NONE,
-            &NONE,
-            &NONE,
-            &NONE,
-            &NONE,
-            &NONE,
-            &NONE,
-            &NONE,
-        ],
-        Kind::ProcessState => [
-            process_state_rules(),
-            &NONE,
-            &NONE,
-            &NONE,
-            &NONE,
-            &NONE,
-            &NONE,
-            &NONE,
-            &NONE,
-            &NONE,
-            &NONE,
-            &NONE,
-            &NONE,
-        ],
-        Kind::Features => [
-            features_rules(),
-            &NONE,
-            &NONE,
-            &NONE,
-            &NONE,
-            &NONE,
-            &NONE,
-            &NONE,
-            &NONE,
-            &NONE,
-            &NONE,
-            &NONE,
-            &NONE,
-        ],
-    }
+        alloc,
+    )
+}
+
+fn state_books(alloc: Global) -> Result<Vec<&'static [Rule<'static>]>, AllocError>
+    ensures { IfOk result (λ v. flat_map (λ b. map rule_of b.now) v.items ≡ kinds.rules_of kind.State) }
+{
+    collected(&[state_rules()], alloc)
+}
+
+fn process_state_books(alloc: Global) -> Result<Vec<&'static [Rule<'static>]>, AllocError>
+    ensures { IfOk result (λ v. flat_map (λ b. map rule_of b.now) v.items ≡ kinds.rules_of kind.ProcessState) }
+{
+    collected(&[process_state_rules(), process_state_2_rules()], alloc)
+}
+
+fn features_books(alloc: Global) -> Result<Vec<&'static [Rule<'static>]>, AllocError>
+    ensures { IfOk result (λ v. flat_map (λ b. map rule_of b.now) v.items ≡ kinds.rules_of kind.Features) }
+{
+    collected(
+        &[features_rules(), features_2_rules(), features_3_rules()],
+        alloc,
+    )
+}
+
+fn collected(
+    books: &[&'static [Rule<'static>]],
+    alloc: Global,
+) -> Result<Vec<&'static [Rule<'static>]>, AllocError>
+    ensures { IfOk result (λ v. v.items ≡ books.now) }
+{
+    let mut out = Vec::new(alloc);
+    out.extend_from_slice(books)?;
+    Ok(out)
 }

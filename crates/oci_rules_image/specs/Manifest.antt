@@ -5,7 +5,7 @@ use Rattle.oci_rule_texts.specs.declared.grammar.Grammar.TheVariants.{MediaType}
 use Rattle.oci_rules.specs.Rules.{Rule, must, stated, should, host, here, under, each_item, if_so, asks, the_part, is_there, is_text, text, one_of, none_of, within, there, absent, not_empty, beneath}
 use Rattle.oci_rules_image.specs.Lists.{every, layer_types, nondistributable_types, subject_types}
 use Rattle.oci_rules_image.specs.Annotations.{image_annotations_elsewhere_rules}
-use Rattle.oci_rules_image.specs.Descriptor.{any_descriptor_rules}
+use Rattle.oci_rules_image.specs.Descriptor.{bare_descriptor_rules}
 
 -- the book of manifest
 abbrev pub manifest_rules : List Rule
@@ -17,6 +17,11 @@ manifest_rules =
     record { name = codes "manifest-artifact-type-there"; level = must; section = codes "image manifest.md#image-manifest-property-descriptions"; platforms = every; place = if_so (asks the_part (codes "config" ∷ codes "mediaType" ∷ []) true (is_text (codes "application/vnd.oci.empty.v1+json" ∷ []))) here; test = there (codes "artifactType") } ∷
     record { name = codes "manifest-config-type-known"; level = should; section = codes "image manifest.md#image-manifest-property-descriptions"; platforms = every; place = if_so (asks the_part (codes "artifactType" ∷ []) false is_there) (under (codes "config") (under (codes "mediaType") here)); test = one_of (codes "application/vnd.oci.image.config.v1+json" ∷ []) } ∷
     record { name = codes "manifest-layers-some"; level = should; section = codes "image manifest.md#image-manifest-property-descriptions"; platforms = every; place = under (codes "layers") here; test = not_empty } ∷
+    []
+
+-- the book of manifest 2
+abbrev pub manifest_2_rules : List Rule
+manifest_2_rules =
     record { name = codes "manifest-layer-type-known"; level = should; section = codes "image manifest.md#image-manifest-property-descriptions"; platforms = every; place = if_so (asks the_part (codes "config" ∷ codes "mediaType" ∷ []) true (is_text (codes "application/vnd.oci.image.config.v1+json" ∷ []))) (under (codes "layers") (each_item (under (codes "mediaType") here))); test = one_of layer_types } ∷
     record { name = codes "manifest-layer-distributable"; level = should; section = codes "image layer.md#non-distributable-layers"; platforms = every; place = under (codes "layers") (each_item (under (codes "mediaType") here)); test = none_of nondistributable_types } ∷
     record { name = codes "manifest-artifact-layer-some"; level = should; section = codes "image manifest.md#guidelines-for-artifact-usage"; platforms = every; place = if_so (asks the_part (codes "config" ∷ codes "mediaType" ∷ []) true (is_text (codes "application/vnd.oci.empty.v1+json" ∷ []))) (under (codes "layers") (each_item (under (codes "size") here))); test = within (pos 1) (pos 18446744073709551615) } ∷
@@ -34,14 +39,29 @@ manifest_annotations_rules =
 -- the book of manifest config
 abbrev pub manifest_config_rules : List Rule
 manifest_config_rules =
-    map (beneath (λ p. under (codes "config") p)) any_descriptor_rules
+    map (beneath (λ p. under (codes "config") p)) bare_descriptor_rules
+
+-- the book of manifest config annotations
+abbrev pub manifest_config_annotations_rules : List Rule
+manifest_config_annotations_rules =
+    map (beneath (λ p. under (codes "config") (under (codes "annotations") p))) image_annotations_elsewhere_rules
 
 -- the book of manifest layers
 abbrev pub manifest_layers_rules : List Rule
 manifest_layers_rules =
-    map (beneath (λ p. under (codes "layers") (each_item p))) any_descriptor_rules
+    map (beneath (λ p. under (codes "layers") (each_item p))) bare_descriptor_rules
+
+-- the book of manifest layers annotations
+abbrev pub manifest_layers_annotations_rules : List Rule
+manifest_layers_annotations_rules =
+    map (beneath (λ p. under (codes "layers") (each_item (under (codes "annotations") p)))) image_annotations_elsewhere_rules
 
 -- the book of manifest subject
 abbrev pub manifest_subject_rules : List Rule
 manifest_subject_rules =
-    map (beneath (λ p. under (codes "subject") p)) any_descriptor_rules
+    map (beneath (λ p. under (codes "subject") p)) bare_descriptor_rules
+
+-- the book of manifest subject annotations
+abbrev pub manifest_subject_annotations_rules : List Rule
+manifest_subject_annotations_rules =
+    map (beneath (λ p. under (codes "subject") (under (codes "annotations") p))) image_annotations_elsewhere_rules

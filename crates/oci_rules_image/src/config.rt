@@ -6,9 +6,9 @@ ghost use Rattle.oci_rules_image.specs.Config as defined;
 
 use crate::lists::{EVERY, GOARCH, GOOS};
 use oci_rule_texts::Grammar;
-use oci_rules::{Check, Condition, Key, Level, Origin, Rule, Step, Test};
+use oci_rules::{Check, Condition, Level, Origin, Rule, Step, Test};
 
-static RULES: [Rule<'static>; 21] = [
+static RULES: [Rule<'static>; 11] = [
     Rule {
         name: "config-created-date",
         level: Level::Stated,
@@ -144,124 +144,6 @@ static RULES: [Rule<'static>; 21] = [
             Step::EachName,
         ],
         test: Test::Text(Grammar::Port),
-    },
-    Rule {
-        name: "config-user",
-        level: Level::Stated,
-        section: "image config.md#properties",
-        wanted: "a user or ID, with :group behind it or nothing",
-        platforms: EVERY,
-        place: &[
-            Step::Member("config"),
-            Step::Member("User"),
-            Step::When(Condition {
-                origin: Origin::Part,
-                way: &[],
-                holds: false,
-                check: Check::OneOf(&[""]),
-            }),
-        ],
-        test: Test::Text(Grammar::User),
-    },
-    Rule {
-        name: "config-stop-signal",
-        level: Level::Stated,
-        section: "image config.md#properties",
-        wanted: "a signal's name, as SIGKILL or SIGRTMIN+3",
-        platforms: EVERY,
-        place: &[Step::Member("config"), Step::Member("StopSignal")],
-        test: Test::Text(Grammar::Signal),
-    },
-    Rule {
-        name: "config-args-escaped",
-        level: Level::Stated,
-        section: "image config.md#properties",
-        wanted: "no such member, which is deprecated",
-        platforms: EVERY,
-        place: &[Step::Member("config")],
-        test: Test::Absent("ArgsEscaped"),
-    },
-    Rule {
-        name: "config-reserved",
-        level: Level::Stated,
-        section: "image config.md#properties",
-        wanted: "no such member, which is reserved",
-        platforms: EVERY,
-        place: &[Step::Member("config")],
-        test: Test::Absent("Memory"),
-    },
-    Rule {
-        name: "config-reserved",
-        level: Level::Stated,
-        section: "image config.md#properties",
-        wanted: "no such member, which is reserved",
-        platforms: EVERY,
-        place: &[Step::Member("config")],
-        test: Test::Absent("MemorySwap"),
-    },
-    Rule {
-        name: "config-reserved",
-        level: Level::Stated,
-        section: "image config.md#properties",
-        wanted: "no such member, which is reserved",
-        platforms: EVERY,
-        place: &[Step::Member("config")],
-        test: Test::Absent("CpuShares"),
-    },
-    Rule {
-        name: "config-reserved",
-        level: Level::Stated,
-        section: "image config.md#properties",
-        wanted: "no such member, which is reserved",
-        platforms: EVERY,
-        place: &[Step::Member("config")],
-        test: Test::Absent("Healthcheck"),
-    },
-    Rule {
-        name: "config-env-once",
-        level: Level::Host,
-        section: "common practice",
-        wanted: "each variable once",
-        platforms: EVERY,
-        place: &[Step::Member("config"), Step::Member("Env")],
-        test: Test::Distinct(Key::EntryName),
-    },
-    Rule {
-        name: "config-volume-absolute",
-        level: Level::Host,
-        section: "common practice",
-        wanted: "an absolute path",
-        platforms: EVERY,
-        place: &[
-            Step::Member("config"),
-            Step::Member("Volumes"),
-            Step::EachName,
-        ],
-        test: Test::Text(Grammar::AbsolutePath),
-    },
-    Rule {
-        name: "config-working-dir-absolute",
-        level: Level::Host,
-        section: "common practice",
-        wanted: "an absolute path",
-        platforms: EVERY,
-        place: &[
-            Step::When(Condition {
-                origin: Origin::Part,
-                way: &["os"],
-                holds: false,
-                check: Check::OneOf(&["windows"]),
-            }),
-            Step::Member("config"),
-            Step::Member("WorkingDir"),
-            Step::When(Condition {
-                origin: Origin::Part,
-                way: &[],
-                holds: false,
-                check: Check::OneOf(&[""]),
-            }),
-        ],
-        test: Test::Text(Grammar::AbsolutePath),
     },
 ];
 

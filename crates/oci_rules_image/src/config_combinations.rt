@@ -7,7 +7,7 @@ ghost use Rattle.oci_rules_image.specs.Config as defined;
 use crate::lists::EVERY;
 use oci_rules::{Check, Condition, Level, Origin, Rule, Step, Test};
 
-static RULES: [Rule<'static>; 15] = [
+static RULES: [Rule<'static>; 8] = [
     Rule {
         name: "config-combination",
         level: Level::Host,
@@ -143,128 +143,6 @@ static RULES: [Rule<'static>; 15] = [
             Step::Member("architecture"),
         ],
         test: Test::OneOf(&["wasm"]),
-    },
-    Rule {
-        name: "config-combination",
-        level: Level::Host,
-        section: "common practice",
-        wanted: "a processor that this operating system runs on",
-        platforms: EVERY,
-        place: &[
-            Step::When(Condition {
-                origin: Origin::Part,
-                way: &["os"],
-                holds: true,
-                check: Check::OneOf(&["linux"]),
-            }),
-            Step::Member("architecture"),
-        ],
-        test: Test::OneOf(&[
-            "386", "amd64", "arm", "arm64", "loong64", "ppc64", "ppc64le", "mips", "mipsle",
-            "mips64", "mips64le", "riscv64", "s390x",
-        ]),
-    },
-    Rule {
-        name: "config-combination",
-        level: Level::Host,
-        section: "common practice",
-        wanted: "a processor that this operating system runs on",
-        platforms: EVERY,
-        place: &[
-            Step::When(Condition {
-                origin: Origin::Part,
-                way: &["os"],
-                holds: true,
-                check: Check::OneOf(&["netbsd"]),
-            }),
-            Step::Member("architecture"),
-        ],
-        test: Test::OneOf(&["386", "amd64", "arm", "arm64"]),
-    },
-    Rule {
-        name: "config-combination",
-        level: Level::Host,
-        section: "common practice",
-        wanted: "a processor that this operating system runs on",
-        platforms: EVERY,
-        place: &[
-            Step::When(Condition {
-                origin: Origin::Part,
-                way: &["os"],
-                holds: true,
-                check: Check::OneOf(&["openbsd"]),
-            }),
-            Step::Member("architecture"),
-        ],
-        test: Test::OneOf(&["386", "amd64", "arm", "arm64", "mips64", "ppc64", "riscv64"]),
-    },
-    Rule {
-        name: "config-combination",
-        level: Level::Host,
-        section: "common practice",
-        wanted: "a processor that this operating system runs on",
-        platforms: EVERY,
-        place: &[
-            Step::When(Condition {
-                origin: Origin::Part,
-                way: &["os"],
-                holds: true,
-                check: Check::OneOf(&["plan9"]),
-            }),
-            Step::Member("architecture"),
-        ],
-        test: Test::OneOf(&["386", "amd64", "arm"]),
-    },
-    Rule {
-        name: "config-combination",
-        level: Level::Host,
-        section: "common practice",
-        wanted: "a processor that this operating system runs on",
-        platforms: EVERY,
-        place: &[
-            Step::When(Condition {
-                origin: Origin::Part,
-                way: &["os"],
-                holds: true,
-                check: Check::OneOf(&["solaris"]),
-            }),
-            Step::Member("architecture"),
-        ],
-        test: Test::OneOf(&["amd64"]),
-    },
-    Rule {
-        name: "config-combination",
-        level: Level::Host,
-        section: "common practice",
-        wanted: "a processor that this operating system runs on",
-        platforms: EVERY,
-        place: &[
-            Step::When(Condition {
-                origin: Origin::Part,
-                way: &["os"],
-                holds: true,
-                check: Check::OneOf(&["wasip1"]),
-            }),
-            Step::Member("architecture"),
-        ],
-        test: Test::OneOf(&["wasm"]),
-    },
-    Rule {
-        name: "config-combination",
-        level: Level::Host,
-        section: "common practice",
-        wanted: "a processor that this operating system runs on",
-        platforms: EVERY,
-        place: &[
-            Step::When(Condition {
-                origin: Origin::Part,
-                way: &["os"],
-                holds: true,
-                check: Check::OneOf(&["windows"]),
-            }),
-            Step::Member("architecture"),
-        ],
-        test: Test::OneOf(&["386", "amd64", "arm", "arm64"]),
     },
 ];
 

@@ -6,9 +6,9 @@ ghost use Rattle.oci_rules_image.specs.Index as defined;
 
 use crate::lists::{EVERY, GOARCH, GOOS, MANIFEST_TYPES};
 use oci_rule_texts::Grammar;
-use oci_rules::{Check, Condition, Key, Level, Origin, Rule, Step, Test};
+use oci_rules::{Check, Condition, Level, Origin, Rule, Step, Test};
 
-static RULES: [Rule<'static>; 16] = [
+static RULES: [Rule<'static>; 8] = [
     Rule {
         name: "index-schema-version",
         level: Level::Must,
@@ -103,131 +103,6 @@ static RULES: [Rule<'static>; 16] = [
             Step::Member("os"),
         ],
         test: Test::OneOf(GOOS),
-    },
-    Rule {
-        name: "platform-variant-known",
-        level: Level::Should,
-        section: "image image-index.md#platform-variants",
-        wanted: "a variant that the specification lists for this processor",
-        platforms: EVERY,
-        place: &[
-            Step::Member("manifests"),
-            Step::EachItem,
-            Step::Member("platform"),
-            Step::When(Condition {
-                origin: Origin::Part,
-                way: &["architecture"],
-                holds: true,
-                check: Check::OneOf(&["arm"]),
-            }),
-            Step::Member("variant"),
-        ],
-        test: Test::OneOf(&["v6", "v7", "v8"]),
-    },
-    Rule {
-        name: "platform-variant-known",
-        level: Level::Should,
-        section: "image image-index.md#platform-variants",
-        wanted: "a variant that the specification lists for this processor",
-        platforms: EVERY,
-        place: &[
-            Step::Member("manifests"),
-            Step::EachItem,
-            Step::Member("platform"),
-            Step::When(Condition {
-                origin: Origin::Part,
-                way: &["architecture"],
-                holds: true,
-                check: Check::OneOf(&["arm64"]),
-            }),
-            Step::Member("variant"),
-        ],
-        test: Test::OneOf(&["v8"]),
-    },
-    Rule {
-        name: "platform-features-windows",
-        level: Level::Should,
-        section: "image image-index.md#image-index-property-descriptions",
-        wanted: "a feature that the specification lists for Windows",
-        platforms: EVERY,
-        place: &[
-            Step::Member("manifests"),
-            Step::EachItem,
-            Step::Member("platform"),
-            Step::When(Condition {
-                origin: Origin::Part,
-                way: &["os"],
-                holds: true,
-                check: Check::OneOf(&["windows"]),
-            }),
-            Step::Member("os.features"),
-            Step::EachItem,
-        ],
-        test: Test::OneOf(&["win32k"]),
-    },
-    Rule {
-        name: "platform-features-windows",
-        level: Level::Should,
-        section: "image image-index.md#image-index-property-descriptions",
-        wanted: "a feature that the specification lists for Windows",
-        platforms: EVERY,
-        place: &[
-            Step::Member("manifests"),
-            Step::EachItem,
-            Step::Member("platform"),
-            Step::When(Condition {
-                origin: Origin::Part,
-                way: &["os"],
-                holds: true,
-                check: Check::OneOf(&["windows"]),
-            }),
-            Step::Member("os_features"),
-            Step::EachItem,
-        ],
-        test: Test::OneOf(&["win32k"]),
-    },
-    Rule {
-        name: "platform-features-reserved",
-        level: Level::Stated,
-        section: "image image-index.md#image-index-property-descriptions",
-        wanted: "no such member, which is reserved",
-        platforms: EVERY,
-        place: &[
-            Step::Member("manifests"),
-            Step::EachItem,
-            Step::Member("platform"),
-        ],
-        test: Test::Absent("features"),
-    },
-    Rule {
-        name: "index-ref-name-once",
-        level: Level::Host,
-        section: "image image-layout.md#indexjson-file",
-        wanted: "each name of a reference once",
-        platforms: EVERY,
-        place: &[Step::Member("manifests")],
-        test: Test::Distinct(Key::Members(&[&[
-            "annotations",
-            "org.opencontainers.image.ref.name",
-        ]])),
-    },
-    Rule {
-        name: "index-not-manifest",
-        level: Level::Host,
-        section: "common practice",
-        wanted: "no member of another kind of manifest",
-        platforms: EVERY,
-        place: &[],
-        test: Test::Absent("config"),
-    },
-    Rule {
-        name: "index-not-manifest",
-        level: Level::Host,
-        section: "common practice",
-        wanted: "no member of another kind of manifest",
-        platforms: EVERY,
-        place: &[],
-        test: Test::Absent("layers"),
     },
 ];
 

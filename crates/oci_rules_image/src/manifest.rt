@@ -4,11 +4,11 @@ ghost use Rattle.std.specs.Prelude.{◌≡◌, map};
 ghost use Rattle.oci_rules.specs.Tables.{rule_of};
 ghost use Rattle.oci_rules_image.specs.Manifest as defined;
 
-use crate::lists::{EVERY, LAYER_TYPES, NONDISTRIBUTABLE_TYPES, SUBJECT_TYPES};
+use crate::lists::EVERY;
 use oci_rule_texts::Grammar;
 use oci_rules::{Check, Condition, Level, Origin, Rule, Step, Test};
 
-static RULES: [Rule<'static>; 14] = [
+static RULES: [Rule<'static>; 7] = [
     Rule {
         name: "manifest-schema-version",
         level: Level::Must,
@@ -85,103 +85,6 @@ static RULES: [Rule<'static>; 14] = [
         platforms: EVERY,
         place: &[Step::Member("layers")],
         test: Test::NotEmpty,
-    },
-    Rule {
-        name: "manifest-layer-type-known",
-        level: Level::Should,
-        section: "image manifest.md#image-manifest-property-descriptions",
-        wanted: "a type of layer that every implementation supports",
-        platforms: EVERY,
-        place: &[
-            Step::When(Condition {
-                origin: Origin::Part,
-                way: &["config", "mediaType"],
-                holds: true,
-                check: Check::OneOf(&["application/vnd.oci.image.config.v1+json"]),
-            }),
-            Step::Member("layers"),
-            Step::EachItem,
-            Step::Member("mediaType"),
-        ],
-        test: Test::OneOf(LAYER_TYPES),
-    },
-    Rule {
-        name: "manifest-layer-distributable",
-        level: Level::Should,
-        section: "image layer.md#non-distributable-layers",
-        wanted: "a type of layer that may be distributed",
-        platforms: EVERY,
-        place: &[
-            Step::Member("layers"),
-            Step::EachItem,
-            Step::Member("mediaType"),
-        ],
-        test: Test::NoneOf(NONDISTRIBUTABLE_TYPES),
-    },
-    Rule {
-        name: "manifest-artifact-layer-some",
-        level: Level::Should,
-        section: "image manifest.md#guidelines-for-artifact-usage",
-        wanted: "a layer of an artifact that is not empty",
-        platforms: EVERY,
-        place: &[
-            Step::When(Condition {
-                origin: Origin::Part,
-                way: &["config", "mediaType"],
-                holds: true,
-                check: Check::OneOf(&["application/vnd.oci.empty.v1+json"]),
-            }),
-            Step::Member("layers"),
-            Step::EachItem,
-            Step::Member("size"),
-        ],
-        test: Test::Within(1, 18446744073709551615),
-    },
-    Rule {
-        name: "manifest-artifact-layer-some",
-        level: Level::Should,
-        section: "image manifest.md#guidelines-for-artifact-usage",
-        wanted: "a layer of an artifact that is not empty",
-        platforms: EVERY,
-        place: &[
-            Step::When(Condition {
-                origin: Origin::Part,
-                way: &["artifactType"],
-                holds: true,
-                check: Check::There,
-            }),
-            Step::Member("layers"),
-            Step::EachItem,
-            Step::Member("size"),
-        ],
-        test: Test::Within(1, 18446744073709551615),
-    },
-    Rule {
-        name: "manifest-subject-type",
-        level: Level::Stated,
-        section: "image manifest.md#image-manifest-property-descriptions",
-        wanted: "the media type of a manifest or index",
-        platforms: EVERY,
-        place: &[Step::Member("subject"), Step::Member("mediaType")],
-        test: Test::OneOf(SUBJECT_TYPES),
-    },
-    Rule {
-        name: "manifest-not-index",
-        level: Level::Host,
-        section: "common practice",
-        wanted: "no member of another kind of manifest",
-        platforms: EVERY,
-        place: &[],
-        test: Test::Absent("manifests"),
-    },
-    Rule {
-        name: "manifest-not-index",
-        level: Level::Host,
-        section: "common practice",
-        wanted: "no member of another kind of manifest",
-        platforms: EVERY,
-        place: &[],
-        test: Test::Absent("fsLayers"),
     },
 ];
 

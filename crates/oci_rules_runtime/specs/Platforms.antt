@@ -19,6 +19,11 @@ platforms_rules =
     record { name = codes "windows-cpu-maximum"; level = stated; section = codes "runtime config-windows.md#cpu"; platforms = every; place = under (codes "windows") (under (codes "resources") (under (codes "cpu") (under (codes "maximum") here))); test = within (pos 0) (pos 10000) } ∷
     record { name = codes "windows-network-alone"; level = stated; section = codes "runtime config-windows.md#network"; platforms = every; place = under (codes "windows") (under (codes "network") (if_so (asks the_part (codes "networkNamespace" ∷ []) true is_there) here)); test = absent (codes "endpointList") } ∷
     record { name = codes "windows-network-alone"; level = stated; section = codes "runtime config-windows.md#network"; platforms = every; place = under (codes "windows") (under (codes "network") (if_so (asks the_part (codes "networkNamespace" ∷ []) true is_there) here)); test = absent (codes "allowUnqualifiedDNSQuery") } ∷
+    []
+
+-- the book of platforms 2
+abbrev pub platforms_2_rules : List Rule
+platforms_2_rules =
     record { name = codes "windows-network-alone"; level = stated; section = codes "runtime config-windows.md#network"; platforms = every; place = under (codes "windows") (under (codes "network") (if_so (asks the_part (codes "networkNamespace" ∷ []) true is_there) here)); test = absent (codes "DNSSearchList") } ∷
     record { name = codes "windows-network-alone"; level = stated; section = codes "runtime config-windows.md#network"; platforms = every; place = under (codes "windows") (under (codes "network") (if_so (asks the_part (codes "networkNamespace" ∷ []) true is_there) here)); test = absent (codes "networkSharedContainerName") } ∷
     record { name = codes "vm-path-absolute"; level = must; section = codes "runtime config-vm.md#hypervisor-object"; platforms = every; place = under (codes "vm") (under (codes "hypervisor") (under (codes "path") here)); test = text AbsolutePath } ∷

@@ -6,9 +6,9 @@ ghost use Rattle.oci_rules_runtime.specs.Features as defined;
 
 use crate::lists::{EVERY, HOOK_KINDS, LINUX_MOUNT_OPTIONS, SECCOMP_FLAGS, SECCOMP_OPERATORS};
 use oci_rule_texts::Grammar;
-use oci_rules::{Key, Level, Rule, Step, Test};
+use oci_rules::{Level, Rule, Step, Test};
 
-static RULES: [Rule<'static>; 20] = [
+static RULES: [Rule<'static>; 9] = [
     Rule {
         name: "features-versions",
         level: Level::Stated,
@@ -108,125 +108,6 @@ static RULES: [Rule<'static>; 20] = [
             Step::EachItem,
         ],
         test: Test::OneOf(SECCOMP_FLAGS),
-    },
-    Rule {
-        name: "features-once",
-        level: Level::Host,
-        section: "common practice",
-        wanted: "each name once",
-        platforms: EVERY,
-        place: &[Step::Member("hooks")],
-        test: Test::Distinct(Key::Itself),
-    },
-    Rule {
-        name: "features-once",
-        level: Level::Host,
-        section: "common practice",
-        wanted: "each name once",
-        platforms: EVERY,
-        place: &[Step::Member("mountOptions")],
-        test: Test::Distinct(Key::Itself),
-    },
-    Rule {
-        name: "features-once",
-        level: Level::Host,
-        section: "common practice",
-        wanted: "each name once",
-        platforms: EVERY,
-        place: &[Step::Member("linux"), Step::Member("namespaces")],
-        test: Test::Distinct(Key::Itself),
-    },
-    Rule {
-        name: "features-once",
-        level: Level::Host,
-        section: "common practice",
-        wanted: "each name once",
-        platforms: EVERY,
-        place: &[Step::Member("linux"), Step::Member("capabilities")],
-        test: Test::Distinct(Key::Itself),
-    },
-    Rule {
-        name: "features-once",
-        level: Level::Host,
-        section: "common practice",
-        wanted: "each name once",
-        platforms: EVERY,
-        place: &[
-            Step::Member("linux"),
-            Step::Member("seccomp"),
-            Step::Member("actions"),
-        ],
-        test: Test::Distinct(Key::Itself),
-    },
-    Rule {
-        name: "features-once",
-        level: Level::Host,
-        section: "common practice",
-        wanted: "each name once",
-        platforms: EVERY,
-        place: &[
-            Step::Member("linux"),
-            Step::Member("seccomp"),
-            Step::Member("operators"),
-        ],
-        test: Test::Distinct(Key::Itself),
-    },
-    Rule {
-        name: "features-once",
-        level: Level::Host,
-        section: "common practice",
-        wanted: "each name once",
-        platforms: EVERY,
-        place: &[
-            Step::Member("linux"),
-            Step::Member("seccomp"),
-            Step::Member("archs"),
-        ],
-        test: Test::Distinct(Key::Itself),
-    },
-    Rule {
-        name: "features-once",
-        level: Level::Host,
-        section: "common practice",
-        wanted: "each name once",
-        platforms: EVERY,
-        place: &[
-            Step::Member("linux"),
-            Step::Member("seccomp"),
-            Step::Member("knownFlags"),
-        ],
-        test: Test::Distinct(Key::Itself),
-    },
-    Rule {
-        name: "features-once",
-        level: Level::Host,
-        section: "common practice",
-        wanted: "each name once",
-        platforms: EVERY,
-        place: &[
-            Step::Member("linux"),
-            Step::Member("seccomp"),
-            Step::Member("supportedFlags"),
-        ],
-        test: Test::Distinct(Key::Itself),
-    },
-    Rule {
-        name: "annotation-key-not-empty",
-        level: Level::Must,
-        section: "runtime config.md#annotations",
-        wanted: "a key that is not empty",
-        platforms: EVERY,
-        place: &[Step::Member("annotations"), Step::EachName],
-        test: Test::NotEmpty,
-    },
-    Rule {
-        name: "annotation-key-reverse-domain",
-        level: Level::Should,
-        section: "runtime config.md#annotations",
-        wanted: "a key in reverse domain notation, as com.example.myKey",
-        platforms: EVERY,
-        place: &[Step::Member("annotations"), Step::EachName],
-        test: Test::Text(Grammar::ReverseDomain),
     },
 ];
 

@@ -15,7 +15,7 @@ pub fn broken_of(
 ) -> Result<Vec<Broken<'static>>> {
     let kind = Kind::from_word(kind).context("no kind of documents")?;
     let mut out = Vec::new(alloc);
-    for rules in rules_of(kind) {
+    for rules in &rules_of(kind, alloc)? {
         for it in broken(rules, platform, value, alloc)? {
             out.push(it)?;
         }
