@@ -85,7 +85,7 @@ pub struct Held {
 #[derive(Drop)]
 pub struct Seen {
     pub fault: Option<Fault>,
-    /// What its document claims, in the order in which it stands there.
+    /// What its document claims, in the document's order.
     pub claims: Vec<Claim>,
     /// What is found of the content that each of these descriptors holds itself.
     pub held: Vec<Held>,

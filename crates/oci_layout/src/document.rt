@@ -31,7 +31,7 @@ impl Seen {
         }
     }
 
-    /// This fault, and nothing is claimed.
+    /// One that something stands against, and that claims nothing.
     pub fn of_fault(alloc: Global, fault: Fault) -> Seen
         ensures { IsFault fault result.fault result.claims.items }
     {

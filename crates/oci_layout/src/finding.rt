@@ -1,4 +1,4 @@
-//! Findings, and how they are told.
+//! Findings, and how they are reported.
 use crate::claim::{Claim, Fault, Role};
 use crate::path::blob_path;
 use crate::walk::{Detail, Walk};
@@ -14,7 +14,7 @@ pub struct Finding {
     pub is_note: bool,
     /// The path in the layout, and behind `#` the JSON pointer of a part.
     pub place: String,
-    /// What is told of it.
+    /// What was found there.
     pub text: String,
     /// Where it is claimed: the place of a descriptor in `index.json` or another document, from the outermost on.
     pub claimed_by: Vec<String>,
@@ -38,7 +38,7 @@ impl Finding {
         })
     }
 
-    /// The line: the place, what is told, and in parentheses the path of claims.
+    /// The line: the place, what was found, and in parentheses the path of claims.
     pub fn line(&self, alloc: Global) -> Result<String, AllocError> {
         let mut line = String::new(alloc);
         if self.is_note {
@@ -109,7 +109,7 @@ fn add_fault(
     Ok(())
 }
 
-/// A word for a fault.
+/// A word for what stands against a claim.
 fn fault_word(fault: Fault) -> &'static str {
     match fault {
         Fault::Missing => "missing",
@@ -123,7 +123,7 @@ fn fault_word(fault: Fault) -> &'static str {
     }
 }
 
-/// What is told of a fault.
+/// The text of what stands against a claim.
 fn fault_text(alloc: Global, claim: &Claim, fault: Fault) -> Result<String, AllocError> {
     let size = claim.size;
     match fault {
@@ -187,7 +187,7 @@ pub fn add_details(
     Ok(())
 }
 
-/// What is told of a content that a descriptor holds itself, if something stands against it.
+/// The text for a content that a descriptor holds itself, if something stands against it.
 fn held_text(embedded: Embedded) -> Option<&'static str> {
     match embedded {
         Embedded::Absent | Embedded::Content(Verdict::Same) => None,

@@ -16,7 +16,7 @@ pub fn is_fine(claim: &Claim, fault: Option<Fault>) -> bool
     }
 }
 
-/// The same, for each claim and the fault at its place.
+/// The same, for each claim and what is found at its place.
 pub fn are_fine(claims: &[Claim], faults: &[Option<Fault>]) -> bool
     ensures { IsTrue result → AreFine claims.now faults.now }
 {

@@ -1,6 +1,6 @@
 //! How a layout is verified.
 
-/// How a layout is verified, and how that is told.
+/// How a layout is verified, and how that is reported.
 #[derive(Clone, Copy, Debug, PartialEq, Eq)]
 pub struct Options {
     /// One JSON document at the end, in place of lines.
@@ -9,7 +9,7 @@ pub struct Options {
     pub strict: bool,
     /// Contents that are no documents are left unread: their sizes alone are looked at.
     pub quick: bool,
-    /// A line a second of what was done, on the error stream.
+    /// A line a second of what was done, on standard error.
     pub progress: bool,
     /// How large a document may be, in bytes.
     pub limit: u64,

@@ -26,9 +26,9 @@ use std::io::Write;
 /// How many bytes are read at once.
 const PIECE: usize = 65536;
 
-/// Verifies all that the index of a layout reaches, tells what it finds, and returns the exit status: 0 if nothing stands against the
+/// Verifies all that the index of a layout reaches, reports what it finds, and returns the exit status: 0 if nothing stands against the
 /// layout, 1 if something does, and 2 if it has no index that can be read, if a write failed, or if out of memory; a line on the
-/// error stream then says which.
+/// standard error then says which.
 pub fn run<L: ImageLayout, C: Watch, W: Write, E: Write>(
     layout: &L,
     options: &Options,
@@ -58,7 +58,7 @@ fn refusal_line(refusal: &OciSpecError) -> &'static str {
     }
 }
 
-/// Whether nothing stands against the layout; what does is told.
+/// Whether nothing stands against the layout; what does is reported.
 fn verify_layout<L: ImageLayout, C: Watch, W: Write, E: Write>(
     layout: &L,
     options: &Options,
@@ -176,7 +176,7 @@ fn verify_claims<L: ImageLayout, C: Watch, W: Write, E: Write>(
     }
 }
 
-/// Looks at all claims that are reached from the first ones, and tells what is found at each as it is found.
+/// Looks at all claims that are reached from the first ones, and reports what is found at each as it is found.
 fn look_at_all<S: Shown, C: Watch, W: Write, E: Write>(
     shown: &S,
     options: &Options,

@@ -1,4 +1,4 @@
-//! What was done of all, told once a second.
+//! What was done of all, reported once a second.
 use crate::claim::Claim;
 use crate::options::Options;
 use oci_json_io::write_text;
@@ -39,7 +39,7 @@ impl Progress {
         }
     }
 
-    /// Counts one content more, and tells it if a second has passed.
+    /// Counts one content more, and reports it if a second has passed.
     pub fn count<C: Watch, E: Write>(
         &mut self,
         alloc: Global,
@@ -63,7 +63,7 @@ impl Progress {
         Ok(())
     }
 
-    /// Tells what was done at the end.
+    /// Reports what was done at the end.
     pub fn end<E: Write>(&self, alloc: Global, options: &Options, errors: &mut E) -> Result<()> {
         if options.progress {
             self.tell(alloc, errors)?;
@@ -79,7 +79,7 @@ impl Progress {
         let line = format!(in alloc;
             "{contents} of {all_contents} contents, {bytes} of {all_bytes} bytes\n"
         )?;
-        // the error stream may be closed
+        // standard error may be closed
         let _ = write_text(line.as_bytes(), errors);
         Ok(())
     }

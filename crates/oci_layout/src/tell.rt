@@ -7,7 +7,7 @@ use serde_json::{Map, Value};
 use std::alloc::Global;
 use std::io::Write;
 
-/// What was told so far.
+/// What was reported so far.
 #[derive(Drop)]
 pub struct Told {
     /// How many findings there were.
@@ -69,7 +69,7 @@ impl Told {
         Ok(())
     }
 
-    /// Ends: where JSON is asked for, writes the document of all that was told, and a newline.
+    /// Ends: where JSON is asked for, writes the document of all that was reported, and a newline.
     pub fn finish<W: Write>(
         self,
         alloc: Global,

@@ -18,7 +18,7 @@ pub struct Mention {
     pub at: usize,
 }
 
-/// What was seen at a claim beside its fault.
+/// What was seen at a claim beside what stands against it.
 #[derive(Drop)]
 pub struct Detail {
     /// What is found of the content that each descriptor of its document holds itself.
@@ -35,7 +35,7 @@ impl Detail {
 }
 
 /// A walk: all claims that were reached so far, where each was found first, and for those that were looked at, from the first on,
-/// the fault and what was seen beside it.
+/// what stands against it and what was seen beside that.
 #[derive(Drop)]
 pub struct Walk {
     pub claims: Vec<Claim>,

@@ -5,12 +5,12 @@
 use oci_content::Algorithm;
 use oci_layout::{Folder, Options, Watch, run, sum_line};
 use oci_text_base::Result;
-use std::env;
-use std::fs;
 use std::process::ExitCode;
 use std::time::Instant;
+use std::{env, fs};
 
-const USAGE: &str = "usage: ociverify [--json] [--strict] [--quick] [--progress] DIR | ociverify --digest ALGORITHM FILE..";
+const USAGE: &str =
+    "usage: ociverify [--json] [--strict] [--quick] [--progress] DIR | ociverify --digest ALGORITHM FILE..";
 
 /// The seconds since the program began.
 #[derive(Drop)]
@@ -54,12 +54,12 @@ fn asked<'a>(words: &'a [String]) -> Option<(Options, &'a str)> {
 
 /// Prints the digest of each file; whether all could be read.
 fn print_digests(rt: &HostRuntime, algorithm: Algorithm, files: &[String]) -> Result<bool> {
-    let mut buffer = vec![in rt.alloc(); 0u8; 65536]?;
+    let mut buffer = [0u8; 16384];
     let mut all = true;
     for name in files {
         let name = name.as_str();
         let line = match fs::open(rt, name) {
-            Ok(mut file) => sum_line(rt.alloc(), algorithm, name, &mut file, buffer.as_mut_slice()),
+            Ok(mut file) => sum_line(rt.alloc(), algorithm, name, &mut file, &mut buffer),
             Err(fault) => Err(fault.into()),
         };
         match line {
@@ -81,7 +81,14 @@ fn verify(rt: &HostRuntime, options: &Options, root: &str) -> u8 {
     let folder = Folder { rt, root };
     let mut writer = rt.stdout();
     let mut errors = rt.stderr();
-    run(&folder, options, rt.alloc(), &watch, &mut writer, &mut errors)
+    run(
+        &folder,
+        options,
+        rt.alloc(),
+        &watch,
+        &mut writer,
+        &mut errors,
+    )
 }
 
 fn work(rt: &HostRuntime) -> Result<u8> {
@@ -92,7 +99,11 @@ fn work(rt: &HostRuntime) -> Result<u8> {
     if let [first, name, files @ ..] = words.as_slice() {
         if first.as_str() == "--digest" {
             if let Some(algorithm) = Algorithm::from_name(name.as_str()) {
-                return Ok(if print_digests(rt, algorithm, files)? { 0 } else { 1 });
+                return Ok(if print_digests(rt, algorithm, files)? {
+                    0
+                } else {
+                    1
+                });
             }
         }
     }
