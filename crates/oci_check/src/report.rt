@@ -1,14 +1,17 @@
 //! The schema violations in the bytes of a document.
-ghost use Rattle.std.specs.Prelude.{◌≡◌, ◌↔◌, true, IfOk, IfErr};
+ghost use Rattle.std.specs.Prelude.{◌≡◌, ◌↔◌, [], codes, string_bytes, true, IfOk, IfErr};
+ghost use Rattle.serde_json.specs.Data.{Data};
 ghost use Rattle.oci_json_model.specs.Plain.{Plain};
-ghost use Rattle.oci_json_io.specs.Engines.{MeansBytes};
+ghost use Rattle.oci_json_io.specs.Engines.{MeansBytes, ReadsAs, IsNoJson};
 ghost use Rattle.oci_text_base.specs.Refused.{IsMemory};
 ghost use Rattle.oci_schema_types.specs.Shapes.{schema_shape};
+ghost use Rattle.oci_schema_walks.specs.Lines.{lines};
+ghost use Rattle.oci_schema_walks.specs.Violations.{violations as all_violations};
 
-use oci_schema::{Records, Schema, Violation, violations};
+use oci_schema::{Records, Schema, violation_lines, violations};
 use oci_text_base::{OciSpecError, Result};
 use serde_json::Value;
-use std::alloc::{AllocError, Global};
+use std::alloc::Global;
 
 /// What was found in the bytes of a document.
 #[derive(Drop)]
@@ -29,12 +32,14 @@ pub fn judge<T: Records>(
     alloc: Global,
 ) -> Result<Report>
     ensures valid { IfOk result (λ r. (r.is_valid ≡ true) ↔ ((p : Plain) × MeansBytes (schema_shape (T.shape_at records.now) schema.now) bytes.now p)) }
+    ensures lines { IfOk result (λ r. (d : Data) → ReadsAs bytes.now d → string_bytes r.lines ≡ lines (all_violations (schema_shape (T.shape_at records.now) schema.now) [] d)) }
+    ensures no_json { IfOk result (λ r. IsNoJson bytes.now → string_bytes r.lines ≡ codes ": a JSON text\n") }
     ensures kind { IfErr result IsMemory }
 {
     match Value::from_slice(alloc, bytes) {
         Ok(value) => {
             let found = violations(records, schema, &value, alloc)?;
-            let lines = lines_of(&found, alloc)?;
+            let lines = violation_lines(&found, alloc)?;
             let is_valid = found.is_empty();
             Ok(Report { lines, is_valid })
         }
@@ -49,16 +54,4 @@ pub fn judge<T: Records>(
             })
         }
     }
-}
-
-/// A line for each violation.
-fn lines_of(found: &Vec<Violation>, alloc: Global) -> std::result::Result<String, AllocError> {
-    let mut lines = String::new(alloc);
-    for violation in found {
-        let pointer = violation.pointer.as_str();
-        let expected = violation.expected;
-        let line = format!(in alloc; "{pointer}: {expected}\n")?;
-        lines.push_str(line.as_str())?;
-    }
-    Ok(lines)
 }
