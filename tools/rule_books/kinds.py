@@ -75,7 +75,25 @@ def places(model):
     return out + "".join(f"each_stands {variant(kind)} = refl\n" for kind in model.kinds)
 
 
+def answers(model, kind):
+    """The proof for a kind of many books, which is one step a book."""
+    books = model.books_of(kind)
+    calls = [f"c.{it.word}_rules" for it in books]
+    steps = " (".join(f"chained {it}.result {it}.ensures" for it in calls)
+    out = "use Rattle.std.proofs.Common.{[], ◌∷◌}\n"
+    out += f"use Rattle.{CRATE}.specs.Kinds as kinds\nuse Rattle.{CRATE}.proofs.Chains.{{chained, chained_none, collects}}\n"
+    out += "use Rattle.oci_doc_run.specs.declared.kind.Kind.TheVariants as kind\n"
+    out += f"use Rattle.{CRATE}.proofs.{snake_of(kind)}_books.Goals as goal\n\npub returns : goal.returns\n"
+    out += f"returns c = collects c.collected.result (λ v. v.items) ({' ∷ '.join(f'{it}.result' for it in calls)} ∷ []) (kinds.rules_of kind.{variant(kind)}) c.collected.ensures\n"
+    return out + f"    ({steps} chained_none{')' * len(calls)}\n"
+
+
+# from so many books on the search does not find the proof
+MANY = 12
+
+
 def files(model):
     """All files, by their paths."""
     folder = f"crates/{CRATE}"
-    return {f"{folder}/specs/Kinds.antt": kinds_specs(model), f"{folder}/src/lib.rt": kinds_source(model), f"{folder}/proofs/Places.antt": places(model)}
+    many = {f"{folder}/proofs/{snake_of(kind)}_books/Answers.antt": answers(model, kind) for kind in model.kinds if len(model.books_of(kind)) > MANY}
+    return many | {f"{folder}/specs/Kinds.antt": kinds_specs(model), f"{folder}/src/lib.rt": kinds_source(model), f"{folder}/proofs/Places.antt": places(model)}
