@@ -2,7 +2,7 @@
 use Rattle.std.proofs.Common.{◌≡◌, ◌++◌, List, [], ◌∷◌, map, ap, ◌∙◌, refl}
 use Rattle.std.specs.Borrow.{Bor}
 use Rattle.std.specs.List.{flat_map}
-use Rattle.std.specs.Prelude.{Result, IfOk}
+use Rattle.std.specs.Prelude.{Result, IfOk, ⊤}
 use Rattle.std.proofs.lemmas.Result.{IfOk-weaker}
 use Rattle.oci_rules.specs.declared.rule.Rule as declared
 use Rattle.oci_rules.specs.Rules.{Rule}
@@ -11,11 +11,22 @@ use Rattle.oci_rules.specs.Tables.{rule_of}
 abbrev pub rules_in : List (Bor (List declared.Rule)) → List Rule
 rules_in bs = flat_map (λ b. map rule_of b.now) bs
 
-pub chained_none : rules_in [] ≡ []
-chained_none = refl
+-- each book has these rules
+abbrev pub AllHave : List (Bor (List declared.Rule)) → List (List Rule) → Type 0
+AllHave [] [] = ⊤
+AllHave [] (rs ∷ rss) = ⊥
+AllHave (b ∷ bs) [] = ⊥
+AllHave (b ∷ bs) (rs ∷ rss) = (map rule_of b.now ≡ rs) × AllHave bs rss
 
-pub chained : (b : Bor (List declared.Rule)) {bs : List (Bor (List declared.Rule))} {rs rest : List Rule} → map rule_of b.now ≡ rs → rules_in bs ≡ rest → rules_in (b ∷ bs) ≡ rs ++ rest
-chained b {bs} {rs} one more = ap (λ x. x ++ rules_in bs) one ∙ ap (λ y. rs ++ y) more
+abbrev pub joined : List (List Rule) → List Rule
+joined [] = []
+joined (rs ∷ rss) = rs ++ joined rss
+
+pub all_joined : (bs : List (Bor (List declared.Rule))) (rss : List (List Rule)) → AllHave bs rss → rules_in bs ≡ joined rss
+all_joined [] [] have = refl
+all_joined [] (rs ∷ rss) have = elim have [ ]
+all_joined (b ∷ bs) [] have = elim have [ ]
+all_joined (b ∷ bs) (rs ∷ rss) have = ap (λ x. x ++ rules_in bs) have.0 ∙ ap (λ y. rs ++ y) (all_joined bs rss have.1)
 
 pub collects : {X E : Type 0} (r : Result X E) (items : X → List (Bor (List declared.Rule))) (bs : List (Bor (List declared.Rule))) (rs : List Rule)
     → IfOk r (λ v. items v ≡ bs) → rules_in bs ≡ rs → IfOk r (λ v. flat_map (λ b. map rule_of b.now) (items v) ≡ rs)
