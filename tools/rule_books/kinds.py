@@ -75,7 +75,31 @@ def places(model):
     return out + "".join(f"each_stands {variant(kind)} = refl\n" for kind in model.kinds)
 
 
+def answers(model, kind):
+    """The proof for a kind of many books, which is one step a book."""
+    books = model.books_of(kind)
+    calls = [f"c.{it.word}_rules" for it in books]
+    listed = "".join(f"{it}.result ∷ " for it in calls) + "[]"
+    rules = "".join(f"{it.word}_rules ∷ " for it in books) + "[]"
+    equal = "".join(f"({it}.ensures, " for it in calls) + "tt" + ")" * len(calls)
+    imports = {}
+    for it in books:
+        imports.setdefault((model.crate[it.file], pascal(it.file)), []).append(f"{it.word}_rules")
+    out = "use Rattle.std.proofs.Common.{[], ◌∷◌}\n"
+    out += f"use Rattle.{CRATE}.specs.Kinds as kinds\nuse Rattle.{CRATE}.proofs.Chains.{{all_joined, collects}}\n"
+    out += "".join(f"use Rattle.{crate}.specs.{file}.{{{', '.join(words)}}}\n" for (crate, file), words in sorted(imports.items()))
+    out += "use Rattle.oci_doc_run.specs.declared.kind.Kind.TheVariants as kind\n"
+    out += f"use Rattle.{CRATE}.proofs.{snake_of(kind)}_books.Goals as goal\n\npub returns : goal.returns\nreturns c =\n"
+    out += f"    collects c.collected.result (λ v. v.items)\n    ({listed})\n    (kinds.rules_of kind.{variant(kind)}) c.collected.ensures\n"
+    return out + f"    (all_joined\n    ({listed})\n    ({rules})\n    {equal})\n"
+
+
+# from so many books on the search does not find the proof
+MANY = 12
+
+
 def files(model):
     """All files, by their paths."""
     folder = f"crates/{CRATE}"
-    return {f"{folder}/specs/Kinds.antt": kinds_specs(model), f"{folder}/src/lib.rt": kinds_source(model), f"{folder}/proofs/Places.antt": places(model)}
+    many = {f"{folder}/proofs/{snake_of(kind)}_books/Answers.antt": answers(model, kind) for kind in model.kinds if len(model.books_of(kind)) > MANY}
+    return many | {f"{folder}/specs/Kinds.antt": kinds_specs(model), f"{folder}/src/lib.rt": kinds_source(model), f"{folder}/proofs/Places.antt": places(model)}

@@ -134,16 +134,22 @@ def lacking(model, rows):
     return out + [f"{name}: rows of no rule" for name in found if name not in rules]
 
 
+def written(rows, model):
+    """The data of the test program, a file a kind, and what it prints."""
+    out = {f"data/{kind}.rows": MARK + "".join("\n" + row.text() for row in of_kind) for kind, of_kind in rows.items()}
+    out["stdout"] = "".join(f"{kind}: {len(rows.get(kind, ()))} rows\n" for kind in model.kinds)
+    return out
+
+
 def run(root, model, check):
     """Writes the rows, or says which are not up to date. Returns the exit status."""
     rows = all_rows(root)
     status = 0
-    for kind, of_kind in rows.items():
-        path = os.path.join(root, f"crates/oci_test_rules/data/{kind}.rows")
-        made = MARK + "".join("\n" + row.text() for row in of_kind)
+    for name, made in written(rows, model).items():
+        path = os.path.join(root, "crates/oci_test_rules", name)
         if os.path.exists(path) and open(path, encoding="utf-8").read() == made:
             continue
-        print(f"{'differs: ' if check else ''}crates/oci_test_rules/data/{kind}.rows")
+        print(f"{'differs: ' if check else ''}crates/oci_test_rules/{name}")
         status = 1
         if not check:
             os.makedirs(os.path.dirname(path), exist_ok=True)
