@@ -1,16 +1,15 @@
 -- What is found at a claim, by the steps in which it is found.
-use Rattle.std.proofs.Common.{◌≡◌, ℕ, ◌<◌, Bool, true, false, List, [], length, Option, None, Some, Result, Ok, Err, IfOk, IfSome, ◌⊎◌, inl, inr, refl, sym, ap, subst, ◌∙◌, arith}
+use Rattle.std.proofs.Common.{◌≡◌, ℕ, ◌<◌, Bool, true, false, List, [], length, Option, None, Some, Result, Ok, Err, IfOk, IfSome, inl, inr, sym, subst}
 use Rattle.std.specs.declared.alloc.AllocError.{AllocError}
-use Rattle.oci_json_model.specs.Shape.{Shape}
 use Rattle.oci_content.specs.Content.{Tells}
 use Rattle.oci_content.specs.declared.verdict.Verdict.{Verdict}
 use Rattle.oci_content.specs.declared.verdict.Verdict.TheVariants as verdict
 use Rattle.oci_content.proofs.Verdicts.{one_verdict}
-use Rattle.oci_layout.specs.Documents.{IsFault, IsRead, IsReadBy}
+use Rattle.oci_layout.specs.Documents.{IsFault, IsReadBy}
 use Rattle.oci_layout.specs.Kinds.{document_shape}
 use Rattle.oci_layout.specs.Looks.{fault_of, IsJudgedBy, IsVerified, IsVerifiedOrUnreadable, IsFound, IsShown, IsCut, Contents, Shows, Gives}
 use Rattle.oci_layout.specs.declared.kind.Kind.{Kind}
-use Rattle.oci_layout.specs.declared.store.Opened.TheVariants.{Missing, Unreadable, Content}
+use Rattle.oci_layout.specs.declared.store.Opened.TheVariants.{Content}
 use Rattle.oci_layout.specs.declared.claim.Claim.{Claim}
 use Rattle.oci_layout.specs.declared.claim.Seen.{Seen}
 use Rattle.oci_layout.specs.declared.claim.Fault.{Fault}

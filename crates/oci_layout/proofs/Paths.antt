@@ -1,10 +1,9 @@
 -- Where contents lie.
-use Rattle.std.proofs.Common.{◌≡◌, ◌≢◌, ℕ, ◌<◌, Bool, true, false, List, [], ◌∷◌, ◌++◌, length, refl, sym, ap, ◌∙◌, subst, arith, length-append}
-use Rattle.std.specs.Prelude.{codes}
-use Rattle.oci_text_base.specs.Classes.{is_lower, is_joint, is_encoded_byte, slash, IsIn, IsSomeOf, IsOneOf, IsJoined, one, more}
+use Rattle.std.proofs.Common.{◌≡◌, ℕ, ◌<◌, Bool, true, false, List, [], ◌∷◌, ◌++◌, length, refl, sym, ap, ◌∙◌, subst, arith}
+use Rattle.oci_text_base.specs.Classes.{is_lower, is_joint, is_encoded_byte, slash, IsSomeOf, IsOneOf, one, more}
 use Rattle.oci_text_base.specs.Digest.{IsAlgorithm, IsDigest}
-use Rattle.oci_text_base.specs.Names.{Name, name_text, opened, is_listed}
-use Rattle.oci_text_base.proofs.Lacks.{Lacks, both, lacks_joined, lacks_one, lacks_some}
+use Rattle.oci_text_base.specs.Names.{name_text, opened, is_listed}
+use Rattle.oci_text_base.proofs.Lacks.{both, lacks_joined, lacks_one, lacks_some}
 use Rattle.oci_text_base.proofs.Marks.{has_none}
 use Rattle.oci_layout.specs.Paths.{IsPlainName}
 

@@ -1,15 +1,14 @@
 -- What a walk without a finding says.
-use Rattle.std.proofs.Common.{◌≡◌, ℕ, Bool, true, false, List, [], length, Option, None, Some, ◌⊎◌, inl, inr, refl, sym, ap, subst, ◌∙◌, get_or, slice_get, arith}
+use Rattle.std.proofs.Common.{◌≡◌, ℕ, Bool, true, false, List, [], Option, None, Some, inl, inr, refl, sym, ap, subst, ◌∙◌, get_or, slice_get, arith}
 use Rattle.std.specs.Prelude.{bytes_eq, codes, option_and_then, if◌then◌else◌}
 use Rattle.std.proofs.lemmas.Option.{slice_get-get_or}
-use Rattle.serde_json.specs.Data.{Data}
 use Rattle.serde_json.specs.Find.{as_str, get}
 use Rattle.oci_json_model.specs.Shape.{Shape}
 use Rattle.oci_content.specs.Content.{Tells}
 use Rattle.oci_content.specs.declared.verdict.Verdict.{Verdict}
 use Rattle.oci_content.specs.declared.verdict.Verdict.TheVariants as verdict
 use Rattle.oci_layout.specs.Claims.{claims_of}
-use Rattle.oci_layout.specs.Documents.{compared, IsRead, IsReadBy}
+use Rattle.oci_layout.specs.Documents.{compared, IsReadBy}
 use Rattle.oci_layout.specs.Kinds.{document_shape, own_type}
 use Rattle.oci_layout.specs.Looks.{fault_of, IsJudgedBy, IsShown, Shows}
 use Rattle.oci_layout.specs.Sound.{IsFine, AreFine, IsSoundAt, IsSoundOrMissing}

@@ -1,11 +1,11 @@
 -- What becomes of lists of claims as they grow, and what a walk has at its end.
-use Rattle.std.proofs.Common.{◌≡◌, ℕ, ◌≤◌, ◌<◌, Bool, true, false, List, [], ◌∷◌, ◌++◌, length, slice_get, get_or, Option, Some, None, ◌⊎◌, inl, inr, refl, sym, ap, subst, ◌∙◌, append_assoc, length-append, arith, lit<}
+use Rattle.std.proofs.Common.{◌≡◌, ℕ, ◌≤◌, ◌<◌, List, [], ◌∷◌, ◌++◌, length, slice_get, get_or, Option, Some, None, ◌⊎◌, inl, inr, refl, sym, ap, subst, ◌∙◌, append_assoc, length-append, arith, lit<}
 use Rattle.std.proofs.lemmas.List.{append-nil, get_or_append_left}
 use Rattle.std.proofs.lemmas.Option.{slice_get-get_or, slice_get_within, get_or_from_slice_get}
 use Rattle.std.proofs.lemmas.List.Elements.{Contains-append_left, Contains-push, Contains-push_cases}
 use Rattle.std.proofs.Math.Seq.{get_or-append_seam}
 use Rattle.std.specs.List.{Contains}
-use Rattle.oci_layout.specs.Walk.{Extends, IsWithin, IsOnly, Show, Reaches, IsLookedAt, IsUnderway, IsWalk, AreLookedAt}
+use Rattle.oci_layout.specs.Walk.{Extends, IsWithin, IsOnly, Show, Reaches, IsLookedAt, IsUnderway, IsWalk}
 use Rattle.oci_layout.specs.Walk.Reaches.{first, further}
 use Rattle.oci_layout.specs.declared.claim.Claim.{Claim}
 use Rattle.oci_layout.specs.declared.claim.Fault.{Fault}

@@ -4,5 +4,6 @@ pub mod Kinds
 pub mod Looks
 pub mod Memory
 pub mod Paths
+pub mod Shelf
 pub mod Sound
 pub mod Walk

@@ -1,5 +1,5 @@
 -- What is found at a claim, where the contents of a store are known.
-use Rattle.std.specs.Prelude.{◌≡◌, ◌⊎◌, ℕ, ◌<◌, length, List, [], Bool, true, false, ◌||◌, Option, Some, None, IsSome, IfSome, IsTrue, ⊤}
+use Rattle.std.specs.Prelude.{◌≡◌, ◌⊎◌, ℕ, ◌<◌, length, List, Bool, true, false, ◌||◌, Option, Some, None, IsSome, IfSome, ⊤}
 use Rattle.oci_content.specs.Content.{Tells}
 use Rattle.oci_content.specs.declared.verdict.Verdict.{Verdict}
 use Rattle.oci_content.specs.declared.verdict.Verdict.TheVariants as verdict

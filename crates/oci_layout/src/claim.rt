@@ -87,7 +87,7 @@ pub struct Seen {
     pub fault: Option<Fault>,
     /// What its document claims, in the document's order.
     pub claims: Vec<Claim>,
-    /// What is found of the content that each of these descriptors holds itself.
+    /// What stands against the contents that these descriptors hold themselves.
     pub held: Vec<Held>,
     /// The violations of its schema, if it is JSON.
     pub violations: Vec<Violation>,

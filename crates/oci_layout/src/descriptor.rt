@@ -8,7 +8,7 @@ ghost use Rattle.oci_layout.specs.Claims.{claim_of, claim_at, claims_at, claims_
 
 use crate::claim::{Claim, Held, Role};
 use crate::kind::{Kind, is_nondistributable_type};
-use oci_content::{Embedded, verify_base64};
+use oci_content::{Embedded, Verdict, verify_base64};
 use oci_text::Digest;
 use serde_json::Value;
 use std::alloc::{AllocError, Global};
@@ -84,11 +84,14 @@ impl Claimed {
     {
         let claim = claim_of_value(alloc, role, value)?;
         let embedded = embedded_in(alloc, &claim, value)?;
-        self.held.push(Held {
-            role,
-            at: self.claims.len(),
-            embedded,
-        })?;
+        match embedded {
+            Embedded::Absent | Embedded::Content(Verdict::Same) => {}
+            other => self.held.push(Held {
+                role,
+                at: self.claims.len(),
+                embedded: other,
+            })?,
+        }
         self.claims.push(claim)?;
         Ok(())
     }

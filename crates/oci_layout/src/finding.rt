@@ -209,13 +209,16 @@ fn pointer_of(alloc: Global, role: Role, at: usize) -> Result<String, AllocError
     }
 }
 
-/// The path of claims by which a claim was found first: the descriptors from `index.json` on.
+/// How many descriptors of a path of claims are shown, the innermost ones: a stranger's documents may nest thousands deep.
+const SHOWN: usize = 32;
+
+/// The path of claims by which a claim was found first: the descriptors from `index.json` on, or the last of them behind `..`.
 fn claims_to(alloc: Global, walk: &Walk, place: usize) -> Result<Vec<String>, AllocError> {
     let mut path = Vec::new(alloc);
     let mut at = place;
-    for _ in 0..walk.claims.len() {
+    for _ in 0..SHOWN {
         let (Some(claim), Some(mention)) = (walk.claims.get(at), walk.mentions.get(at)) else {
-            break;
+            return Ok(path);
         };
         let pointer = pointer_of(alloc, claim.role, mention.at)?;
         match mention.by {
@@ -229,10 +232,12 @@ fn claims_to(alloc: Global, walk: &Walk, place: usize) -> Result<Vec<String>, Al
             }
             None => {
                 path.push(format!(in alloc; "index.json#{pointer}")?)?;
-                break;
+                path.reverse();
+                return Ok(path);
             }
         }
     }
+    path.push(String::from_str(alloc, "..")?)?;
     path.reverse();
     Ok(path)
 }

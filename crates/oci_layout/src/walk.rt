@@ -21,7 +21,7 @@ pub struct Mention {
 /// What was seen at a claim beside what stands against it.
 #[derive(Drop)]
 pub struct Detail {
-    /// What is found of the content that each descriptor of its document holds itself.
+    /// What stands against the contents that the descriptors of its document hold themselves.
     pub held: Vec<Held>,
     /// The violations of its schema.
     pub violations: Vec<Violation>,

@@ -1,4 +1,3 @@
-use Rattle.std.proofs.Common.{◌∙◌}
 use Rattle.oci_layout.proofs.Items.{some_item}
 use Rattle.oci_layout.proofs.descriptor.has_urls.Goals as goal
 

@@ -1,4 +1,4 @@
-use Rattle.oci_layout.proofs.Looks.{size_shorter, size_longer}
+use Rattle.oci_layout.proofs.Looks.{size_shorter}
 use Rattle.oci_layout.proofs.layout.look_at_size.Goals as goal
 
 pub returns-then-found-claim : goal.returns-then-found-claim

@@ -1,5 +1,5 @@
 use Rattle.std.proofs.Common.{◌≡◌, [], ◌∷◌, ◌++◌, rules, sym, ◌∙◌, append_assoc, ap, subst, arith, inl, refl}
-use Rattle.oci_layout.specs.Walk.{Extends, IsWithin, IsOnly}
+use Rattle.oci_layout.specs.Walk.{IsWithin, IsOnly}
 use Rattle.oci_layout.proofs.Walks.{extends_same, extends_more, none_within, drained, added_one, only_one}
 use Rattle.oci_layout.proofs.walk.Walk.add_all.Goals as goal
 
