@@ -20,8 +20,20 @@ use std::env;
 use std::process::ExitCode;
 
 const KINDS: [&str; 14] = [
-    "manifest", "index", "config", "artifact", "layout", "descriptor", "error", "repositories", "tags", "reference", "spec", "state",
-    "process-state", "features",
+    "manifest",
+    "index",
+    "config",
+    "artifact",
+    "layout",
+    "descriptor",
+    "error",
+    "repositories",
+    "tags",
+    "reference",
+    "spec",
+    "state",
+    "process-state",
+    "features",
 ];
 
 fn run(rt: &HostRuntime) -> Result<()> {
