@@ -7,7 +7,6 @@ use oci_spec::runtime::{
 use oci_spec::{OciSpecError, Result, distribution, image, runtime};
 use oci_test_harness::Harness;
 use std::alloc::Global;
-use std::cell::RefCell;
 
 fn lists(harness: &mut Harness<'_>) {
     let alloc = harness.rt.alloc();
@@ -100,38 +99,6 @@ fn path(alloc: Global, spec: Spec) -> Result<String> {
     }
 }
 
-/// A default specification with a root of this path, or with none.
-fn rooted(alloc: Global, path: Option<&str>) -> Result<Spec> {
-    let mut spec = specification(alloc, path.is_some())?;
-    if let Some(path) = path {
-        let path = String::from_str(alloc, path)?;
-        if let Some(root) = spec.root_mut() {
-            root.set_path(path);
-        }
-    }
-    Ok(spec)
-}
-
-/// Notes what a resolver is asked, and answers it.
-fn noted(alloc: Global, notes: &RefCell<String>, asked: &str) -> Result<String> {
-    if let Ok(mut notes) = notes.try_borrow_mut() {
-        notes.push_str(asked)?;
-        notes.push_str(";")?;
-    }
-    Ok(String::from_str(alloc, asked)?)
-}
-
-/// What the resolver is asked for a root of this path in the bundle `/b`, in order.
-fn asked(alloc: Global, path: Option<&str>) -> Result<String> {
-    let mut spec = rooted(alloc, path)?;
-    let notes = RefCell::new(String::new(alloc));
-    let resolver = |asked: &str| -> Result<String> { noted(alloc, &notes, asked) };
-    match spec.canonicalize_rootfs(alloc, "/b", &resolver) {
-        Err(OciSpecError::Memory) => Err(OciSpecError::Memory),
-        _ => Ok(notes.into_inner()),
-    }
-}
-
 /// All such calls.
 pub fn all(harness: &mut Harness<'_>) {
     lists(harness);
@@ -147,8 +114,5 @@ pub fn all(harness: &mut Harness<'_>) {
         &made_canonical(alloc, false),
         Err("no root path provided for canonicalization"),
     );
-    harness.answer("resolver", &asked(alloc, Some("/r")), Ok("/r;"));
-    harness.answer("resolver", &asked(alloc, Some("r")), Ok("/b;/b/r;"));
-    harness.answer("resolver", &asked(alloc, None), Ok(""));
     harness.end("specifications", "calls");
 }
