@@ -1,0 +1,65 @@
+//! What is wrong with a document.
+ghost use Rattle.std.specs.Prelude.{◌≡◌, IfOk, string_bytes};
+ghost use Rattle.oci_tool.specs.Findings.{message_words, rule_of};
+
+use crate::place::Place;
+use crate::wording::push_expected;
+use oci_schema::Expected;
+use std::alloc::{AllocError, Global};
+
+/// Why a finding was made.
+#[derive(Drop)]
+pub enum Cause {
+    /// The bytes are no JSON, and this is what the reader says.
+    Json(String),
+    /// The kind of the document is not known, or it is of another kind than asked for.
+    Kind(String),
+    /// The schema expects something else at a place, where this value is, if there is one.
+    Schema(Expected, Option<String>),
+}
+
+/// Something that is wrong with a document.
+#[derive(Drop)]
+pub struct Finding {
+    /// Where it is in the text.
+    pub place: Place,
+    /// Where it is in the document, as a JSON pointer (RFC 6901).
+    pub pointer: String,
+    /// What it is.
+    pub cause: Cause,
+}
+
+impl Finding {
+    /// The name of the rule that is broken: `json`, `kind` or `schema`.
+    pub fn rule(&self) -> &'static str
+        ensures { result.now ≡ rule_of self.now.cause }
+    {
+        match &self.cause {
+            Cause::Json(_) => "json",
+            Cause::Kind(_) => "kind",
+            Cause::Schema(_, _) => "schema",
+        }
+    }
+
+    /// What is wrong, in a sentence.
+    pub fn message(&self, alloc: Global) -> Result<String, AllocError>
+        ensures { IfOk result (λ t. string_bytes t ≡ message_words self.now.cause) }
+    {
+        let mut text = String::new(alloc);
+        match &self.cause {
+            Cause::Json(told) => {
+                text.push_str("not JSON: ")?;
+                text.push_str(told.as_str())?;
+            }
+            Cause::Kind(told) => text.push_str(told.as_str())?,
+            Cause::Schema(expected, found) => {
+                push_expected(&mut text, expected, alloc)?;
+                if let Some(found) = found {
+                    text.push_str(", found ")?;
+                    text.push_str(found.as_str())?;
+                }
+            }
+        }
+        Ok(text)
+    }
+}

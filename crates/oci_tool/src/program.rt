@@ -1,0 +1,64 @@
+//! A command's whole work.
+use crate::asked::Asked;
+use crate::canonical::format;
+use crate::check::check;
+use crate::compare::compare;
+use crate::outline::tree;
+use crate::store::Store;
+use crate::table::schema;
+use crate::texts::{complain, digests, pin, references};
+use oci_text_base::{OciSpecError, Result};
+use std::alloc::Global;
+use std::io;
+use std::io::Write;
+
+/// Runs a command, and returns the exit status: 0 if it was done and nothing is wrong, 1 if something is wrong with the input, and 3 if
+/// a file could not be read or written, or out of memory. A failed write to standard error changes nothing.
+pub fn run<S: Store, W: Write, E: Write>(
+    asked: &Asked<'_>,
+    alloc: Global,
+    store: &mut S,
+    writer: &mut W,
+    errors: &mut E,
+) -> u8 {
+    match perform(asked, alloc, store, writer, errors) {
+        Ok(status) => status,
+        Err(error) => {
+            report(&error, errors);
+            3
+        }
+    }
+}
+
+fn perform<S: Store, W: Write, E: Write>(
+    asked: &Asked<'_>,
+    alloc: Global,
+    store: &mut S,
+    writer: &mut W,
+    errors: &mut E,
+) -> Result<u8> {
+    match asked {
+        Asked::Check(asked) => check(asked, alloc, store, writer, errors),
+        Asked::Format(asked) => format(asked, alloc, store, writer, errors),
+        Asked::Compare(asked) => compare(asked, alloc, store, writer, errors),
+        Asked::Reference(style, texts) => references(*style, texts, alloc, writer, errors),
+        Asked::Digest(texts) => digests(texts, alloc, writer, errors),
+        Asked::Pin(text, file) => pin(text, file, alloc, store, writer, errors),
+        Asked::Tree(file) => tree(file, alloc, store, writer, errors),
+        Asked::Schema(kind) => {
+            schema(*kind, alloc, writer)?;
+            Ok(0)
+        }
+    }
+}
+
+/// Says why a command failed. Nothing is said of a reader that has gone away, as `head` does.
+fn report<E: Write>(error: &OciSpecError, errors: &mut E) {
+    match error {
+        OciSpecError::Memory => complain("ciderglen: out of memory\n", errors),
+        OciSpecError::Io(fault) if fault.kind() == io::ErrorKind::BrokenPipe => {}
+        _ => {
+            let _ = errors.write_fmt(format_args!("ciderglen: cannot write: {error}\n"));
+        }
+    }
+}

@@ -1,0 +1,80 @@
+//! What a schema expects, in words.
+ghost use Rattle.std.specs.Prelude.{◌≡◌, ◌++◌, OnOk, string_bytes};
+ghost use Rattle.oci_tool.specs.Wording.{scalar_words, kind_words, expected_words, names_words};
+
+use oci_schema::{Expected, Kind, Scalar};
+use std::alloc::{AllocError, Global};
+
+/// Adds what a scalar may be.
+pub fn push_scalar(text: &mut String, scalar: &Scalar, alloc: Global) -> Result<(), AllocError>
+    ensures { OnOk result (string_bytes text.new ≡ string_bytes text.old ++ scalar_words scalar.now) }
+{
+    match scalar {
+        Scalar::String | Scalar::MediaType | Scalar::Os | Scalar::Arch => text.push_str("a string"),
+        Scalar::Boolean => text.push_str("a boolean"),
+        Scalar::Integer(low, high) => push_bounds(text, *low, *high, alloc),
+        Scalar::Enum(names) => push_names(text, names),
+        Scalar::Digest => text.push_str("a digest"),
+        Scalar::CpuList => text.push_str("a CPU list as a string"),
+        Scalar::Capabilities => text.push_str("an array of capability names"),
+        Scalar::Keys => text.push_str("an object of objects"),
+        Scalar::Detail => {
+            text.push_str("a value other than null whose numbers are 64-bit integers")
+        }
+        Scalar::FreeValues => text.push_str("an object whose numbers are 64-bit integers"),
+    }
+}
+
+fn push_bounds(text: &mut String, low: i128, high: i128, alloc: Global) -> Result<(), AllocError>
+    ensures { OnOk result (string_bytes text.new ≡ string_bytes text.old ++ scalar_words (Integer low high)) }
+{
+    let bounds = format!(in alloc; "an integer from {low} to {high}")?;
+    text.push_str(bounds.as_str())
+}
+
+/// Adds the names of an enum.
+fn push_names(text: &mut String, names: &[&str]) -> Result<(), AllocError>
+    ensures { OnOk result (string_bytes text.new ≡ string_bytes text.old ++ scalar_words (Enum names.entry)) }
+{
+    text.push_str("one of the strings")?;
+    let mut mark = " ";
+    for name in names {
+        text.push_str(mark)?;
+        text.push_str(name)?;
+        mark = ", ";
+    }
+    Ok(())
+}
+
+/// Adds what a value of a kind is.
+fn push_kind(text: &mut String, kind: &Kind, alloc: Global) -> Result<(), AllocError>
+    ensures { OnOk result (string_bytes text.new ≡ string_bytes text.old ++ kind_words kind.now) }
+{
+    match kind {
+        Kind::Scalar(scalar) => push_scalar(text, scalar, alloc),
+        Kind::Array => text.push_str("an array"),
+        Kind::Object => text.push_str("an object"),
+    }
+}
+
+/// Adds what is expected at a place.
+pub fn push_expected(text: &mut String, expected: &Expected, alloc: Global) -> Result<(), AllocError>
+    ensures { OnOk result (string_bytes text.new ≡ string_bytes text.old ++ expected_words expected.now) }
+{
+    match expected {
+        Expected::Value(kind) => {
+            text.push_str("expected ")?;
+            push_kind(text, kind, alloc)
+        }
+        Expected::Member(kind) => {
+            text.push_str("required member is missing (")?;
+            push_kind(text, kind, alloc)?;
+            text.push_str(")")
+        }
+        Expected::NoAlias(alias) => {
+            text.push_str("expected no member ")?;
+            text.push_str(alias)?;
+            text.push_str(" beside it")
+        }
+    }
+}
