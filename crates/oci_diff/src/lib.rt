@@ -1,6 +1,6 @@
 //! What differs between two JSON values, as a list of places with what is there in the one and the other.
 #![tactic(auto)]
 
-pub mod differences;
+pub mod changes;
 
-pub use differences::{Change, Difference, differences};
+pub use changes::{Change, Difference, differences};
