@@ -1,15 +1,18 @@
 -- What is added to a list of differences.
-use Rattle.std.proofs.Common.{◌≡◌, ◌≤◌, ◌<◌, inl, inr, ℕ, List, [], ◌∷◌, length, Option, Some, None, refl, sym, ap, ◌∙◌, subst, arith}
-use Rattle.serde_json.specs.Data.{Data, array, object, Items, Members}
+use Rattle.std.proofs.Common.{◌≡◌, ◌≤◌, ◌<◌, ◌+◌, inl, inr, ℕ, zero, suc, List, [], ◌∷◌, length, drop, get_or, Bool, true, false, true≢false, Option, Some, None, is_some, option_map, refl, sym, ap, ◌∙◌, subst, arith}
+use Rattle.std.specs.Prelude.{◌↔◌}
+use Rattle.oci_json_model.specs.Sizes.{size, items_size, members_size}
+use Rattle.serde_json.proofs.Views.{get_item_within}
+use Rattle.serde_json.specs.Data.{Data, array, object, Items, Members, member}
 use Rattle.serde_json.specs.Find.{at, get, get_item}
-use Rattle.serde_json.specs.View.{view}
+use Rattle.serde_json.specs.View.{view, items_view}
 use Rattle.serde_json.specs.declared.value.Value.{Value}
 use Rattle.oci_schema_walks.specs.Places.{under_name, under_index}
 use Rattle.oci_schema_walks.specs.Leads.{Have, LeadsTo}
 use Rattle.oci_diff.specs.declared.changes.Change.{Change}
 use Rattle.oci_diff.specs.declared.changes.Difference.{Difference}
 use Rattle.oci_diff.specs.Differs.{AreSame, IsSo, HoldsAt, StandAt, AddsIf, Lacks}
-use Rattle.oci_diff.proofs.Ways.{to_itself, member_step, item_step, has_member, has_item}
+use Rattle.oci_diff.proofs.Ways.{AreAmong, to_itself, member_step, item_step, has_member, has_item}
 
 -- one after the other
 pub in_turn : (F : Data → Data → Type 0) (xs ys zs : List Difference) → AddsIf F xs ys → AddsIf F ys zs → AddsIf F xs zs
@@ -52,6 +55,53 @@ leads_item root ds d place under i is have leads = subst (λ p. LeadsTo root p d
 pub adds_by : (F G : Data → Data → Type 0) (xs ys : List Difference) → ((a b : Data) → G a b → F a b) → AddsIf F xs ys → AddsIf G xs ys
 adds_by F G xs ys h f a b holds so = f a b (h a b holds) so
 
--- ---- none is found exactly if the values are the same
-pub none_found : (P : Type 0) (xs ys : List Difference) → xs ≡ [] → (P → ys ≡ xs) → ((P → ⊥) → length xs < length ys) → (b : _) → ys ≡ [] → (P → ⊥) → ⊥
-none_found P xs ys start same grows b none other = absurd (omega (arith, grows other, ap (λ (z : List Difference). length z) none))
+-- what is said of a part of one alone
+pub new_item : (d : Data) (ds : Items) (c : Data) (change : Change) (place under : List ℕ) (i : ℕ) (xs ys : List Difference) → ((a b : Data) → LeadsTo b under c → Lacks a under → HoldsAt a b under change)
+    → under ≡ under_index place i → get_item i ds ≡ Some c → at i d ≡ None → AddsIf (λ a b. HoldsAt a b under change) xs ys → AddsIf (StandAt d (array ds) place) xs ys
+new_item d ds c change place under i xs ys says is have none f a b holds so =
+    f a b (says a b (leads_item b ds c place under i is have holds.1) (lacks_item a d place under i is none holds.0)) so
+
+pub old_item : (ds : Items) (e c : Data) (change : Change) (place under : List ℕ) (i : ℕ) (xs ys : List Difference) → ((a b : Data) → LeadsTo a under c → Lacks b under → HoldsAt a b under change)
+    → under ≡ under_index place i → get_item i ds ≡ Some c → at i e ≡ None → AddsIf (λ a b. HoldsAt a b under change) xs ys → AddsIf (StandAt (array ds) e place) xs ys
+old_item ds e c change place under i xs ys says is have none f a b holds so =
+    f a b (says a b (leads_item a ds c place under i is have holds.0) (lacks_item b e place under i is none holds.1)) so
+
+pub new_member : (d : Data) (ms : Members) (c : Data) (change : Change) (place under name : List ℕ) (xs ys : List Difference) → ((a b : Data) → LeadsTo b under c → Lacks a under → HoldsAt a b under change)
+    → under ≡ under_name place name → Have ms name c → get name d ≡ None → AddsIf (λ a b. HoldsAt a b under change) xs ys → AddsIf (StandAt d (object ms) place) xs ys
+new_member d ms c change place under name xs ys says is have none f a b holds so =
+    f a b (says a b (leads_member b ms c place under name is have holds.1) (lacks_member a d place under name is none holds.0)) so
+
+pub old_member : (ms : Members) (e c : Data) (change : Change) (place under name : List ℕ) (xs ys : List Difference) → ((a b : Data) → LeadsTo a under c → Lacks b under → HoldsAt a b under change)
+    → under ≡ under_name place name → Have ms name c → get name e ≡ None → AddsIf (λ a b. HoldsAt a b under change) xs ys → AddsIf (StandAt (object ms) e place) xs ys
+old_member ms e c change place under name xs ys says is have none f a b holds so =
+    f a b (says a b (leads_member a ms c place under name is have holds.0) (lacks_member b e place under name is none holds.1)) so
+
+-- ---- what a look-up found
+
+pub absent_of : {A B : Type 0} (f : A → B) (r : Option A) (o : Option B) → option_map f r ≡ o → is_some r ≡ false → o ≡ None
+absent_of f None o e n = sym e
+absent_of f (Some x) o e n = absurd (true≢false n)
+
+pub item_at : (vs : List Value) (i : ℕ) (v : Value) → i < length vs → v ≡ get_or vs i v → get_item i (items_view vs) ≡ Some (view v)
+item_at vs i v h e = sym (get_item_within vs i v h) ∙ ap (λ x. Some (view x)) (sym e)
+
+pub dropped_smaller : (vs : List Value) (i : ℕ) → items_size (items_view (drop (suc i) vs)) ≤ items_size (items_view (drop i vs))
+dropped_smaller [] zero = omega arith
+dropped_smaller [] (suc i) = omega arith
+dropped_smaller (v ∷ vs) zero = omega arith
+dropped_smaller (v ∷ vs) (suc i) = dropped_smaller vs i
+
+-- none is found exactly if the values are the same
+pub none_found : (P : Type 0) (xs ys : List Difference) → xs ≡ [] → (P → ys ≡ xs) → (length ys ≡ length xs → P) → (ys ≡ []) ↔ P
+none_found P xs ys start same other = ((λ none. other (ap (λ (z : List Difference). length z) (none ∙ sym start))), (λ s. same s ∙ start))
+
+-- ---- members that are still to be looked at
+
+pub first_have : (ms rest all : Members) (k q : List ℕ) (d : Data) → ms ≡ member k d rest → AreAmong ms all → q ≡ k → Have all q d
+first_have ms rest all k q d split among is = subst (λ n. Have all n d) (sym is) (among k d (subst (λ m. Have m k d) (sym split) (inl (refl, refl))))
+
+pub rest_among : (ms rest all : Members) (k : List ℕ) (d : Data) → ms ≡ member k d rest → AreAmong ms all → AreAmong rest all
+rest_among ms rest all k d split among name c h = among name c (subst (λ m. Have m name c) (sym split) (inr h))
+
+pub rest_smaller : (ms rest : Members) (k : List ℕ) (d : Data) (n : ℕ) → ms ≡ member k d rest → members_size ms ≤ n → members_size rest ≤ n
+rest_smaller ms rest k d n split h = let e : members_size ms ≡ size d + members_size rest = ap members_size split in omega (arith, e, h)

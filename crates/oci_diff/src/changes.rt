@@ -73,7 +73,7 @@ fn add_differences<'a>(
 ) -> Result<(), AllocError>
     ensures so { OnOk result (AddsIf (StandAt (view before.now) (view after.now) at.now) found.old.items found.new.items) }
     ensures same { OnOk result (AreSame (view before.now) (view after.now) → found.new.items ≡ found.old.items) }
-    ensures other { OnOk result ((AreSame (view before.now) (view after.now) → ⊥) → length found.old.items < length found.new.items) }
+    ensures other { OnOk result (length found.new.items ≡ length found.old.items → AreSame (view before.now) (view after.now)) }
     ensures grows { OnOk result (length found.old.items ≤ length found.new.items) }
 {
     if equal_trees(before, after) {

@@ -1,5 +1,6 @@
 -- What a schema expects, in words.
-use Rattle.std.specs.Prelude.{ℕ, ℤ, List, [], ◌∷◌, ◌++◌, codes, decimal, signed_decimal, map}
+use Rattle.std.specs.Prelude.{ℕ, List, [], ◌∷◌, ◌++◌, codes, map}
+use Rattle.std.specs.Fmt.{signed_decimal}
 use Rattle.oci_schema_types.specs.declared.scalar.Scalar.{Scalar}
 use Rattle.oci_schema_types.specs.declared.scalar.Scalar.TheVariants as scalar
 use Rattle.oci_schema_walks.specs.declared.violation.Kind.{Kind}

@@ -1,16 +1,23 @@
 //! The command `fmt`.
+ghost use Rattle.std.specs.Prelude.{◌≡◌, ◌×◌, true, false, Some, None, IfOk, IfSome, string_bytes};
+ghost use Rattle.std.specs.Io.KnownBytes.{Appends, Keeps};
+ghost use Rattle.oci_json_io.specs.Engines.{WritesDocument};
+ghost use Rattle.oci_schema.specs.Normalizes.{WritesPretty};
+ghost use Rattle.oci_doc_run.specs.Kinds.{shape_of};
+ghost use Rattle.oci_tool.specs.Checks.{IsAsked, Formats};
+
 use crate::asked::Format;
 use crate::detect::{Detected, detect};
 use crate::inspect::inspect;
 use crate::render::on_a_line;
 use crate::store::Store;
-use crate::texts::{complain, report_findings, report_unread};
+use crate::texts::{complain, complain_of, report_findings};
 use oci_doc_run::Kind;
 use oci_json_io::write_text;
 use oci_schema::normal_value_from_reader;
 use oci_schema_walks::place::{under_index, under_name};
 use oci_schemas::OciRecords;
-use oci_text_base::Result;
+use oci_text_base::{OciSpecError, Result};
 use serde_json::{Map, Value};
 use std::alloc::{AllocError, Global};
 use std::io::Write;
@@ -25,19 +32,36 @@ pub struct Canonical {
 }
 
 /// The canonical form of the document in these bytes. Fails as `normalize` does.
-pub fn canonical_form(kind: Kind, pretty: bool, bytes: &[u8], alloc: Global) -> Result<Canonical> {
-    let schema = kind.schema();
-    let value = normal_value_from_reader(&OciRecords, schema, alloc, bytes)?;
-    let text = if pretty {
-        value.to_string_pretty(alloc)?
+pub fn canonical_form(kind: Kind, pretty: bool, bytes: &[u8], alloc: Global) -> Result<Canonical>
+    ensures { IfOk result (λ c. Formats (Some kind) pretty (Some bytes.now) (λ t. t ≡ string_bytes c.text)) }
+{
+    if pretty {
+        pretty_form(kind, bytes, alloc)
     } else {
-        value.to_string(alloc)?
-    };
+        compact_form(kind, bytes, alloc)
+    }
+}
+
+fn compact_form(kind: Kind, bytes: &[u8], alloc: Global) -> Result<Canonical>
+    ensures { IfOk result (λ c. WritesDocument (shape_of kind) (Some bytes.now) (λ t. t ≡ string_bytes c.text)) }
+{
+    let value = normal_value_from_reader(&OciRecords, kind.schema(), alloc, bytes)?;
+    let text = value.to_string(alloc)?;
+    Ok(Canonical { value, text })
+}
+
+fn pretty_form(kind: Kind, bytes: &[u8], alloc: Global) -> Result<Canonical>
+    ensures { IfOk result (λ c. WritesPretty (shape_of kind) (Some bytes.now) (λ t. t ≡ string_bytes c.text)) }
+{
+    let value = normal_value_from_reader(&OciRecords, kind.schema(), alloc, bytes)?;
+    let text = value.to_string_pretty(alloc)?;
     Ok(Canonical { value, text })
 }
 
 /// The kind that is asked for, or that a document is found out to be.
-pub fn kind_of(asked: Option<Kind>, name: &str, value: &Value) -> Option<Kind> {
+pub fn kind_of(asked: Option<Kind>, name: &str, value: &Value) -> Option<Kind>
+    ensures { IfSome result (IsAsked asked) }
+{
     match asked {
         Some(kind) => Some(kind),
         None => match detect(name, value) {
@@ -55,28 +79,57 @@ pub fn format<S: Store, W: Write, E: Write>(
     store: &mut S,
     writer: &mut W,
     errors: &mut E,
-) -> Result<u8> {
-    let bytes = match store.read(alloc, asked.file) {
-        Ok(bytes) => bytes,
+) -> Result<u8>
+    ensures untouched { asked.now.check ≡ true → Keeps (W.contents writer.old) (W.contents writer.new) × (S.holds store.new ≡ S.holds store.old) }
+    ensures canonical { IfOk result (λ s. s ≡ 0 → asked.now.check ≡ true → IfSome (S.holds store.old asked.now.file.now) (λ bytes. Formats asked.now.kind asked.now.pretty (Some bytes) (λ t. t ≡ bytes))) }
+    ensures written { IfOk result (λ s. s ≡ 0 → asked.now.check ≡ false → asked.now.output ≡ None → Formats asked.now.kind asked.now.pretty (S.holds store.old asked.now.file.now) (Appends (W.contents writer.old) (W.contents writer.new))) }
+{
+    match store.read(alloc, asked.file) {
+        Ok(bytes) => format_bytes(asked, bytes.as_slice(), alloc, store, writer, errors),
         Err(fault) => {
-            report_unread(asked.file, &fault, errors);
-            return Ok(3);
+            complain_of(asked.file, &fault, alloc, errors);
+            Ok(3)
         }
-    };
-    let found = inspect(asked.kind, asked.file, bytes.as_slice(), alloc)?;
+    }
+}
+
+fn format_bytes<S: Store, W: Write, E: Write>(
+    asked: &Format<'_>,
+    bytes: &[u8],
+    alloc: Global,
+    store: &mut S,
+    writer: &mut W,
+    errors: &mut E,
+) -> Result<u8>
+    ensures untouched { asked.now.check ≡ true → Keeps (W.contents writer.old) (W.contents writer.new) × (S.holds store.new ≡ S.holds store.old) }
+    ensures canonical { IfOk result (λ s. s ≡ 0 → asked.now.check ≡ true → Formats asked.now.kind asked.now.pretty (Some bytes.now) (λ t. t ≡ bytes.now)) }
+    ensures written { IfOk result (λ s. s ≡ 0 → asked.now.check ≡ false → asked.now.output ≡ None → Formats asked.now.kind asked.now.pretty (Some bytes.now) (Appends (W.contents writer.old) (W.contents writer.new))) }
+{
+    let found = inspect(asked.kind, asked.file, bytes, alloc)?;
     if !found.is_empty() {
         report_findings(asked.file, &found, alloc, errors)?;
         return Ok(1);
     }
-    let before = Value::from_slice(alloc, bytes.as_slice())?;
+    let before = Value::from_slice(alloc, bytes)?;
     let Some(kind) = kind_of(asked.kind, asked.file, &before) else {
         return Ok(1);
     };
-    let after = canonical_form(kind, asked.pretty, bytes.as_slice(), alloc)?;
-    if !asked.quiet {
-        say_dropped(&before, &after.value, alloc, errors)?;
+    match canonical_form(kind, asked.pretty, bytes, alloc) {
+        Ok(after) => {
+            if !asked.quiet {
+                say_dropped(&before, &after.value, alloc, errors)?;
+            }
+            finish(asked, bytes, &after.text, alloc, store, writer, errors)
+        }
+        Err(OciSpecError::SerDe(_)) => {
+            complain(
+                "ciderglen: there is no canonical form: a detail nests too deep\n",
+                errors,
+            );
+            Ok(1)
+        }
+        Err(error) => Err(error),
     }
-    finish(asked, bytes.as_slice(), &after.text, alloc, store, writer, errors)
 }
 
 /// Writes the text where it belongs, or compares it.
@@ -88,9 +141,13 @@ fn finish<S: Store, W: Write, E: Write>(
     store: &mut S,
     writer: &mut W,
     errors: &mut E,
-) -> Result<u8> {
+) -> Result<u8>
+    ensures untouched { asked.now.check ≡ true → Keeps (W.contents writer.old) (W.contents writer.new) × (S.holds store.new ≡ S.holds store.old) }
+    ensures same { IfOk result (λ s. s ≡ 0 → asked.now.check ≡ true → string_bytes text.now ≡ bytes.now) }
+    ensures written { IfOk result (λ s. s ≡ 0 → asked.now.check ≡ false → asked.now.output ≡ None → Appends (W.contents writer.old) (W.contents writer.new) (string_bytes text.now)) }
+{
     if asked.check {
-        return Ok(if bytes == text.as_bytes() { 0 } else { 1 });
+        return Ok(if text.as_bytes() == bytes { 0 } else { 1 });
     }
     let Some(output) = asked.output else {
         write_text(text.as_bytes(), writer)?;
@@ -99,7 +156,7 @@ fn finish<S: Store, W: Write, E: Write>(
     match store.replace(alloc, output, text.as_bytes()) {
         Ok(()) => Ok(0),
         Err(fault) => {
-            report_unread(output, &fault, errors);
+            complain_of(output, &fault, alloc, errors);
             Ok(3)
         }
     }

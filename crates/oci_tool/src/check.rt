@@ -1,11 +1,16 @@
 //! The command `check`.
+ghost use Rattle.std.specs.Prelude.{◌≡◌, ◌<◌, ◌⊎◌, ℕ, true, false, length, IfOk, IfSome};
+ghost use Rattle.std.specs.List.{All, HoldsAt};
+ghost use Rattle.oci_tool.specs.Checks.{IsAllowed, IsRefused};
+ghost use Rattle.oci_tool.specs.declared.check.Verdict.TheVariants as verdict;
+
 use crate::asked::{Check, Style};
 use crate::finding::Finding;
 use crate::inspect::inspect;
 use crate::render::{lines_of, objects_of};
 use crate::sarif::Log;
 use crate::store::Store;
-use crate::texts::report_unread;
+use crate::texts::complain_of;
 use oci_json_io::write_text;
 use oci_text_base::Result;
 use std::alloc::Global;
@@ -13,13 +18,22 @@ use std::io::Write;
 
 /// What was found out about a file.
 #[derive(Clone, Copy, PartialEq, Eq)]
-enum Verdict {
+pub enum Verdict {
     /// Nothing is wrong with it.
     Right,
     /// Something is wrong with it.
     Wrong,
     /// It could not be read.
     Unread,
+}
+
+/// What was found out about several files.
+#[derive(Clone, Copy)]
+pub struct Tally {
+    /// Whether something is wrong with one of them.
+    pub wrong: bool,
+    /// Whether one of them could not be read.
+    pub unread: bool,
 }
 
 /// Writes what is wrong with each file. Returns 0 if nothing is, 1 if something is, and 3 if a file could not be read, which a line on
@@ -30,33 +44,56 @@ pub fn check<S: Store, W: Write, E: Write>(
     store: &mut S,
     writer: &mut W,
     errors: &mut E,
-) -> Result<u8> {
+) -> Result<u8>
+    ensures status { IfOk result (λ s. (s ≡ 0) ⊎ ((s ≡ 1) ⊎ (s ≡ 3))) }
+    ensures right { IfOk result (λ s. s ≡ 0 → All (λ f. IfSome (S.holds store.old f.now) (IsAllowed asked.now.kind)) asked.now.files.now) }
+    ensures wrong { IfOk result (λ s. s ≡ 1 → (i : ℕ) × (i < length asked.now.files.now) × HoldsAt (λ f. IfSome (S.holds store.old f.now) (IsRefused asked.now.kind)) asked.now.files.now i) }
+{
     let mut log = match asked.style {
         Style::Sarif => Some(Log::new(alloc)?),
         _ => None,
     };
+    let tally = check_files(asked, alloc, store, &mut log, writer, errors)?;
+    close(log, asked.quiet, writer)?;
+    Ok(status_of(tally))
+}
+
+/// The status of a run in which a file was wrong, or could not be read.
+fn status_of(tally: Tally) -> u8
+    ensures status { (result ≡ 0) ⊎ ((result ≡ 1) ⊎ (result ≡ 3)) }
+    ensures right { result ≡ 0 → (tally.wrong ≡ false) × (tally.unread ≡ false) }
+    ensures wrong { result ≡ 1 → tally.wrong ≡ true }
+{
+    if tally.unread {
+        3
+    } else if tally.wrong {
+        1
+    } else {
+        0
+    }
+}
+
+fn check_files<S: Store, W: Write, E: Write>(
+    asked: &Check<'_>,
+    alloc: Global,
+    store: &mut S,
+    log: &mut Option<Log>,
+    writer: &mut W,
+    errors: &mut E,
+) -> Result<Tally>
+    ensures right { IfOk result (λ t. t.wrong ≡ false → t.unread ≡ false → All (λ f. IfSome (S.holds store.old f.now) (IsAllowed asked.now.kind)) asked.now.files.now) }
+    ensures wrong { IfOk result (λ t. t.wrong ≡ true → (i : ℕ) × (i < length asked.now.files.now) × HoldsAt (λ f. IfSome (S.holds store.old f.now) (IsRefused asked.now.kind)) asked.now.files.now i) }
+{
     let mut wrong = false;
     let mut unread = false;
     for name in asked.files {
-        match check_file(asked, name, alloc, store, &mut log, writer, errors)? {
+        match check_file(asked, name, alloc, store, log, writer, errors)? {
             Verdict::Right => {}
             Verdict::Wrong => wrong = true,
             Verdict::Unread => unread = true,
         }
     }
-    close(log, asked.quiet, writer)?;
-    Ok(status_of(wrong, unread))
-}
-
-/// The status of a run in which a file was wrong, or could not be read.
-fn status_of(wrong: bool, unread: bool) -> u8 {
-    if unread {
-        3
-    } else if wrong {
-        1
-    } else {
-        0
-    }
+    Ok(Tally { wrong, unread })
 }
 
 fn check_file<S: Store, W: Write, E: Write>(
@@ -67,7 +104,11 @@ fn check_file<S: Store, W: Write, E: Write>(
     log: &mut Option<Log>,
     writer: &mut W,
     errors: &mut E,
-) -> Result<Verdict> {
+) -> Result<Verdict>
+    ensures right { IfOk result (λ v. v ≡ verdict.Right → IfSome (S.holds store.old name.now) (IsAllowed asked.now.kind)) }
+    ensures wrong { IfOk result (λ v. v ≡ verdict.Wrong → IfSome (S.holds store.old name.now) (IsRefused asked.now.kind)) }
+    ensures kept { S.holds store.new ≡ S.holds store.old }
+{
     match store.read(alloc, name) {
         Ok(bytes) => {
             let found = inspect(asked.kind, name, bytes.as_slice(), alloc)?;
@@ -80,7 +121,7 @@ fn check_file<S: Store, W: Write, E: Write>(
             Ok(Verdict::Wrong)
         }
         Err(fault) => {
-            report_unread(name, &fault, errors);
+            complain_of(name, &fault, alloc, errors);
             Ok(Verdict::Unread)
         }
     }

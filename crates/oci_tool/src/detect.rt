@@ -78,9 +78,8 @@ fn is_alone(kind: Kind, name: &str) -> bool {
 
 /// Whether the value has a member that only this kind has.
 fn is_marked(kind: Kind, value: &Value) -> bool {
-    members_of(kind)
-        .iter()
-        .any(|member| value.get(member.name).is_some() && is_alone(kind, member.name))
+    members_of(kind).iter().any(|member| value.get(member.name).is_some()
+        && is_alone(kind, member.name))
 }
 
 fn kind_by_members(value: &Value) -> Detected {

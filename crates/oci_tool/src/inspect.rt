@@ -128,7 +128,11 @@ fn before(bytes: &[u8], line: usize, column: usize) -> &[u8] {
             start = index;
         }
     }
-    let skipped = if line > 1 { column } else { column.saturating_sub(1) };
+    let skipped = if line > 1 {
+        column
+    } else {
+        column.saturating_sub(1)
+    };
     let end = start.saturating_add(skipped).min(bytes.len());
     bytes.get(..end).unwrap_or(bytes)
 }
@@ -150,11 +154,7 @@ fn schema_findings(
 }
 
 /// Where violations are in the text.
-fn places_of(
-    listed: &Vec<Violation>,
-    bytes: &[u8],
-    alloc: Global,
-) -> Result<Places, AllocError> {
+fn places_of(listed: &Vec<Violation>, bytes: &[u8], alloc: Global) -> Result<Places, AllocError> {
     let mut places = Places::new(alloc);
     for violation in listed {
         places.ask(violation.pointer.as_str(), alloc)?;

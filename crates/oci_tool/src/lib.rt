@@ -4,7 +4,6 @@
 pub mod asked;
 pub mod canonical;
 pub mod check;
-pub mod compare;
 pub mod detect;
 pub mod finding;
 pub mod inspect;

@@ -1,10 +1,10 @@
 //! The command `tree`: an index or manifest as a tree.
-use crate::inspect::inspect;
 use crate::canonical::kind_of;
+use crate::inspect::inspect;
 use crate::kinds::title_of;
 use crate::render::on_a_line;
 use crate::store::Store;
-use crate::texts::{complain, report_findings, report_unread};
+use crate::texts::{complain, complain_of, report_findings};
 use oci_doc_run::Kind;
 use oci_json_io::write_text;
 use oci_text_base::Result;
@@ -24,7 +24,7 @@ pub fn tree<S: Store, W: Write, E: Write>(
     let bytes = match store.read(alloc, name) {
         Ok(bytes) => bytes,
         Err(fault) => {
-            report_unread(name, &fault, errors);
+            complain_of(name, &fault, alloc, errors);
             return Ok(3);
         }
     };

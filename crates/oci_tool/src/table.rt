@@ -89,7 +89,9 @@ fn push_presence(
 ) -> std::result::Result<(), AllocError> {
     match presence {
         Presence::Required => text.push_str("required  "),
-        Presence::Optional | Presence::Nullable | Presence::UnlessEmpty => text.push_str("optional  "),
+        Presence::Optional | Presence::Nullable | Presence::UnlessEmpty => text.push_str(
+            "optional  ",
+        ),
         Presence::DefaultedRecord(_) => text.push_str("default   "),
         Presence::Defaulted(value) => push_default(text, value, alloc),
     }
@@ -129,11 +131,7 @@ fn push_schema(
     }
 }
 
-fn push_part(
-    text: &mut String,
-    part: &Part,
-    alloc: Global,
-) -> std::result::Result<(), AllocError> {
+fn push_part(text: &mut String, part: &Part, alloc: Global) -> std::result::Result<(), AllocError> {
     match part {
         Part::Scalar(scalar) => push_scalar(text, scalar, alloc),
         Part::Record(place) => text.push_str(OciRecords.record(*place).name),

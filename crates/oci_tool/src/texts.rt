@@ -1,15 +1,24 @@
 //! The commands on references and digests, and what is said on standard error.
+ghost use Rattle.std.specs.Prelude.{◌≡◌, ◌⊎◌, true, false, [], Some, IfOk};
+ghost use Rattle.std.specs.List.{All};
+ghost use Rattle.std.specs.Io.KnownBytes.{Appends};
+ghost use Rattle.oci_doc_run.specs.Commands.{asked as asked_of};
+ghost use Rattle.oci_doc_run.specs.Outputs.{Writes, WritesPinned};
+ghost use Rattle.oci_tool.specs.Texts.{IsReference, IsSomeDigest};
+
 use crate::asked::Style;
 use crate::finding::Finding;
+use crate::inspect::inspect;
 use crate::render::{lines_of, on_a_line, text_member};
 use crate::store::Store;
 use json::Writer;
-use oci_doc_run::{Command, Refusal};
+use oci_doc_run::{Command, Kind, Refusal};
 use oci_json_io::write_text;
 use oci_reference::Reference;
-use oci_text::Digest;
+use oci_reference_scan::ParseError;
 use oci_text_base::{OciSpecError, Result};
 use std::alloc::{AllocError, Global};
+use std::fmt;
 use std::io;
 use std::io::Write;
 
@@ -18,9 +27,13 @@ pub fn complain<E: Write>(line: &str, errors: &mut E) {
     let _ = write_text(line.as_bytes(), errors);
 }
 
-/// Says that a file could not be read.
-pub fn report_unread<E: Write>(name: &str, fault: &io::Error, errors: &mut E) {
-    let _ = errors.write_fmt(format_args!("ciderglen: {name}: {fault}\n"));
+/// Says what is wrong with a name on standard error, as far as that can be.
+pub fn complain_of<D: fmt::Display, E: Write>(name: &str, fault: &D, alloc: Global, errors: &mut E) {
+    if let Ok(shown) = on_a_line(name, alloc) {
+        if let Ok(line) = format!(in alloc; "ciderglen: {shown}: {fault}\n") {
+            complain(line.as_str(), errors);
+        }
+    }
 }
 
 /// Says what is wrong with a file on standard error.
@@ -43,14 +56,17 @@ pub fn references<W: Write, E: Write>(
     alloc: Global,
     writer: &mut W,
     errors: &mut E,
-) -> Result<u8> {
-    let mut status = 0;
+) -> Result<u8>
+    ensures status { IfOk result (λ s. (s ≡ 0) ⊎ (s ≡ 1)) }
+    ensures right { IfOk result (λ s. s ≡ 0 → All (λ t. IsReference t.now) texts.now) }
+{
+    let mut wrong = false;
     for text in texts {
         if !reference(style, text, alloc, writer, errors)? {
-            status = 1;
+            wrong = true;
         }
     }
-    Ok(status)
+    Ok(if wrong { 1 } else { 0 })
 }
 
 /// Writes the parts of a reference, and returns whether it is one.
@@ -60,49 +76,68 @@ fn reference<W: Write, E: Write>(
     alloc: Global,
     writer: &mut W,
     errors: &mut E,
-) -> Result<bool> {
+) -> Result<bool>
+    ensures { IfOk result (λ b. b ≡ true → IsReference text.now) }
+{
     match style {
-        Style::Json => match Reference::from_str(alloc, text) {
-            Ok(reference) => {
-                let line = reference_object(text, &reference, alloc)?;
-                write_text(line.as_slice(), writer)?;
-                Ok(true)
-            }
-            Err(error) => {
-                if error == oci_reference_scan::ParseError::Memory {
-                    return Err(OciSpecError::Memory);
-                }
-                let _ = errors.write_fmt(format_args!("ciderglen: {text}: {error}\n"));
-                Ok(false)
-            }
-        },
-        _ => told(
-            Command::Reference(text).perform(alloc, &mut io::empty(), writer),
-            text,
-            errors,
-        ),
+        Style::Json => reference_as_json(text, alloc, writer, errors),
+        _ => perform(Command::Reference(text), text, alloc, writer, errors),
     }
 }
 
-/// Whether a command on a text was done. If the text was refused, says so; fails where that is for another reason.
-fn told<E: Write>(
-    done: std::result::Result<(), Refusal>,
+fn reference_as_json<W: Write, E: Write>(
     text: &str,
+    alloc: Global,
+    writer: &mut W,
     errors: &mut E,
-) -> Result<bool> {
-    let refusal = match done {
-        Ok(()) => return Ok(true),
-        Err(refusal) => refusal,
-    };
+) -> Result<bool>
+    ensures { IfOk result (λ b. b ≡ true → IsReference text.now) }
+{
+    match Reference::from_str(alloc, text) {
+        Ok(reference) => {
+            let line = reference_object(text, &reference, alloc)?;
+            write_text(line.as_slice(), writer)?;
+            Ok(true)
+        }
+        Err(error) => refused(Refusal::Reference(error), text, alloc, errors),
+    }
+}
+
+/// Writes what a command on a text alone writes, and returns whether that was done. If the text was refused, a line on standard error
+/// says why.
+fn perform<W: Write, E: Write>(
+    command: Command<'_>,
+    text: &str,
+    alloc: Global,
+    writer: &mut W,
+    errors: &mut E,
+) -> Result<bool>
+    ensures { IfOk result (λ b. b ≡ true → Writes (asked_of command.entry) (Some []) (Appends (W.contents writer.old) (W.contents writer.new))) }
+{
+    match command.perform(alloc, &mut io::empty(), writer) {
+        Ok(()) => Ok(true),
+        Err(refusal) => refused(refusal, text, alloc, errors),
+    }
+}
+
+/// Says why a text was refused; fails if that was for want of memory, or since something could not be written.
+fn refused<E: Write>(
+    refusal: Refusal,
+    text: &str,
+    alloc: Global,
+    errors: &mut E,
+) -> Result<bool>
+    ensures { IfOk result (λ b. b ≡ false) }
+{
     match refusal {
-        Refusal::Memory | Refusal::Reference(oci_reference_scan::ParseError::Memory) => Err(OciSpecError::Memory),
+        Refusal::Memory | Refusal::Reference(ParseError::Memory) => Err(OciSpecError::Memory),
         Refusal::Io => Err(OciSpecError::Io(io::Error::from(io::ErrorKind::Other))),
         Refusal::Reference(error) => {
-            let _ = errors.write_fmt(format_args!("ciderglen: {text}: {error}\n"));
+            complain_of(text, &error, alloc, errors);
             Ok(false)
         }
         Refusal::Other(reason) => {
-            let _ = errors.write_fmt(format_args!("ciderglen: {text}: {reason}\n"));
+            complain_of(text, &reason, alloc, errors);
             Ok(false)
         }
         Refusal::Json | Refusal::Schema | Refusal::Builder => Ok(false),
@@ -153,15 +188,17 @@ pub fn digests<W: Write, E: Write>(
     alloc: Global,
     writer: &mut W,
     errors: &mut E,
-) -> Result<u8> {
-    let mut status = 0;
+) -> Result<u8>
+    ensures status { IfOk result (λ s. (s ≡ 0) ⊎ (s ≡ 1)) }
+    ensures right { IfOk result (λ s. s ≡ 0 → All (λ t. IsSomeDigest t.now) texts.now) }
+{
+    let mut wrong = false;
     for text in texts {
-        let done = Command::Digest(text).perform(alloc, &mut io::empty(), writer);
-        if !told(done, text, errors)? {
-            status = 1;
+        if !perform(Command::Digest(text), text, alloc, writer, errors)? {
+            wrong = true;
         }
     }
-    Ok(status)
+    Ok(if wrong { 1 } else { 0 })
 }
 
 /// Writes the reference with the digest of the descriptor in a file. Returns 0 if that was done, 1 if the text is no reference or the
@@ -173,22 +210,40 @@ pub fn pin<S: Store, W: Write, E: Write>(
     store: &mut S,
     writer: &mut W,
     errors: &mut E,
-) -> Result<u8> {
-    let bytes = match store.read(alloc, file) {
-        Ok(bytes) => bytes,
-        Err(fault) => {
-            report_unread(file, &fault, errors);
-            return Ok(3);
+) -> Result<u8>
+    ensures status { IfOk result (λ s. (s ≡ 0) ⊎ ((s ≡ 1) ⊎ (s ≡ 3))) }
+    ensures right { IfOk result (λ s. s ≡ 0 → WritesPinned text.now (S.holds store.old file.now) (Appends (W.contents writer.old) (W.contents writer.new))) }
+{
+    match store.read(alloc, file) {
+        Ok(bytes) => {
+            let done = pin_bytes(text, file, bytes.as_slice(), alloc, writer, errors)?;
+            Ok(if done { 0 } else { 1 })
         }
-    };
-    let done = Command::Pin(text).perform(alloc, &mut bytes.as_slice(), writer);
-    let refused = matches!(done, Err(Refusal::Json | Refusal::Schema));
-    if told(done, text, errors)? {
-        return Ok(0);
+        Err(fault) => {
+            complain_of(file, &fault, alloc, errors);
+            Ok(3)
+        }
     }
-    if refused {
-        let found = crate::inspect::inspect(Some(oci_doc_run::Kind::Descriptor), file, bytes.as_slice(), alloc)?;
-        report_findings(file, &found, alloc, errors)?;
+}
+
+fn pin_bytes<W: Write, E: Write>(
+    text: &str,
+    file: &str,
+    bytes: &[u8],
+    alloc: Global,
+    writer: &mut W,
+    errors: &mut E,
+) -> Result<bool>
+    ensures { IfOk result (λ b. b ≡ true → WritesPinned text.now (Some bytes.now) (Appends (W.contents writer.old) (W.contents writer.new))) }
+{
+    let mut input = bytes;
+    match Command::Pin(text).perform(alloc, &mut input, writer) {
+        Ok(()) => Ok(true),
+        Err(Refusal::Json | Refusal::Schema) => {
+            let found = inspect(Some(Kind::Descriptor), file, bytes, alloc)?;
+            report_findings(file, &found, alloc, errors)?;
+            Ok(false)
+        }
+        Err(refusal) => refused(refusal, text, alloc, errors),
     }
-    Ok(1)
 }

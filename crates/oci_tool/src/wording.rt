@@ -58,7 +58,11 @@ fn push_kind(text: &mut String, kind: &Kind, alloc: Global) -> Result<(), AllocE
 }
 
 /// Adds what is expected at a place.
-pub fn push_expected(text: &mut String, expected: &Expected, alloc: Global) -> Result<(), AllocError>
+pub fn push_expected(
+    text: &mut String,
+    expected: &Expected,
+    alloc: Global,
+) -> Result<(), AllocError>
     ensures { OnOk result (string_bytes text.new ≡ string_bytes text.old ++ expected_words expected.now) }
 {
     match expected {
