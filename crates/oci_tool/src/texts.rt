@@ -120,7 +120,7 @@ fn perform<W: Write, E: Write>(
     }
 }
 
-/// Says why a text was refused; fails if that was for want of memory, or since something could not be written.
+/// Says why a text was refused; fails if out of memory, or if something could not be written.
 fn refused<E: Write>(
     refusal: Refusal,
     text: &str,
