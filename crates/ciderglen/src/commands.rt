@@ -30,6 +30,8 @@ static KIND_NAMES: [&str; 16] = [
 
 static CHECK_FORMATS: [&str; 3] = ["text", "json", "sarif"];
 
+static ALGORITHMS: [&str; 3] = ["sha256", "sha384", "sha512"];
+
 static FORMATS: [&str; 2] = ["text", "json"];
 
 /// The program's command.
@@ -150,15 +152,22 @@ fn reference<'a>(alloc: Global) -> Result<Command<'a>, AllocError> {
 }
 
 fn digest<'a>(alloc: Global) -> Result<Command<'a>, AllocError> {
-    let texts = Arg::new(alloc, "TEXT")
-        .required(true)
-        .num_args(1..)
-        .help("The digests");
+    let algorithm = Arg::new(alloc, "algorithm")
+        .short('a')
+        .long("algorithm")
+        .value_name("ALGORITHM")
+        .value_parser(ValueParser::Names(&ALGORITHMS))
+        .default_value("sha256")
+        .help("The algorithm");
+    let files = file(alloc, "The files, or the digests; - is standard input, and so is no FILE")
+        .num_args(0..)
+        .required_if_eq("parse", "true")?;
     Command::new(alloc, "digest")
-        .about("Writes the parts of digests")
-        .after_help("Example: ciderglen digest --parse sha256:e3b0c44298fc1c149afbf4c8996fb92427ae41e4649b934ca495991b7852b855")
-        .arg(flag(alloc, "parse", "Read digests from the command line").required(true))?
-        .arg(texts)
+        .about("Writes the digests of files, or the parts of digests")
+        .after_help("Example: ciderglen digest blob.tar.gz")
+        .arg(algorithm)?
+        .arg(flag(alloc, "parse", "Take digests in place of files, and write their parts"))?
+        .arg(files)
 }
 
 fn pin<'a>(alloc: Global) -> Result<Command<'a>, AllocError> {

@@ -2,6 +2,7 @@
 use crate::commands::ciderglen;
 use clap::error::ErrorKind;
 use clap::{ArgMatches, Error};
+use oci_content::Algorithm;
 use oci_doc_run::Kind;
 use oci_tool::kinds::kind_named;
 use oci_tool::{Asked, Check, Compare, Format, Style};
@@ -62,7 +63,8 @@ pub fn asked<'m>(matches: &'m ArgMatches<'m>) -> Option<Asked<'m>> {
             after: given.get_str("B")?,
         })),
         "ref" => Some(Asked::Reference(style_in(given), given.get_strs("TEXT")?)),
-        "digest" => Some(Asked::Digest(given.get_strs("TEXT")?)),
+        "digest" if given.get_flag("parse") => Some(Asked::Digest(files_in(given))),
+        "digest" => Some(Asked::FileDigests(algorithm_in(given), files_in(given))),
         "pin" => Some(Asked::Pin(given.get_str("TEXT")?, file_in(given))),
         "tree" => Some(Asked::Tree(file_in(given))),
         "schema" => Some(Asked::Schema(kind_named(given.get_str("KIND")?)?)),
@@ -80,6 +82,11 @@ fn style_in(given: &ArgMatches<'_>) -> Style {
         Some("sarif") => Style::Sarif,
         _ => Style::Text,
     }
+}
+
+fn algorithm_in(given: &ArgMatches<'_>) -> Algorithm {
+    let named = given.get_str("algorithm").and_then(Algorithm::from_name);
+    named.unwrap_or(Algorithm::Sha256)
 }
 
 /// The files that are named, or standard input.

@@ -1,4 +1,5 @@
 //! Commands as values.
+use oci_content::Algorithm;
 use oci_doc_run::Kind;
 
 /// How findings and differences are written.
@@ -72,6 +73,8 @@ pub enum Asked<'a> {
     Reference(Style, &'a [&'a str]),
     /// `digest --parse`: the parts of digests.
     Digest(&'a [&'a str]),
+    /// `digest`: the digests of files.
+    FileDigests(Algorithm, &'a [&'a str]),
     /// `pin`: a reference with the digest of a descriptor.
     Pin(&'a str, &'a str),
     /// `tree`: a document as a tree.

@@ -7,11 +7,13 @@ ghost use Rattle.oci_doc_run.specs.Kinds.{shape_of};
 ghost use Rattle.oci_tool.specs.Checks.{IsAsked, Formats};
 
 use crate::asked::Format;
+use crate::contents::digest_line;
 use crate::detect::{Detected, detect};
 use crate::inspect::inspect;
 use crate::render::on_a_line;
 use crate::store::Store;
 use crate::texts::{complain, complain_of, report_findings};
+use oci_content::Algorithm;
 use oci_doc_run::Kind;
 use oci_json_io::write_text;
 use oci_schema::normal_value_from_reader;
@@ -119,6 +121,9 @@ fn format_bytes<S: Store, W: Write, E: Write>(
             if !asked.quiet {
                 say_dropped(&before, &after.value, alloc, errors)?;
             }
+            if asked.verbose {
+                say_digests(asked.file, bytes, after.text.as_bytes(), alloc, errors)?;
+            }
             finish(asked, bytes, &after.text, alloc, store, writer, errors)
         }
         Err(OciSpecError::SerDe(_)) => {
@@ -160,6 +165,21 @@ fn finish<S: Store, W: Write, E: Write>(
             Ok(3)
         }
     }
+}
+
+/// Says the digests of a file before and after.
+fn say_digests<E: Write>(
+    name: &str,
+    before: &[u8],
+    after: &[u8],
+    alloc: Global,
+    errors: &mut E,
+) -> Result<()> {
+    complain("before: ", errors);
+    complain(digest_line(Algorithm::Sha256, name, before, alloc)?.as_str(), errors);
+    complain("after:  ", errors);
+    complain(digest_line(Algorithm::Sha256, name, after, alloc)?.as_str(), errors);
+    Ok(())
 }
 
 /// Says which members are not in the canonical form.

@@ -4,6 +4,8 @@
 pub mod asked;
 pub mod canonical;
 pub mod check;
+pub mod compare;
+pub mod contents;
 pub mod detect;
 pub mod finding;
 pub mod inspect;

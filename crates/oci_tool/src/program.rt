@@ -2,6 +2,8 @@
 use crate::asked::Asked;
 use crate::canonical::format;
 use crate::check::check;
+use crate::compare::compare;
+use crate::contents::file_digests;
 use crate::outline::tree;
 use crate::store::Store;
 use crate::table::schema;
@@ -39,9 +41,12 @@ fn perform<S: Store, W: Write, E: Write>(
     match asked {
         Asked::Check(asked) => check(asked, alloc, store, writer, errors),
         Asked::Format(asked) => format(asked, alloc, store, writer, errors),
-        Asked::Compare(_) => Ok(0),
+        Asked::Compare(asked) => compare(asked, alloc, store, writer, errors),
         Asked::Reference(style, texts) => references(*style, texts, alloc, writer, errors),
         Asked::Digest(texts) => digests(texts, alloc, writer, errors),
+        Asked::FileDigests(algorithm, files) => {
+            file_digests(*algorithm, files, alloc, store, writer, errors)
+        }
         Asked::Pin(text, file) => pin(text, file, alloc, store, writer, errors),
         Asked::Tree(file) => tree(file, alloc, store, writer, errors),
         Asked::Schema(kind) => {

@@ -55,7 +55,7 @@ add_members-loop-name-preserved t c =
     let split : members_view c.loop-name.name-iterator ≡ member (string_bytes c.in-Some.name.now) (view c.in-Some.member.now) (members_view c.next.new.self) = search rules in
     record {
       so = in_turn _ _ _ _ c.loop-name.invariant.so
-      (c.in_ok-add_member.ensures.so (members_view c.args.members.now.entries) (first_have _ _ _ _ c.as_str.result.now _ split c.loop-name.invariant.among c.as_str.ensures.value));
+          (c.in_ok-add_member.ensures.so (members_view c.args.members.now.entries) (first_have _ _ _ _ c.as_str.result.now _ split c.loop-name.invariant.among c.as_str.ensures.value));
       grows = omega (arith, c.loop-name.invariant.grows, c.in_ok-add_member.ensures.grows);
       among = rest_among _ _ _ _ _ split c.loop-name.invariant.among;
       smaller = rest_smaller _ _ _ _ _ split c.loop-name.invariant.smaller;
