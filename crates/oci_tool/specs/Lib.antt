@@ -1,4 +1,5 @@
 pub mod Checks
+pub mod Done
 pub mod Findings
 pub mod Kinds
 pub mod Texts

@@ -5,6 +5,7 @@ ghost use Rattle.oci_json_io.specs.Engines.{WritesDocument};
 ghost use Rattle.oci_schema.specs.Normalizes.{WritesPretty};
 ghost use Rattle.oci_doc_run.specs.Kinds.{shape_of};
 ghost use Rattle.oci_tool.specs.Checks.{IsAsked, Formats};
+ghost use Rattle.oci_tool.specs.Done.{IsStatus};
 
 use crate::asked::Format;
 use crate::contents::digest_line;
@@ -82,6 +83,7 @@ pub fn format<S: Store, W: Write, E: Write>(
     writer: &mut W,
     errors: &mut E,
 ) -> Result<u8>
+    ensures status { IfOk result IsStatus }
     ensures untouched { asked.now.check ≡ true → Keeps (W.contents writer.old) (W.contents writer.new) × (S.holds store.new ≡ S.holds store.old) }
     ensures canonical { IfOk result (λ s. s ≡ 0 → asked.now.check ≡ true → IfSome (S.holds store.old asked.now.file.now) (λ bytes. Formats asked.now.kind asked.now.pretty (Some bytes) (λ t. t ≡ bytes))) }
     ensures written { IfOk result (λ s. s ≡ 0 → asked.now.check ≡ false → asked.now.output ≡ None → Formats asked.now.kind asked.now.pretty (S.holds store.old asked.now.file.now) (Appends (W.contents writer.old) (W.contents writer.new))) }
@@ -103,6 +105,7 @@ fn format_bytes<S: Store, W: Write, E: Write>(
     writer: &mut W,
     errors: &mut E,
 ) -> Result<u8>
+    ensures status { IfOk result IsStatus }
     ensures untouched { asked.now.check ≡ true → Keeps (W.contents writer.old) (W.contents writer.new) × (S.holds store.new ≡ S.holds store.old) }
     ensures canonical { IfOk result (λ s. s ≡ 0 → asked.now.check ≡ true → Formats asked.now.kind asked.now.pretty (Some bytes.now) (λ t. t ≡ bytes.now)) }
     ensures written { IfOk result (λ s. s ≡ 0 → asked.now.check ≡ false → asked.now.output ≡ None → Formats asked.now.kind asked.now.pretty (Some bytes.now) (Appends (W.contents writer.old) (W.contents writer.new))) }
@@ -147,6 +150,7 @@ fn finish<S: Store, W: Write, E: Write>(
     writer: &mut W,
     errors: &mut E,
 ) -> Result<u8>
+    ensures status { IfOk result IsStatus }
     ensures untouched { asked.now.check ≡ true → Keeps (W.contents writer.old) (W.contents writer.new) × (S.holds store.new ≡ S.holds store.old) }
     ensures same { IfOk result (λ s. s ≡ 0 → asked.now.check ≡ true → string_bytes text.now ≡ bytes.now) }
     ensures written { IfOk result (λ s. s ≡ 0 → asked.now.check ≡ false → asked.now.output ≡ None → Appends (W.contents writer.old) (W.contents writer.new) (string_bytes text.now)) }
@@ -176,9 +180,15 @@ fn say_digests<E: Write>(
     errors: &mut E,
 ) -> Result<()> {
     complain("before: ", errors);
-    complain(digest_line(Algorithm::Sha256, name, before, alloc)?.as_str(), errors);
+    complain(
+        digest_line(Algorithm::Sha256, name, before, alloc)?.as_str(),
+        errors,
+    );
     complain("after:  ", errors);
-    complain(digest_line(Algorithm::Sha256, name, after, alloc)?.as_str(), errors);
+    complain(
+        digest_line(Algorithm::Sha256, name, after, alloc)?.as_str(),
+        errors,
+    );
     Ok(())
 }
 

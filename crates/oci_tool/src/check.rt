@@ -1,8 +1,9 @@
 //! The command `check`.
-ghost use Rattle.std.specs.Prelude.{◌≡◌, ◌<◌, ◌⊎◌, ℕ, true, false, length, IfOk, IfSome};
+ghost use Rattle.std.specs.Prelude.{◌≡◌, ◌<◌, ℕ, true, false, length, IfOk, IfSome};
 ghost use Rattle.std.specs.List.{All, HoldsAt};
 ghost use Rattle.oci_tool.specs.Checks.{IsAllowed, IsRefused};
 ghost use Rattle.oci_tool.specs.declared.check.Verdict.TheVariants as verdict;
+ghost use Rattle.oci_tool.specs.Done.{IsStatus};
 
 use crate::asked::{Check, Style};
 use crate::finding::Finding;
@@ -45,7 +46,7 @@ pub fn check<S: Store, W: Write, E: Write>(
     writer: &mut W,
     errors: &mut E,
 ) -> Result<u8>
-    ensures status { IfOk result (λ s. (s ≡ 0) ⊎ ((s ≡ 1) ⊎ (s ≡ 3))) }
+    ensures status { IfOk result IsStatus }
     ensures right { IfOk result (λ s. s ≡ 0 → All (λ f. IfSome (S.holds store.old f.now) (IsAllowed asked.now.kind)) asked.now.files.now) }
     ensures wrong { IfOk result (λ s. s ≡ 1 → (i : ℕ) × (i < length asked.now.files.now) × HoldsAt (λ f. IfSome (S.holds store.old f.now) (IsRefused asked.now.kind)) asked.now.files.now i) }
 {
@@ -60,7 +61,7 @@ pub fn check<S: Store, W: Write, E: Write>(
 
 /// The status of a run in which a file was wrong, or could not be read.
 fn status_of(tally: Tally) -> u8
-    ensures status { (result ≡ 0) ⊎ ((result ≡ 1) ⊎ (result ≡ 3)) }
+    ensures status { IsStatus result }
     ensures right { result ≡ 0 → (tally.wrong ≡ false) × (tally.unread ≡ false) }
     ensures wrong { result ≡ 1 → tally.wrong ≡ true }
 {

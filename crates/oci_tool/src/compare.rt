@@ -1,4 +1,7 @@
 //! The command `diff`.
+ghost use Rattle.std.specs.Prelude.{IfOk};
+ghost use Rattle.oci_tool.specs.Done.{IsStatus};
+
 use crate::asked::{Compare, Style};
 use crate::canonical::{canonical_form, kind_of};
 use crate::inspect::inspect;
@@ -14,11 +17,15 @@ use serde_json::Value;
 use std::alloc::{AllocError, Global};
 use std::io::Write;
 
-/// A document to compare, or the status of the reason why there is none.
+/// A document to compare, or why there is none.
 #[derive(Drop)]
 enum Side {
+    /// The document.
     Document(Kind, Value),
-    None(u8),
+    /// The file holds no valid document.
+    Wrong,
+    /// The file could not be read.
+    Unread,
 }
 
 /// Writes what differs between the canonical forms of two documents. Returns 0 if nothing does, 1 if something does or one is invalid,
@@ -29,14 +36,18 @@ pub fn compare<S: Store, W: Write, E: Write>(
     store: &mut S,
     writer: &mut W,
     errors: &mut E,
-) -> Result<u8> {
+) -> Result<u8>
+    ensures { IfOk result IsStatus }
+{
     let (kind, before) = match read_side(asked.kind, asked.before, alloc, store, errors)? {
         Side::Document(kind, value) => (kind, value),
-        Side::None(status) => return Ok(status),
+        Side::Wrong => return Ok(1),
+        Side::Unread => return Ok(3),
     };
     let (other, after) = match read_side(asked.kind, asked.after, alloc, store, errors)? {
         Side::Document(kind, value) => (kind, value),
-        Side::None(status) => return Ok(status),
+        Side::Wrong => return Ok(1),
+        Side::Unread => return Ok(3),
     };
     if kind != other {
         let (a, b) = (asked.before, asked.after);
@@ -65,17 +76,17 @@ fn read_side<S: Store, E: Write>(
         Ok(bytes) => bytes,
         Err(fault) => {
             complain_of(name, &fault, alloc, errors);
-            return Ok(Side::None(3));
+            return Ok(Side::Unread);
         }
     };
     let found = inspect(asked, name, bytes.as_slice(), alloc)?;
     if !found.is_empty() {
         report_findings(name, &found, alloc, errors)?;
-        return Ok(Side::None(1));
+        return Ok(Side::Wrong);
     }
     let value = Value::from_slice(alloc, bytes.as_slice())?;
     let Some(kind) = kind_of(asked, name, &value) else {
-        return Ok(Side::None(1));
+        return Ok(Side::Wrong);
     };
     let made = canonical_form(kind, false, bytes.as_slice(), alloc)?;
     Ok(Side::Document(kind, made.value))

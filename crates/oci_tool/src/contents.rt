@@ -1,6 +1,7 @@
 //! The command `digest` on files.
-ghost use Rattle.std.specs.Prelude.{◌≡◌, ◌⊎◌, ◌++◌, ◌∷◌, [], List, ℕ, codes, IfOk, string_bytes};
+ghost use Rattle.std.specs.Prelude.{◌≡◌, ◌++◌, ◌∷◌, [], List, ℕ, codes, IfOk, string_bytes};
 ghost use Rattle.oci_content.specs.Content.{checksum_of, checksum_text};
+ghost use Rattle.oci_tool.specs.Done.{IsStatus};
 
 use crate::render::on_a_line;
 use crate::store::Store;
@@ -21,7 +22,7 @@ pub fn file_digests<S: Store, W: Write, E: Write>(
     writer: &mut W,
     errors: &mut E,
 ) -> Result<u8>
-    ensures { IfOk result (λ s. (s ≡ 0) ⊎ (s ≡ 3)) }
+    ensures { IfOk result IsStatus }
 {
     let mut unread = false;
     for name in files {

@@ -1,4 +1,7 @@
 //! The command `tree`: an index or manifest as a tree.
+ghost use Rattle.std.specs.Prelude.{IfOk};
+ghost use Rattle.oci_tool.specs.Done.{IsStatus};
+
 use crate::canonical::kind_of;
 use crate::inspect::inspect;
 use crate::kinds::title_of;
@@ -20,7 +23,9 @@ pub fn tree<S: Store, W: Write, E: Write>(
     store: &mut S,
     writer: &mut W,
     errors: &mut E,
-) -> Result<u8> {
+) -> Result<u8>
+    ensures { IfOk result IsStatus }
+{
     let bytes = match store.read(alloc, name) {
         Ok(bytes) => bytes,
         Err(fault) => {

@@ -1,4 +1,8 @@
 //! A command's whole work.
+ghost use Rattle.std.specs.Prelude.{◌≡◌, IfOk};
+ghost use Rattle.std.specs.Io.KnownBytes.{Keeps};
+ghost use Rattle.oci_tool.specs.Done.{IsStatus, IsDone, IsWrong, IsSilent};
+
 use crate::asked::Asked;
 use crate::canonical::format;
 use crate::check::check;
@@ -21,7 +25,12 @@ pub fn run<S: Store, W: Write, E: Write>(
     store: &mut S,
     writer: &mut W,
     errors: &mut E,
-) -> u8 {
+) -> u8
+    ensures status { IsStatus result }
+    ensures done { result ≡ 0 → IsDone (S.holds store.old) (W.contents writer.old) (W.contents writer.new) asked.now }
+    ensures wrong { result ≡ 1 → IsWrong (S.holds store.old) asked.now }
+    ensures silent { IsSilent asked.now → Keeps (W.contents writer.old) (W.contents writer.new) × (S.holds store.new ≡ S.holds store.old) }
+{
     match perform(asked, alloc, store, writer, errors) {
         Ok(status) => status,
         Err(error) => {
@@ -37,7 +46,12 @@ fn perform<S: Store, W: Write, E: Write>(
     store: &mut S,
     writer: &mut W,
     errors: &mut E,
-) -> Result<u8> {
+) -> Result<u8>
+    ensures status { IfOk result IsStatus }
+    ensures done { IfOk result (λ s. s ≡ 0 → IsDone (S.holds store.old) (W.contents writer.old) (W.contents writer.new) asked.now) }
+    ensures wrong { IfOk result (λ s. s ≡ 1 → IsWrong (S.holds store.old) asked.now) }
+    ensures silent { IsSilent asked.now → Keeps (W.contents writer.old) (W.contents writer.new) × (S.holds store.new ≡ S.holds store.old) }
+{
     match asked {
         Asked::Check(asked) => check(asked, alloc, store, writer, errors),
         Asked::Format(asked) => format(asked, alloc, store, writer, errors),

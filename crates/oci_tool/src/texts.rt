@@ -1,10 +1,11 @@
 //! The commands on references and digests, and what is said on standard error.
-ghost use Rattle.std.specs.Prelude.{◌≡◌, ◌⊎◌, true, false, [], Some, IfOk};
+ghost use Rattle.std.specs.Prelude.{◌≡◌, true, false, [], Some, IfOk};
 ghost use Rattle.std.specs.List.{All};
 ghost use Rattle.std.specs.Io.KnownBytes.{Appends};
 ghost use Rattle.oci_doc_run.specs.Commands.{asked as asked_of};
 ghost use Rattle.oci_doc_run.specs.Outputs.{Writes, WritesPinned};
 ghost use Rattle.oci_tool.specs.Texts.{IsReference, IsSomeDigest};
+ghost use Rattle.oci_tool.specs.Done.{IsStatus};
 
 use crate::asked::Style;
 use crate::finding::Finding;
@@ -18,9 +19,8 @@ use oci_reference::Reference;
 use oci_reference_scan::ParseError;
 use oci_text_base::{OciSpecError, Result};
 use std::alloc::{AllocError, Global};
-use std::fmt;
-use std::io;
 use std::io::Write;
+use std::{fmt, io};
 
 /// Writes a line on standard error, as far as that can be.
 pub fn complain<E: Write>(line: &str, errors: &mut E) {
@@ -28,7 +28,12 @@ pub fn complain<E: Write>(line: &str, errors: &mut E) {
 }
 
 /// Says what is wrong with a name on standard error, as far as that can be.
-pub fn complain_of<D: fmt::Display, E: Write>(name: &str, fault: &D, alloc: Global, errors: &mut E) {
+pub fn complain_of<D: fmt::Display, E: Write>(
+    name: &str,
+    fault: &D,
+    alloc: Global,
+    errors: &mut E,
+) {
     if let Ok(shown) = on_a_line(name, alloc) {
         if let Ok(line) = format!(in alloc; "ciderglen: {shown}: {fault}\n") {
             complain(line.as_str(), errors);
@@ -57,7 +62,7 @@ pub fn references<W: Write, E: Write>(
     writer: &mut W,
     errors: &mut E,
 ) -> Result<u8>
-    ensures status { IfOk result (λ s. (s ≡ 0) ⊎ (s ≡ 1)) }
+    ensures status { IfOk result IsStatus }
     ensures right { IfOk result (λ s. s ≡ 0 → All (λ t. IsReference t.now) texts.now) }
 {
     let mut wrong = false;
@@ -121,12 +126,7 @@ fn perform<W: Write, E: Write>(
 }
 
 /// Says why a text was refused; fails if out of memory, or if something could not be written.
-fn refused<E: Write>(
-    refusal: Refusal,
-    text: &str,
-    alloc: Global,
-    errors: &mut E,
-) -> Result<bool>
+fn refused<E: Write>(refusal: Refusal, text: &str, alloc: Global, errors: &mut E) -> Result<bool>
     ensures { IfOk result (λ b. b ≡ false) }
 {
     match refusal {
@@ -189,7 +189,7 @@ pub fn digests<W: Write, E: Write>(
     writer: &mut W,
     errors: &mut E,
 ) -> Result<u8>
-    ensures status { IfOk result (λ s. (s ≡ 0) ⊎ (s ≡ 1)) }
+    ensures status { IfOk result IsStatus }
     ensures right { IfOk result (λ s. s ≡ 0 → All (λ t. IsSomeDigest t.now) texts.now) }
 {
     let mut wrong = false;
@@ -211,7 +211,7 @@ pub fn pin<S: Store, W: Write, E: Write>(
     writer: &mut W,
     errors: &mut E,
 ) -> Result<u8>
-    ensures status { IfOk result (λ s. (s ≡ 0) ⊎ ((s ≡ 1) ⊎ (s ≡ 3))) }
+    ensures status { IfOk result IsStatus }
     ensures right { IfOk result (λ s. s ≡ 0 → WritesPinned text.now (S.holds store.old file.now) (Appends (W.contents writer.old) (W.contents writer.new))) }
 {
     match store.read(alloc, file) {
