@@ -3,7 +3,7 @@ use oci_content::Algorithm;
 use oci_doc_run::Kind;
 
 /// How findings and differences are written.
-#[derive(Clone, Copy, Debug, PartialEq, Eq)]
+#[derive(Clone, Copy)]
 pub enum Style {
     /// Lines for people.
     Text,

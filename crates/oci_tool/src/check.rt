@@ -18,7 +18,7 @@ use std::alloc::Global;
 use std::io::Write;
 
 /// What was found out about a file.
-#[derive(Clone, Copy, PartialEq, Eq)]
+#[derive(Clone, Copy)]
 pub enum Verdict {
     /// Nothing is wrong with it.
     Right,

@@ -6,7 +6,7 @@ ghost use Rattle.oci_json_model.specs.Means.{Means};
 ghost use Rattle.oci_json_io.specs.Engines.{MeansBytes};
 ghost use Rattle.oci_doc_run.specs.Kinds.{shape_of};
 ghost use Rattle.oci_schema_walks.specs.Violations.{violations as all_violations};
-ghost use Rattle.oci_tool.specs.Findings.{told};
+ghost use Rattle.oci_tool.specs.Findings.{told, told_of, as_told};
 ghost use Rattle.oci_tool.specs.Checks.{IsAllowed};
 
 use crate::detect::{Detected, detect, explain_open};
@@ -144,7 +144,7 @@ fn schema_findings(
     bytes: &[u8],
     alloc: Global,
 ) -> Result<Vec<Finding>, AllocError>
-    ensures all { IfOk result (λ v. map told v.items ≡ all_violations (shape_of kind) [] (view value.now)) }
+    ensures all { IfOk result (λ v. map told v.items ≡ map as_told (all_violations (shape_of kind) [] (view value.now))) }
     ensures none { IfOk result (λ v. (v.items ≡ []) ↔ ((p : Plain) × Means (shape_of kind) (view value.now) p)) }
 {
     let schema = kind.schema();

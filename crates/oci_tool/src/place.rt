@@ -4,7 +4,7 @@ use std::alloc::{AllocError, Global};
 use std::collections::BTreeMap;
 
 /// A place in a text. Lines and columns begin at 1; a column counts characters.
-#[derive(Clone, Copy, Debug, PartialEq, Eq)]
+#[derive(Clone, Copy)]
 pub struct Place {
     /// The line.
     pub line: u64,

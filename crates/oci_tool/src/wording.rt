@@ -1,6 +1,7 @@
 //! What a schema expects, in words.
-ghost use Rattle.std.specs.Prelude.{◌≡◌, ◌++◌, OnOk, string_bytes};
-ghost use Rattle.oci_tool.specs.Wording.{scalar_words, kind_words, expected_words, names_words};
+ghost use Rattle.std.specs.Prelude.{◌≡◌, ◌++◌, OnOk, codes, map, string_bytes};
+ghost use Rattle.std.specs.Fmt.{signed_decimal};
+ghost use Rattle.oci_tool.specs.Wording.{scalar_words, kind_words, expected_words, marked};
 
 use oci_schema::{Expected, Kind, Scalar};
 use std::alloc::{AllocError, Global};
@@ -26,7 +27,7 @@ pub fn push_scalar(text: &mut String, scalar: &Scalar, alloc: Global) -> Result<
 }
 
 fn push_bounds(text: &mut String, low: i128, high: i128, alloc: Global) -> Result<(), AllocError>
-    ensures { OnOk result (string_bytes text.new ≡ string_bytes text.old ++ scalar_words (Integer low high)) }
+    ensures { OnOk result (string_bytes text.new ≡ string_bytes text.old ++ (codes "an integer from " ++ signed_decimal low ++ codes " to " ++ signed_decimal high)) }
 {
     let bounds = format!(in alloc; "an integer from {low} to {high}")?;
     text.push_str(bounds.as_str())
@@ -34,7 +35,7 @@ fn push_bounds(text: &mut String, low: i128, high: i128, alloc: Global) -> Resul
 
 /// Adds the names of an enum.
 fn push_names(text: &mut String, names: &[&str]) -> Result<(), AllocError>
-    ensures { OnOk result (string_bytes text.new ≡ string_bytes text.old ++ scalar_words (Enum names.entry)) }
+    ensures { OnOk result (string_bytes text.new ≡ string_bytes text.old ++ (codes "one of the strings" ++ marked (codes " ") (map (λ name. name.now) names.now))) }
 {
     text.push_str("one of the strings")?;
     let mut mark = " ";

@@ -5,7 +5,7 @@ complete -c ciderglen -n __fish_use_subcommand -a fmt -d 'Writes the canonical f
 complete -c ciderglen -n __fish_use_subcommand -a diff -d 'Lists what differs between the canonical forms of two documents'
 complete -c ciderglen -n __fish_use_subcommand -a tree -d 'Shows an image index or manifest as a tree'
 complete -c ciderglen -n __fish_use_subcommand -a ref -d 'Writes the parts of image references'
-complete -c ciderglen -n __fish_use_subcommand -a digest -d 'Writes the parts of digests'
+complete -c ciderglen -n __fish_use_subcommand -a digest -d 'Writes the digests of files, or the parts of digests'
 complete -c ciderglen -n __fish_use_subcommand -a pin -d 'Writes an image reference with the digest of a descriptor'
 complete -c ciderglen -n __fish_use_subcommand -a schema -d 'Lists the members of a kind of documents'
 complete -c ciderglen -n '__fish_seen_subcommand_from help' -f -a 'check fmt diff tree ref digest pin schema'
@@ -29,9 +29,9 @@ complete -c ciderglen -n '__fish_seen_subcommand_from tree' -s h -l help -d 'Pri
 complete -c ciderglen -n '__fish_seen_subcommand_from ref' -l format -x -a 'text json' -d 'How to write the result'
 complete -c ciderglen -n '__fish_seen_subcommand_from ref' -s h -l help -d 'Print help'
 complete -c ciderglen -n '__fish_seen_subcommand_from ref' -f
-complete -c ciderglen -n '__fish_seen_subcommand_from digest' -l parse -d 'Read digests from the command line'
+complete -c ciderglen -n '__fish_seen_subcommand_from digest' -s a -l algorithm -x -a 'sha256 sha384 sha512' -d 'The algorithm'
+complete -c ciderglen -n '__fish_seen_subcommand_from digest' -l parse -d 'Take digests in place of files, and write their parts'
 complete -c ciderglen -n '__fish_seen_subcommand_from digest' -s h -l help -d 'Print help'
-complete -c ciderglen -n '__fish_seen_subcommand_from digest' -f
 complete -c ciderglen -n '__fish_seen_subcommand_from pin' -s h -l help -d 'Print help'
 complete -c ciderglen -n '__fish_seen_subcommand_from schema' -s h -l help -d 'Print help'
 complete -c ciderglen -n '__fish_seen_subcommand_from schema' -f -a 'manifest index config image-config artifact layout descriptor error repositories tags reference spec runtime-config state process-state features'
