@@ -34,23 +34,57 @@ static ALGORITHMS: [&str; 3] = ["sha256", "sha384", "sha512"];
 
 static FORMATS: [&str; 2] = ["text", "json"];
 
+/// A command, or that memory ran out while it was made.
+type Made<'a> = Result<Command<'a>, AllocError>;
+
+/// Adds an argument.
+fn with_arg<'a>(command: Made<'a>, arg: Arg<'a>) -> Made<'a> {
+    match command {
+        Ok(command) => command.arg(arg),
+        Err(error) => Err(error),
+    }
+}
+
+/// Adds an argument whose making may run out of memory.
+fn with_made_arg<'a>(command: Made<'a>, arg: Result<Arg<'a>, AllocError>) -> Made<'a> {
+    match arg {
+        Ok(arg) => with_arg(command, arg),
+        Err(error) => Err(error),
+    }
+}
+
+/// Adds a subcommand.
+fn with_subcommand<'a>(command: Made<'a>, subcommand: Made<'a>) -> Made<'a> {
+    match subcommand {
+        Ok(subcommand) => with_made(command, subcommand),
+        Err(error) => Err(error),
+    }
+}
+
+fn with_made<'a>(command: Made<'a>, subcommand: Command<'a>) -> Made<'a> {
+    match command {
+        Ok(command) => command.subcommand(subcommand),
+        Err(error) => Err(error),
+    }
+}
+
 /// The program's command.
-pub fn ciderglen<'a>(alloc: Global) -> Result<Command<'a>, AllocError> {
-    Command::new(alloc, "ciderglen")
-        .bin_name("ciderglen")?
+pub fn ciderglen<'a>(alloc: Global) -> Made<'a> {
+    let command = Command::new(alloc, "ciderglen")
         .version(VERSION)
         .about(ABOUT)
         .after_help(STATUS)
         .subcommand_required(true)
         .arg_required_else_help(true)
-        .subcommand(check(alloc)?)?
-        .subcommand(fmt(alloc)?)?
-        .subcommand(diff(alloc)?)?
-        .subcommand(tree(alloc)?)?
-        .subcommand(reference(alloc)?)?
-        .subcommand(digest(alloc)?)?
-        .subcommand(pin(alloc)?)?
-        .subcommand(schema(alloc)?)
+        .bin_name("ciderglen");
+    let command = with_subcommand(command, check(alloc));
+    let command = with_subcommand(command, fmt(alloc));
+    let command = with_subcommand(command, diff(alloc));
+    let command = with_subcommand(command, tree(alloc));
+    let command = with_subcommand(command, reference(alloc));
+    let command = with_subcommand(command, digest(alloc));
+    let command = with_subcommand(command, pin(alloc));
+    with_subcommand(command, schema(alloc))
 }
 
 fn kind<'a>(alloc: Global) -> Arg<'a> {
@@ -90,101 +124,150 @@ fn file<'a>(alloc: Global, help: &'a str) -> Arg<'a> {
     Arg::new(alloc, "FILE").help(help)
 }
 
-fn check<'a>(alloc: Global) -> Result<Command<'a>, AllocError> {
-    let files = file(alloc, "The files to check; - is standard input, and so is no FILE").num_args(0..);
-    Command::new(alloc, "check")
-        .about("Lists what is wrong with documents")
-        .after_help("Example: ciderglen check --kind manifest image/manifest.json")
-        .arg(kind(alloc))?
-        .arg(style(alloc, &CHECK_FORMATS))?
-        .arg(quiet(alloc, "Write no findings; the exit status says all"))?
-        .arg(files)
+/// A command with what its help says.
+fn named<'a>(alloc: Global, name: &'a str, about: &'a str, example: &'a str) -> Made<'a> {
+    Ok(Command::new(alloc, name).about(about).after_help(example))
 }
 
-fn fmt<'a>(alloc: Global) -> Result<Command<'a>, AllocError> {
-    let output = Arg::new(alloc, "output")
+fn check<'a>(alloc: Global) -> Made<'a> {
+    let command = named(
+        alloc,
+        "check",
+        "Lists what is wrong with documents",
+        "Example: ciderglen check --kind manifest image/manifest.json",
+    );
+    let command = with_arg(command, kind(alloc));
+    let command = with_arg(command, style(alloc, &CHECK_FORMATS));
+    let command = with_arg(command, quiet(alloc, "Write no findings; the exit status says all"));
+    let text = "The files to check; - is standard input, and so is no FILE";
+    with_arg(command, file(alloc, text).num_args(0..))
+}
+
+fn fmt<'a>(alloc: Global) -> Made<'a> {
+    let command = named(
+        alloc,
+        "fmt",
+        "Writes the canonical form of a document, and says what is left out of it",
+        "Example: ciderglen fmt --pretty config.json",
+    );
+    let command = with_arg(command, kind(alloc));
+    let command = with_arg(command, flag(alloc, "pretty", "Indent the text by two spaces a level"));
+    let command = with_made_arg(command, compact(alloc));
+    let text = "Write nothing; the exit status says whether the file is canonical";
+    let command = with_arg(command, flag(alloc, "check", text));
+    let command = with_made_arg(command, output(alloc));
+    let command = with_arg(command, quiet(alloc, "Do not say what is left out"));
+    let command = with_arg(command, flag(alloc, "verbose", "Say the digests before and after"));
+    with_arg(command, input(alloc))
+}
+
+fn compact<'a>(alloc: Global) -> Result<Arg<'a>, AllocError> {
+    flag(alloc, "compact", "Write no spaces; this is the default").conflicts_with("pretty")
+}
+
+fn output<'a>(alloc: Global) -> Result<Arg<'a>, AllocError> {
+    Arg::new(alloc, "output")
         .short('o')
         .long("output")
         .value_name("FILE")
-        .conflicts_with("check")?
-        .help("Write to this file, which is replaced as a whole");
-    Command::new(alloc, "fmt")
-        .about("Writes the canonical form of a document, and says what is left out of it")
-        .after_help("Example: ciderglen fmt --pretty config.json")
-        .arg(kind(alloc))?
-        .arg(flag(alloc, "pretty", "Indent the text by two spaces a level"))?
-        .arg(flag(alloc, "compact", "Write no spaces; this is the default").conflicts_with("pretty")?)?
-        .arg(flag(alloc, "check", "Write nothing; the exit status says whether the file is canonical"))?
-        .arg(output)?
-        .arg(quiet(alloc, "Do not say what is left out"))?
-        .arg(flag(alloc, "verbose", "Say the digests before and after"))?
-        .arg(file(alloc, "The file to read; - is standard input, and so is no FILE"))
+        .help("Write to this file, which is replaced as a whole")
+        .conflicts_with("check")
 }
 
-fn diff<'a>(alloc: Global) -> Result<Command<'a>, AllocError> {
-    Command::new(alloc, "diff")
-        .about("Lists what differs between the canonical forms of two documents")
-        .after_help("Example: ciderglen diff old.json new.json")
-        .arg(kind(alloc))?
-        .arg(style(alloc, &FORMATS))?
-        .arg(quiet(alloc, "Write no differences; the exit status says all"))?
-        .arg(Arg::new(alloc, "A").required(true).help("The file before"))?
-        .arg(Arg::new(alloc, "B").required(true).help("The file after"))
+/// The one file that is read.
+fn input<'a>(alloc: Global) -> Arg<'a> {
+    file(alloc, "The file to read; - is standard input, and so is no FILE")
 }
 
-fn tree<'a>(alloc: Global) -> Result<Command<'a>, AllocError> {
-    Command::new(alloc, "tree")
-        .about("Shows an image index or manifest as a tree")
-        .after_help("Example: ciderglen tree index.json")
-        .arg(file(alloc, "The file to read; - is standard input, and so is no FILE"))
+fn required<'a>(alloc: Global, name: &'a str, help: &'a str) -> Arg<'a> {
+    Arg::new(alloc, name).required(true).help(help)
 }
 
-fn reference<'a>(alloc: Global) -> Result<Command<'a>, AllocError> {
-    let texts = Arg::new(alloc, "TEXT")
-        .required(true)
-        .num_args(1..)
-        .help("The references");
-    Command::new(alloc, "ref")
-        .about("Writes the parts of image references")
-        .after_help("Example: ciderglen ref busybox:1")
-        .arg(style(alloc, &FORMATS))?
-        .arg(texts)
+fn diff<'a>(alloc: Global) -> Made<'a> {
+    let command = named(
+        alloc,
+        "diff",
+        "Lists what differs between the canonical forms of two documents",
+        "Example: ciderglen diff old.json new.json",
+    );
+    let command = with_arg(command, kind(alloc));
+    let command = with_arg(command, style(alloc, &FORMATS));
+    let text = "Write no differences; the exit status says all";
+    let command = with_arg(command, quiet(alloc, text));
+    let command = with_arg(command, required(alloc, "A", "The file before"));
+    with_arg(command, required(alloc, "B", "The file after"))
 }
 
-fn digest<'a>(alloc: Global) -> Result<Command<'a>, AllocError> {
-    let algorithm = Arg::new(alloc, "algorithm")
+fn tree<'a>(alloc: Global) -> Made<'a> {
+    let command = named(
+        alloc,
+        "tree",
+        "Shows an image index or manifest as a tree",
+        "Example: ciderglen tree index.json",
+    );
+    with_arg(command, input(alloc))
+}
+
+fn reference<'a>(alloc: Global) -> Made<'a> {
+    let command = named(
+        alloc,
+        "ref",
+        "Writes the parts of image references",
+        "Example: ciderglen ref busybox:1",
+    );
+    let command = with_arg(command, style(alloc, &FORMATS));
+    with_arg(command, required(alloc, "TEXT", "The references").num_args(1..))
+}
+
+fn digest<'a>(alloc: Global) -> Made<'a> {
+    let command = named(
+        alloc,
+        "digest",
+        "Writes the digests of files, or the parts of digests",
+        "Example: ciderglen digest blob.tar.gz",
+    );
+    let command = with_arg(command, algorithm(alloc));
+    let text = "Take digests in place of files, and write their parts";
+    let command = with_arg(command, flag(alloc, "parse", text));
+    with_made_arg(command, contents(alloc))
+}
+
+fn algorithm<'a>(alloc: Global) -> Arg<'a> {
+    Arg::new(alloc, "algorithm")
         .short('a')
         .long("algorithm")
         .value_name("ALGORITHM")
         .value_parser(ValueParser::Names(&ALGORITHMS))
         .default_value("sha256")
-        .help("The algorithm");
-    let files = file(alloc, "The files, or the digests; - is standard input, and so is no FILE")
+        .help("The algorithm")
+}
+
+fn contents<'a>(alloc: Global) -> Result<Arg<'a>, AllocError> {
+    let text = "The files, or the digests; - is standard input, and so is no FILE";
+    file(alloc, text)
         .num_args(0..)
-        .required_if_eq("parse", "true")?;
-    Command::new(alloc, "digest")
-        .about("Writes the digests of files, or the parts of digests")
-        .after_help("Example: ciderglen digest blob.tar.gz")
-        .arg(algorithm)?
-        .arg(flag(alloc, "parse", "Take digests in place of files, and write their parts"))?
-        .arg(files)
+        .required_if_eq("parse", "true")
 }
 
-fn pin<'a>(alloc: Global) -> Result<Command<'a>, AllocError> {
-    Command::new(alloc, "pin")
-        .about("Writes an image reference with the digest of a descriptor")
-        .after_help("Example: ciderglen pin busybox:1 descriptor.json")
-        .arg(Arg::new(alloc, "TEXT").required(true).help("The reference"))?
-        .arg(file(alloc, "The descriptor; - is standard input, and so is no FILE"))
+fn pin<'a>(alloc: Global) -> Made<'a> {
+    let command = named(
+        alloc,
+        "pin",
+        "Writes an image reference with the digest of a descriptor",
+        "Example: ciderglen pin busybox:1 descriptor.json",
+    );
+    let command = with_arg(command, required(alloc, "TEXT", "The reference"));
+    let text = "The descriptor; - is standard input, and so is no FILE";
+    with_arg(command, file(alloc, text))
 }
 
-fn schema<'a>(alloc: Global) -> Result<Command<'a>, AllocError> {
-    let kind = Arg::new(alloc, "KIND")
-        .required(true)
-        .value_parser(ValueParser::Names(&KIND_NAMES))
-        .help("The kind of documents");
-    Command::new(alloc, "schema")
-        .about("Lists the members of a kind of documents")
-        .after_help("Example: ciderglen schema manifest")
-        .arg(kind)
+fn schema<'a>(alloc: Global) -> Made<'a> {
+    let command = named(
+        alloc,
+        "schema",
+        "Lists the members of a kind of documents",
+        "Example: ciderglen schema manifest",
+    );
+    let kind = required(alloc, "KIND", "The kind of documents");
+    with_arg(command, kind.value_parser(ValueParser::Names(&KIND_NAMES)))
 }

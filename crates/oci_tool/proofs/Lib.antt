@@ -1,1 +1,4 @@
+pub mod Allowed
+pub mod Each
 pub mod Held
+pub mod Marks

@@ -48,7 +48,8 @@ pub fn canonical_form(kind: Kind, pretty: bool, bytes: &[u8], alloc: Global) -> 
 fn compact_form(kind: Kind, bytes: &[u8], alloc: Global) -> Result<Canonical>
     ensures { IfOk result (λ c. WritesDocument (shape_of kind) (Some bytes.now) (λ t. t ≡ string_bytes c.text)) }
 {
-    let value = normal_value_from_reader(&OciRecords, kind.schema(), alloc, bytes)?;
+    let schema = kind.schema();
+    let value = normal_value_from_reader(&OciRecords, schema, alloc, bytes)?;
     let text = value.to_string(alloc)?;
     Ok(Canonical { value, text })
 }
@@ -56,7 +57,8 @@ fn compact_form(kind: Kind, bytes: &[u8], alloc: Global) -> Result<Canonical>
 fn pretty_form(kind: Kind, bytes: &[u8], alloc: Global) -> Result<Canonical>
     ensures { IfOk result (λ c. WritesPretty (shape_of kind) (Some bytes.now) (λ t. t ≡ string_bytes c.text)) }
 {
-    let value = normal_value_from_reader(&OciRecords, kind.schema(), alloc, bytes)?;
+    let schema = kind.schema();
+    let value = normal_value_from_reader(&OciRecords, schema, alloc, bytes)?;
     let text = value.to_string_pretty(alloc)?;
     Ok(Canonical { value, text })
 }

@@ -2,7 +2,6 @@
 ghost use Rattle.std.specs.Prelude.{◌≡◌, ◌<◌, ℕ, true, false, length, IfOk, IfSome};
 ghost use Rattle.std.specs.List.{All, HoldsAt};
 ghost use Rattle.oci_tool.specs.Checks.{IsAllowed, IsRefused};
-ghost use Rattle.oci_tool.specs.declared.check.Verdict.TheVariants as verdict;
 ghost use Rattle.oci_tool.specs.Done.{IsStatus};
 
 use crate::asked::{Check, Style};
@@ -17,18 +16,7 @@ use oci_text_base::Result;
 use std::alloc::Global;
 use std::io::Write;
 
-/// What was found out about a file.
-#[derive(Clone, Copy)]
-pub enum Verdict {
-    /// Nothing is wrong with it.
-    Right,
-    /// Something is wrong with it.
-    Wrong,
-    /// It could not be read.
-    Unread,
-}
-
-/// What was found out about several files.
+/// What was found out about files.
 #[derive(Clone, Copy)]
 pub struct Tally {
     /// Whether something is wrong with one of them.
@@ -88,11 +76,9 @@ fn check_files<S: Store, W: Write, E: Write>(
     let mut wrong = false;
     let mut unread = false;
     for name in asked.files {
-        match check_file(asked, name, alloc, store, log, writer, errors)? {
-            Verdict::Right => {}
-            Verdict::Wrong => wrong = true,
-            Verdict::Unread => unread = true,
-        }
+        let seen = check_file(asked, name, alloc, store, log, writer, errors)?;
+        wrong = wrong | seen.wrong;
+        unread = unread | seen.unread;
     }
     Ok(Tally { wrong, unread })
 }
@@ -105,25 +91,34 @@ fn check_file<S: Store, W: Write, E: Write>(
     log: &mut Option<Log>,
     writer: &mut W,
     errors: &mut E,
-) -> Result<Verdict>
-    ensures right { IfOk result (λ v. v ≡ verdict.Right → IfSome (S.holds store.old name.now) (IsAllowed asked.now.kind)) }
-    ensures wrong { IfOk result (λ v. v ≡ verdict.Wrong → IfSome (S.holds store.old name.now) (IsRefused asked.now.kind)) }
+) -> Result<Tally>
+    ensures right { IfOk result (λ t. t.wrong ≡ false → t.unread ≡ false → IfSome (S.holds store.old name.now) (IsAllowed asked.now.kind)) }
+    ensures wrong { IfOk result (λ t. t.wrong ≡ true → IfSome (S.holds store.old name.now) (IsRefused asked.now.kind)) }
     ensures kept { S.holds store.new ≡ S.holds store.old }
 {
     match store.read(alloc, name) {
         Ok(bytes) => {
             let found = inspect(asked.kind, name, bytes.as_slice(), alloc)?;
             if found.is_empty() {
-                return Ok(Verdict::Right);
+                return Ok(Tally {
+                    wrong: false,
+                    unread: false,
+                });
             }
             if !asked.quiet {
                 tell(asked.style, name, &found, alloc, log, writer)?;
             }
-            Ok(Verdict::Wrong)
+            Ok(Tally {
+                wrong: true,
+                unread: false,
+            })
         }
         Err(fault) => {
             complain_of(name, &fault, alloc, errors);
-            Ok(Verdict::Unread)
+            Ok(Tally {
+                wrong: false,
+                unread: true,
+            })
         }
     }
 }

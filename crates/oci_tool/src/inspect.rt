@@ -1,5 +1,5 @@
 //! What is wrong with the bytes of a document.
-ghost use Rattle.std.specs.Prelude.{◌≡◌, ◌↔◌, [], map, IfOk, IfErr, IfSome};
+ghost use Rattle.std.specs.Prelude.{◌≡◌, ◌≤◌, ◌↔◌, [], length, map, IfOk, IfSome};
 ghost use Rattle.serde_json.specs.View.{view};
 ghost use Rattle.oci_json_model.specs.Plain.{Plain};
 ghost use Rattle.oci_json_model.specs.Means.{Means};
@@ -24,6 +24,7 @@ const SHOWN: usize = 40;
 
 /// What is wrong with the bytes of a document of a kind, or of the kind that is found out by its file name and value: nothing only if
 /// the schema of that kind allows it. Fails if out of memory.
+#[tactic(auto, using(crate::proofs::Allowed::read_allowed, crate::proofs::Allowed::allowed_read, crate::proofs::Allowed::no_json_allowed, crate::proofs::Allowed::some_kind_allowed))]
 pub fn inspect(
     kind: Option<Kind>,
     name: &str,
@@ -38,11 +39,11 @@ pub fn inspect(
             let Some(asked) = kind else {
                 return inspect_open(name, &value, bytes, alloc);
             };
-            let mut found = schema_findings(asked, &value, bytes, alloc)?;
-            if !found.is_empty() {
-                push_other_kind(asked, name, &value, &mut found, alloc)?;
+            let found = schema_findings(asked, &value, bytes, alloc)?;
+            if found.is_empty() {
+                return Ok(found);
             }
-            Ok(found)
+            with_other_kind(asked, name, &value, found, alloc)
         }
         Err(fault) => {
             if fault.is_memory() {
@@ -88,14 +89,16 @@ fn one(finding: Finding, alloc: Global) -> Result<Vec<Finding>, AllocError>
     Ok(found)
 }
 
-/// Adds that a document looks like one of another kind, where it does.
-fn push_other_kind(
+/// The findings, and that a document looks like one of another kind, where it does.
+fn with_other_kind(
     asked: Kind,
     name: &str,
     value: &Value,
-    found: &mut Vec<Finding>,
+    mut found: Vec<Finding>,
     alloc: Global,
-) -> Result<(), AllocError> {
+) -> Result<Vec<Finding>, AllocError>
+    ensures { IfOk result (λ v. length found.entry.items ≤ length v.items) }
+{
     if let Detected::One(kind) = detect(name, value) {
         if kind != asked {
             let (title, word) = (title_of(kind), name_of(kind));
@@ -103,7 +106,7 @@ fn push_other_kind(
             found.push(at_start(Cause::Kind(text), alloc))?;
         }
     }
-    Ok(())
+    Ok(found)
 }
 
 /// That the bytes are no JSON.

@@ -67,9 +67,8 @@ pub fn references<W: Write, E: Write>(
 {
     let mut wrong = false;
     for text in texts {
-        if !reference(style, text, alloc, writer, errors)? {
-            wrong = true;
-        }
+        let done = reference(style, text, alloc, writer, errors)?;
+        wrong = wrong | !done;
     }
     Ok(if wrong { 1 } else { 0 })
 }
@@ -194,9 +193,8 @@ pub fn digests<W: Write, E: Write>(
 {
     let mut wrong = false;
     for text in texts {
-        if !perform(Command::Digest(text), text, alloc, writer, errors)? {
-            wrong = true;
-        }
+        let done = perform(Command::Digest(text), text, alloc, writer, errors)?;
+        wrong = wrong | !done;
     }
     Ok(if wrong { 1 } else { 0 })
 }
