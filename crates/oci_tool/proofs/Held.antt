@@ -1,5 +1,5 @@
 -- What holds of the bytes of a file, where they are known.
-use Rattle.std.proofs.Common.{◌≡◌, ℕ, List, Bool, true, false, Option, Some, None, Result, Ok, Err, subst}
+use Rattle.std.proofs.Common.{◌≡◌, ℕ, List, [], Bool, true, false, Option, Some, None, Result, Ok, Err, subst}
 use Rattle.std.specs.Prelude.{IfSome, IfOk}
 use Rattle.oci_json_model.specs.Shape.{Shape}
 use Rattle.oci_json_io.specs.Engines.{MeansBytes, WritesDocument}
@@ -8,12 +8,23 @@ use Rattle.oci_shapes.specs.Descriptor.{descriptor}
 use Rattle.oci_doc_run.specs.declared.kind.Kind.{Kind}
 use Rattle.oci_doc_run.specs.Kinds.{shape_of}
 use Rattle.oci_doc_run.specs.Outputs.{WritesPinned}
-use Rattle.oci_tool.specs.Checks.{Formats}
+use Rattle.oci_json_model.specs.Plain.{Plain}
+use Rattle.oci_tool.specs.declared.finding.Finding.{Finding}
+use Rattle.oci_tool.specs.Checks.{Formats, IsRefused}
 
 -- what holds of the bytes that were read
 pub held : (P : List ℕ → Type 0) (known : Option (List ℕ)) (bytes : List ℕ) → IfSome known (λ b. bytes ≡ b) → P bytes → IfSome known P
 held P None bytes is h = tt
 held P (Some b) bytes is h = subst P is h
+
+-- what is known of files that nothing changed
+pub moved : (new old : List ℕ → Option (List ℕ)) (P : List ℕ → Type 0) (name : List ℕ) → new ≡ old → IfSome (new name) P → IfSome (old name) P
+moved new old P name same h = subst (λ f. IfSome (f name) P) same h
+
+-- a finding says that the bytes are no document
+pub refused_of : (kind : Option Kind) (bytes : List ℕ) (found : List Finding) → IfSome kind (λ k. (p : Plain) → MeansBytes (shape_of k) bytes p → found ≡ []) → (found ≡ [] → ⊥) → IsRefused kind bytes
+refused_of None bytes found all some = tt
+refused_of (Some k) bytes found all some = λ m. some (all m.0 m.1)
 
 document_held : (s : Shape) (known : Option (List ℕ)) (bytes : List ℕ) (Writes : List ℕ → Type 0) → IfSome known (λ b. bytes ≡ b) → WritesDocument s (Some bytes) Writes → WritesDocument s known Writes
 document_held s None bytes Writes is h = let (p, means, wrote) = h in (p, tt, wrote)

@@ -78,6 +78,7 @@ pub fn kind_of(asked: Option<Kind>, name: &str, value: &Value) -> Option<Kind>
 
 /// Writes the canonical form of a file, or compares the file with it. Returns 0 if that was done, 1 if the file holds no valid document
 /// or is to be compared and is not canonical, and 3 if it could not be read or written.
+#[tactic(auto, using(crate::proofs::Held::formats_held, crate::proofs::Held::held))]
 pub fn format<S: Store, W: Write, E: Write>(
     asked: &Format<'_>,
     alloc: Global,

@@ -1,5 +1,5 @@
 //! The command `check`.
-ghost use Rattle.std.specs.Prelude.{◌≡◌, ◌<◌, ℕ, true, false, length, IfOk, IfSome};
+ghost use Rattle.std.specs.Prelude.{◌≡◌, ◌<◌, ◌⊎◌, ℕ, true, false, length, IfOk, IfSome, OnOk};
 ghost use Rattle.std.specs.List.{All, HoldsAt};
 ghost use Rattle.oci_tool.specs.Checks.{IsAllowed, IsRefused};
 ghost use Rattle.oci_tool.specs.Done.{IsStatus};
@@ -73,52 +73,48 @@ fn check_files<S: Store, W: Write, E: Write>(
     ensures right { IfOk result (λ t. t.wrong ≡ false → t.unread ≡ false → All (λ f. IfSome (S.holds store.old f.now) (IsAllowed asked.now.kind)) asked.now.files.now) }
     ensures wrong { IfOk result (λ t. t.wrong ≡ true → (i : ℕ) × (i < length asked.now.files.now) × HoldsAt (λ f. IfSome (S.holds store.old f.now) (IsRefused asked.now.kind)) asked.now.files.now i) }
 {
-    let mut wrong = false;
-    let mut unread = false;
+    let mut tally = Tally {
+        wrong: false,
+        unread: false,
+    };
     for name in asked.files {
-        let seen = check_file(asked, name, alloc, store, log, writer, errors)?;
-        wrong = wrong | seen.wrong;
-        unread = unread | seen.unread;
+        check_file(asked, name, &mut tally, alloc, store, log, writer, errors)?;
     }
-    Ok(Tally { wrong, unread })
+    Ok(tally)
 }
 
+/// Checks a file, and notes what was found out.
+#[tactic(auto, using(crate::proofs::Held::held, crate::proofs::Held::refused_of))]
 fn check_file<S: Store, W: Write, E: Write>(
     asked: &Check<'_>,
     name: &str,
+    tally: &mut Tally,
     alloc: Global,
     store: &mut S,
     log: &mut Option<Log>,
     writer: &mut W,
     errors: &mut E,
-) -> Result<Tally>
-    ensures right { IfOk result (λ t. t.wrong ≡ false → t.unread ≡ false → IfSome (S.holds store.old name.now) (IsAllowed asked.now.kind)) }
-    ensures wrong { IfOk result (λ t. t.wrong ≡ true → IfSome (S.holds store.old name.now) (IsRefused asked.now.kind)) }
+) -> Result<()>
+    ensures right { OnOk result (tally.new.wrong ≡ false → tally.new.unread ≡ false → (tally.old.wrong ≡ false) × (tally.old.unread ≡ false) × IfSome (S.holds store.old name.now) (IsAllowed asked.now.kind)) }
+    ensures wrong { OnOk result (tally.new.wrong ≡ true → (tally.old.wrong ≡ true) ⊎ IfSome (S.holds store.old name.now) (IsRefused asked.now.kind)) }
     ensures kept { S.holds store.new ≡ S.holds store.old }
 {
     match store.read(alloc, name) {
         Ok(bytes) => {
             let found = inspect(asked.kind, name, bytes.as_slice(), alloc)?;
             if found.is_empty() {
-                return Ok(Tally {
-                    wrong: false,
-                    unread: false,
-                });
+                return Ok(());
             }
-            if !asked.quiet {
-                tell(asked.style, name, &found, alloc, log, writer)?;
+            tally.wrong = true;
+            if asked.quiet {
+                return Ok(());
             }
-            Ok(Tally {
-                wrong: true,
-                unread: false,
-            })
+            tell(asked.style, name, &found, alloc, log, writer)
         }
         Err(fault) => {
+            tally.unread = true;
             complain_of(name, &fault, alloc, errors);
-            Ok(Tally {
-                wrong: false,
-                unread: true,
-            })
+            Ok(())
         }
     }
 }

@@ -67,8 +67,9 @@ pub fn references<W: Write, E: Write>(
 {
     let mut wrong = false;
     for text in texts {
-        let done = reference(style, text, alloc, writer, errors)?;
-        wrong = wrong | !done;
+        if !reference(style, text, alloc, writer, errors)? {
+            wrong = true;
+        }
     }
     Ok(if wrong { 1 } else { 0 })
 }
@@ -193,14 +194,28 @@ pub fn digests<W: Write, E: Write>(
 {
     let mut wrong = false;
     for text in texts {
-        let done = perform(Command::Digest(text), text, alloc, writer, errors)?;
-        wrong = wrong | !done;
+        if !digest(text, alloc, writer, errors)? {
+            wrong = true;
+        }
     }
     Ok(if wrong { 1 } else { 0 })
 }
 
+/// Writes the parts of a digest, and returns whether the text is one.
+fn digest<W: Write, E: Write>(
+    text: &str,
+    alloc: Global,
+    writer: &mut W,
+    errors: &mut E,
+) -> Result<bool>
+    ensures { IfOk result (λ b. b ≡ true → IsSomeDigest text.now) }
+{
+    perform(Command::Digest(text), text, alloc, writer, errors)
+}
+
 /// Writes the reference with the digest of the descriptor in a file. Returns 0 if that was done, 1 if the text is no reference or the
 /// file holds no descriptor, and 3 if the file could not be read; a line on standard error says why.
+#[tactic(auto, using(crate::proofs::Held::pinned_held))]
 pub fn pin<S: Store, W: Write, E: Write>(
     text: &str,
     file: &str,

@@ -6,7 +6,7 @@ use Rattle.oci_tool.proofs.check.check_files.Given as goal
 
 abbrev pub invariant-loop-name : goal.invariant-loop-name
 invariant-loop-name g l = record {
-  right : l.wrong ≡ false → l.unread ≡ false → (k : ℕ) → k < l.name-index → HoldsAt (λ f. IfSome (g.S.Store.holds l.initial.store f.now) (IsAllowed l.asked.kind)) l.asked.files.now k;
-  wrong : l.wrong ≡ true → (i : ℕ) × (i < length l.asked.files.now) × HoldsAt (λ f. IfSome (g.S.Store.holds l.initial.store f.now) (IsRefused l.asked.kind)) l.asked.files.now i;
+  right : l.tally.wrong ≡ false → l.tally.unread ≡ false → (k : ℕ) → k < l.name-index → HoldsAt (λ f. IfSome (g.S.Store.holds l.initial.store f.now) (IsAllowed l.asked.kind)) l.asked.files.now k;
+  wrong : l.tally.wrong ≡ true → (i : ℕ) × (i < length l.asked.files.now) × HoldsAt (λ f. IfSome (g.S.Store.holds l.initial.store f.now) (IsRefused l.asked.kind)) l.asked.files.now i;
   kept : g.S.Store.holds l.store ≡ g.S.Store.holds l.initial.store;
 }
