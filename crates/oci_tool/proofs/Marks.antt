@@ -1,16 +1,29 @@
 -- Names behind marks.
-use Rattle.std.proofs.Common.{◌≡◌, ◌<◌, ℕ, zero, suc, List, [], ◌∷◌, ◌++◌, codes, length, drop, map, get_or, refl, sym, ap, ◌∙◌, rules, arith}
+use Rattle.std.proofs.Common.{◌≡◌, ◌<◌, ◌≤◌, ◌+◌, ℕ, zero, suc, List, [], ◌∷◌, ◌++◌, codes, length, drop, map, get_or, refl, sym, ap, ◌∙◌, rules, arith}
 use Rattle.oci_tool.specs.Wording.{marked}
 
-pub marked_at : {X : Type 0} (f : X → List ℕ) (mark : List ℕ) (xs : List X) (i : ℕ) (x : X) → i < length xs → x ≡ get_or xs i x
-    → marked mark (map f (drop i xs)) ≡ mark ++ f x ++ marked (codes ", ") (map f (drop (suc i) xs))
-marked_at f mark [] i x lt e = absurd (omega arith)
-marked_at f mark (y ∷ ys) zero x lt e = ap (λ z. mark ++ f z ++ marked (codes ", ") (map f ys)) (sym e)
-marked_at f mark (y ∷ ys) (suc i) x lt e = marked_at f mark ys i x (omega arith) e
+marked_at : {X : Type 0} (f : X → List ℕ) (mark : List ℕ) (xs : List X) (i : ℕ) (d : X) → i < length xs
+    → marked mark (map f (drop i xs)) ≡ mark ++ f (get_or xs i d) ++ marked (codes ", ") (map f (drop (suc i) xs))
+marked_at f mark [] i d lt = absurd (omega arith)
+marked_at f mark (y ∷ ys) zero d lt = refl
+marked_at f mark (y ∷ ys) (suc i) d lt = marked_at f mark ys i d (omega arith)
 
-pub marked_step : {X : Type 0} (f : X → List ℕ) (text mark new all : List ℕ) (xs : List X) (i : ℕ) (x : X) → i < length xs → x ≡ get_or xs i x → new ≡ (text ++ mark) ++ f x
-    → text ++ marked mark (map f (drop i xs)) ≡ all → new ++ marked (codes ", ") (map f (drop (suc i) xs)) ≡ all
-marked_step f text mark new all xs i x lt e made so =
+pub marked_step : {X : Type 0} (f : X → List ℕ) (text mark new all : List ℕ) (xs : List X) (i : ℕ) (d : X) → i < length xs → new ≡ text ++ (mark ++ f (get_or xs i d))
+    → text ++ marked mark (map f (drop i xs)) ≡ all → new ++ marked (codes ", ") (map f (drop (i + 1) xs)) ≡ all
+marked_step f text mark new all xs i d lt made so =
+    let step : i + 1 ≡ suc i = omega arith in
+    let name : List ℕ = f (get_or xs i d) in
     let rest : List ℕ = marked (codes ", ") (map f (drop (suc i) xs)) in
-    let split : ((text ++ mark) ++ f x) ++ rest ≡ text ++ (mark ++ f x ++ rest) = search rules in
-    ap (λ z. z ++ rest) made ∙ split ∙ ap (λ z. text ++ z) (sym (marked_at f mark xs i x lt e)) ∙ so
+    let split : (text ++ (mark ++ name)) ++ rest ≡ text ++ (mark ++ name ++ rest) = search rules in
+    ap (λ n. new ++ marked (codes ", ") (map f (drop n xs))) step ∙ ap (λ z. z ++ rest) made ∙ split ∙ ap (λ z. text ++ z) (sym (marked_at f mark xs i d lt)) ∙ so
+
+none_left : {X : Type 0} (f : X → List ℕ) (mark : List ℕ) (xs : List X) (i : ℕ) → length xs ≤ i → marked mark (map f (drop i xs)) ≡ []
+none_left f mark [] zero h = refl
+none_left f mark [] (suc i) h = refl
+none_left f mark (y ∷ ys) zero h = absurd (omega arith)
+none_left f mark (y ∷ ys) (suc i) h = none_left f mark ys i (omega arith)
+
+pub marked_end : {X : Type 0} (f : X → List ℕ) (text mark all : List ℕ) (xs : List X) (i : ℕ) → length xs ≤ i → text ++ marked mark (map f (drop i xs)) ≡ all → text ≡ all
+marked_end f text mark all xs i h so =
+    let nothing : text ++ [] ≡ text = search rules in
+    sym nothing ∙ ap (λ z. text ++ z) (sym (none_left f mark xs i h)) ∙ so

@@ -38,13 +38,25 @@ fn push_names(text: &mut String, names: &[&str]) -> Result<(), AllocError>
     ensures { OnOk result (string_bytes text.new ≡ string_bytes text.old ++ (codes "one of the strings" ++ marked (codes " ") (map (λ name. name.now) names.now))) }
 {
     text.push_str("one of the strings")?;
+    push_marked_names(text, names)
+}
+
+fn push_marked_names(text: &mut String, names: &[&str]) -> Result<(), AllocError>
+    ensures { OnOk result (string_bytes text.new ≡ string_bytes text.old ++ marked (codes " ") (map (λ name. name.now) names.now)) }
+{
     let mut mark = " ";
     for name in names {
-        text.push_str(mark)?;
-        text.push_str(name)?;
+        push_marked(text, mark, name)?;
         mark = ", ";
     }
     Ok(())
+}
+
+fn push_marked(text: &mut String, mark: &str, name: &str) -> Result<(), AllocError>
+    ensures { OnOk result (string_bytes text.new ≡ string_bytes text.old ++ (mark.now ++ name.now)) }
+{
+    text.push_str(mark)?;
+    text.push_str(name)
 }
 
 /// Adds what a value of a kind is.

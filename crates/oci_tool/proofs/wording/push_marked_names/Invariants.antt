@@ -1,7 +1,7 @@
 use Rattle.std.proofs.Common.{◌≡◌, ◌++◌, codes, drop, map}
 use Rattle.std.specs.Prelude.{string_bytes}
 use Rattle.oci_tool.specs.Wording.{marked}
-use Rattle.oci_tool.proofs.wording.push_names.Given as goal
+use Rattle.oci_tool.proofs.wording.push_marked_names.Given as goal
 
 abbrev pub invariant-loop-name : goal.invariant-loop-name
 invariant-loop-name l =
