@@ -21,4 +21,4 @@ pub no_json_allowed : (s : Shape) (bytes : List ℕ) (xs : List Finding) (p : Pl
 no_json_allowed s bytes xs p none m = let e = none m.1.0 in let k = m.1.1 in cc
 
 pub some_kind_allowed : (bytes : List ℕ) (d : Data) → ReadsAs bytes d → ((k : Kind) × (p : Plain) × Means (shape_of k) d p) → IsAllowed None bytes
-some_kind_allowed bytes d reads m = let (k, p, means) = m in (k, p, d, reads, means)
+some_kind_allowed bytes d reads m = let (k, p, means) = m in (k, (p, (d, reads, means)))

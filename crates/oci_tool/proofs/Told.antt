@@ -30,7 +30,7 @@ pub all_told : (fs : List Finding) (vs : List Violation) (reports : List Report)
 all_told fs vs reports e r = e ∙ composed vs ∙ ap (map as_told) r
 
 pub none_told : (fs : List Finding) (vs : List Violation) (P : Type 0) → map told fs ≡ map told_of vs → (vs ≡ []) ↔ P → (fs ≡ []) ↔ P
-none_told [] [] P e h = h
+none_told [] [] P e h = ((λ none. h.0 refl), (λ p. refl))
 none_told [] (v ∷ vs) P e h = cc
 none_told (f ∷ fs) [] P e h = cc
 none_told (f ∷ fs) (v ∷ vs) P e h = ((λ none. cc), (λ p. let no = h.1 p in cc))

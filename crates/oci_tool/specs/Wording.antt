@@ -1,5 +1,5 @@
 -- What a schema expects, in words.
-use Rattle.std.specs.Prelude.{ℕ, List, [], ◌∷◌, ◌++◌, codes, map}
+use Rattle.std.specs.Prelude.{ℕ, Bool, true, false, List, [], ◌∷◌, ◌++◌, codes, map}
 use Rattle.std.specs.Fmt.{signed_decimal}
 use Rattle.oci_schema_types.specs.declared.scalar.Scalar.{Scalar}
 use Rattle.oci_schema_types.specs.declared.scalar.Scalar.TheVariants as scalar
@@ -7,6 +7,11 @@ use Rattle.oci_schema_walks.specs.declared.violation.Kind.{Kind}
 use Rattle.oci_schema_walks.specs.declared.violation.Kind.TheVariants as kind
 use Rattle.oci_schema_walks.specs.declared.violation.Expected.{Expected}
 use Rattle.oci_schema_walks.specs.declared.violation.Expected.TheVariants as expected
+
+-- what is before the first name, and before another one
+abbrev pub mark_text : Bool → List ℕ
+mark_text true = codes " "
+mark_text false = codes ", "
 
 -- each name behind a mark; the first has another mark than the others
 abbrev pub marked : List ℕ → List (List ℕ) → List ℕ
@@ -17,7 +22,7 @@ marked mark (name ∷ names) = mark ++ name ++ marked (codes ", ") names
 abbrev pub scalar_words : Scalar → List ℕ
 scalar_words scalar.String = codes "a string"
 scalar_words scalar.Boolean = codes "a boolean"
-scalar_words (scalar.Integer low high) = codes "an integer from " ++ signed_decimal low ++ codes " to " ++ signed_decimal high
+scalar_words (scalar.Integer low high) = codes "an integer from " ++ (signed_decimal low ++ (codes " to " ++ signed_decimal high))
 scalar_words (scalar.Enum names) = codes "one of the strings" ++ marked (codes " ") (map (λ name. name.now) names.now)
 scalar_words scalar.MediaType = codes "a string"
 scalar_words scalar.Os = codes "a string"

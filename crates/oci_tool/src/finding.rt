@@ -1,6 +1,7 @@
 //! What is wrong with a document.
-ghost use Rattle.std.specs.Prelude.{◌≡◌, IfOk, string_bytes};
-ghost use Rattle.oci_tool.specs.Findings.{message_words, rule_of};
+ghost use Rattle.std.specs.Prelude.{◌≡◌, ◌++◌, codes, IfOk, OnOk, string_bytes};
+ghost use Rattle.oci_tool.specs.Findings.{found_words, message_words, rule_of};
+ghost use Rattle.oci_tool.specs.Wording.{expected_words};
 
 use crate::place::Place;
 use crate::wording::push_expected;
@@ -45,21 +46,45 @@ impl Finding {
     pub fn message(&self, alloc: Global) -> Result<String, AllocError>
         ensures { IfOk result (λ t. string_bytes t ≡ message_words self.now.cause) }
     {
-        let mut text = String::new(alloc);
         match &self.cause {
-            Cause::Json(told) => {
-                text.push_str("not JSON: ")?;
-                text.push_str(told.as_str())?;
-            }
-            Cause::Kind(told) => text.push_str(told.as_str())?,
-            Cause::Schema(expected, found) => {
-                push_expected(&mut text, expected, alloc)?;
-                if let Some(found) = found {
-                    text.push_str(", found ")?;
-                    text.push_str(found.as_str())?;
-                }
-            }
+            Cause::Json(told) => joined("not JSON: ", told.as_str(), alloc),
+            Cause::Kind(told) => String::from_str(alloc, told.as_str()),
+            Cause::Schema(expected, found) => schema_message(expected, found, alloc),
         }
-        Ok(text)
     }
+}
+
+/// One text behind another.
+fn joined(first: &str, second: &str, alloc: Global) -> Result<String, AllocError>
+    ensures { IfOk result (λ t. string_bytes t ≡ first.now ++ second.now) }
+{
+    let mut text = String::from_str(alloc, first)?;
+    text.push_str(second)?;
+    Ok(text)
+}
+
+/// What is expected, and what was found.
+fn schema_message(
+    expected: &Expected,
+    found: &Option<String>,
+    alloc: Global,
+) -> Result<String, AllocError>
+    ensures { IfOk result (λ t. string_bytes t ≡ expected_words expected.now ++ found_words found.now) }
+{
+    let mut text = String::new(alloc);
+    push_expected(&mut text, expected, alloc)?;
+    match found {
+        Some(found) => {
+            push_found(&mut text, found.as_str())?;
+            Ok(text)
+        }
+        None => Ok(text),
+    }
+}
+
+fn push_found(text: &mut String, found: &str) -> Result<(), AllocError>
+    ensures { OnOk result (string_bytes text.new ≡ string_bytes text.old ++ (codes ", found " ++ found.now)) }
+{
+    text.push_str(", found ")?;
+    text.push_str(found)
 }

@@ -97,7 +97,7 @@ fn with_other_kind(
     mut found: Vec<Finding>,
     alloc: Global,
 ) -> Result<Vec<Finding>, AllocError>
-    ensures { IfOk result (λ v. length found.entry.items ≤ length v.items) }
+    ensures { IfOk result (λ v. length found.items ≤ length v.items) }
 {
     if let Detected::One(kind) = detect(name, value) {
         if kind != asked {

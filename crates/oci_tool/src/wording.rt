@@ -1,7 +1,7 @@
 //! What a schema expects, in words.
 ghost use Rattle.std.specs.Prelude.{◌≡◌, ◌++◌, OnOk, codes, map, string_bytes};
 ghost use Rattle.std.specs.Fmt.{signed_decimal};
-ghost use Rattle.oci_tool.specs.Wording.{scalar_words, kind_words, expected_words, marked};
+ghost use Rattle.oci_tool.specs.Wording.{scalar_words, kind_words, expected_words, marked, mark_text};
 
 use oci_schema::{Expected, Kind, Scalar};
 use std::alloc::{AllocError, Global};
@@ -27,10 +27,20 @@ pub fn push_scalar(text: &mut String, scalar: &Scalar, alloc: Global) -> Result<
 }
 
 fn push_bounds(text: &mut String, low: i128, high: i128, alloc: Global) -> Result<(), AllocError>
-    ensures { OnOk result (string_bytes text.new ≡ string_bytes text.old ++ (codes "an integer from " ++ signed_decimal low ++ codes " to " ++ signed_decimal high)) }
+    ensures { OnOk result (string_bytes text.new ≡ string_bytes text.old ++ (codes "an integer from " ++ (signed_decimal low ++ (codes " to " ++ signed_decimal high)))) }
 {
-    let bounds = format!(in alloc; "an integer from {low} to {high}")?;
-    text.push_str(bounds.as_str())
+    let low = low.to_string(alloc)?;
+    let high = high.to_string(alloc)?;
+    push_range(text, low.as_str(), high.as_str())
+}
+
+fn push_range(text: &mut String, low: &str, high: &str) -> Result<(), AllocError>
+    ensures { OnOk result (string_bytes text.new ≡ string_bytes text.old ++ (codes "an integer from " ++ (low.now ++ (codes " to " ++ high.now)))) }
+{
+    text.push_str("an integer from ")?;
+    text.push_str(low)?;
+    text.push_str(" to ")?;
+    text.push_str(high)
 }
 
 /// Adds the names of an enum.
@@ -44,12 +54,20 @@ fn push_names(text: &mut String, names: &[&str]) -> Result<(), AllocError>
 fn push_marked_names(text: &mut String, names: &[&str]) -> Result<(), AllocError>
     ensures { OnOk result (string_bytes text.new ≡ string_bytes text.old ++ marked (codes " ") (map (λ name. name.now) names.now)) }
 {
-    let mut mark = " ";
+    let mut first = true;
     for name in names {
+        let mark = mark_of(first);
         push_marked(text, mark, name)?;
-        mark = ", ";
+        first = false;
     }
     Ok(())
+}
+
+/// What is before the first name, or before another one.
+fn mark_of(first: bool) -> &'static str
+    ensures { result.now ≡ mark_text first }
+{
+    if first { " " } else { ", " }
 }
 
 fn push_marked(text: &mut String, mark: &str, name: &str) -> Result<(), AllocError>
@@ -88,10 +106,14 @@ pub fn push_expected(
             push_kind(text, kind, alloc)?;
             text.push_str(")")
         }
-        Expected::NoAlias(alias) => {
-            text.push_str("expected no member ")?;
-            text.push_str(alias)?;
-            text.push_str(" beside it")
-        }
+        Expected::NoAlias(alias) => push_alias(text, alias),
     }
+}
+
+fn push_alias(text: &mut String, alias: &str) -> Result<(), AllocError>
+    ensures { OnOk result (string_bytes text.new ≡ string_bytes text.old ++ (codes "expected no member " ++ (alias.now ++ codes " beside it"))) }
+{
+    text.push_str("expected no member ")?;
+    text.push_str(alias)?;
+    text.push_str(" beside it")
 }

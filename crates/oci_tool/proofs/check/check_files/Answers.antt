@@ -12,11 +12,11 @@ loop-name-preserved g c = record {
       (moved _ _ _ _ c.loop-name.invariant.kept passes) (c.loop-name.invariant.right w0 u0);
   wrong = λ w. elim (c.in_ok-check_file.ensures.wrong w) [
     | inl old ↦ c.loop-name.invariant.wrong old
-    | inr no ↦ (
+    | inr refused ↦ (
       c.loop-name.name-index,
       c.loop-name-test.true,
       holds_here (λ f. IfSome (g.S.Store.holds c.args.store.now f.now) (IsRefused c.args.asked.now.kind)) c.args.asked.now.files.now c.loop-name.name-index _ c.loop-name-test.true
-          (moved _ _ _ _ c.loop-name.invariant.kept no),
+          (moved _ _ _ _ c.loop-name.invariant.kept refused),
     )
   ];
   kept = c.check_file.ensures.kept ∙ c.loop-name.invariant.kept;
