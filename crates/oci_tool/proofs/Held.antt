@@ -1,6 +1,7 @@
 -- What holds of the bytes of a file, where they are known.
-use Rattle.std.proofs.Common.{◌≡◌, ℕ, List, [], Bool, true, false, Option, Some, None, Result, Ok, Err, subst}
-use Rattle.std.specs.Prelude.{IfSome, IfOk}
+use Rattle.std.proofs.Common.{◌≡◌, ℕ, List, [], Bool, true, false, Option, Some, None, Result, Ok, Err, ◌==◌, length, true≢false, refl, sym, ap, ◌∙◌, subst}
+use Rattle.std.specs.Prelude.{IfSome, OnOk, Vec, vec_len}
+use Rattle.std.specs.declared.alloc.Global.{Global}
 use Rattle.oci_json_model.specs.Shape.{Shape}
 use Rattle.oci_json_io.specs.Engines.{MeansBytes, WritesDocument}
 use Rattle.oci_schema.specs.Normalizes.{WritesPretty}
@@ -10,7 +11,7 @@ use Rattle.oci_doc_run.specs.Kinds.{shape_of}
 use Rattle.oci_doc_run.specs.Outputs.{WritesPinned}
 use Rattle.oci_json_model.specs.Plain.{Plain}
 use Rattle.oci_tool.specs.declared.finding.Finding.{Finding}
-use Rattle.oci_tool.specs.Checks.{Formats, IsRefused}
+use Rattle.oci_tool.specs.Checks.{Formats, IsAsked, IsRefused}
 
 -- what holds of the bytes that were read
 pub held : (P : List ℕ → Type 0) (known : Option (List ℕ)) (bytes : List ℕ) → IfSome known (λ b. bytes ≡ b) → P bytes → IfSome known P
@@ -25,6 +26,27 @@ moved new old P name same h = subst (λ f. IfSome (f name) P) same h
 pub refused_of : (kind : Option Kind) (bytes : List ℕ) (found : List Finding) → IfSome kind (λ k. (p : Plain) → MeansBytes (shape_of k) bytes p → found ≡ []) → (found ≡ [] → ⊥) → IsRefused kind bytes
 refused_of None bytes found all some = tt
 refused_of (Some k) bytes found all some = λ m. some (all m.0 m.1)
+
+-- what holds in any case
+pub on_any : {A E : Type 0} (r : Result A E) {P : Type 0} → P → OnOk r P
+on_any (Ok x) h = h
+on_any (Err e) h = tt
+
+-- a list that is not empty
+pub some_found : (v : Vec Finding Global) → false ≡ (vec_len v == 0) → v.items ≡ [] → ⊥
+some_found v full none = let len : vec_len v ≡ 0 = ap (λ (xs : List Finding). length xs) none in let is : (vec_len v == 0) ≡ true = rw len refl in absurd (true≢false (sym is ∙ sym full))
+
+document_written : (s : Shape) (input : Option (List ℕ)) (W V : List ℕ → Type 0) → ((t : List ℕ) → W t → V t) → WritesDocument s input W → WritesDocument s input V
+document_written s input W V f h = let (p, means, wrote) = h in (p, means, f _ wrote)
+
+pretty_written : (s : Shape) (input : Option (List ℕ)) (W V : List ℕ → Type 0) → ((t : List ℕ) → W t → V t) → WritesPretty s input W → WritesPretty s input V
+pretty_written s input W V f h = let (p, means, text, is, wrote) = h in (p, means, (text, is, f text wrote))
+
+-- the canonical form of the kind that was found is that of the kind that was asked for
+pub formats_asked : (asked : Option Kind) (kind : Kind) (pretty : Bool) (input : Option (List ℕ)) (W V : List ℕ → Type 0) → IsAsked asked kind → ((t : List ℕ) → W t → V t) → Formats (Some kind) pretty input W
+    → Formats asked pretty input V
+formats_asked asked kind false input W V fits f h = let (k, same, writes) = h in (k, subst (IsAsked asked) same fits, document_written (shape_of k) input W V f writes)
+formats_asked asked kind true input W V fits f h = let (k, same, writes) = h in (k, subst (IsAsked asked) same fits, pretty_written (shape_of k) input W V f writes)
 
 document_held : (s : Shape) (known : Option (List ℕ)) (bytes : List ℕ) (Writes : List ℕ → Type 0) → IfSome known (λ b. bytes ≡ b) → WritesDocument s (Some bytes) Writes → WritesDocument s known Writes
 document_held s None bytes Writes is h = let (p, means, wrote) = h in (p, tt, wrote)

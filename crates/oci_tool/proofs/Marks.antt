@@ -1,5 +1,6 @@
 -- Names behind marks.
-use Rattle.std.proofs.Common.{◌≡◌, ◌<◌, ◌≤◌, ◌+◌, ℕ, zero, suc, List, [], ◌∷◌, ◌++◌, codes, length, drop, map, get_or, refl, sym, ap, ◌∙◌, arith}
+use Rattle.std.proofs.Common.{◌≡◌, ◌<◌, ◌≤◌, ◌+◌, ℕ, zero, suc, List, [], ◌∷◌, ◌++◌, codes, length, drop, map, get_or, refl, sym, ap, ◌∙◌, Result, Ok, Err, is_ok, arith}
+use Rattle.std.specs.Prelude.{OnOk, if◌then◌else◌}
 use Rattle.std.proofs.lemmas.List.{append_assoc, append-nil}
 use Rattle.oci_tool.specs.Wording.{marked}
 
@@ -27,3 +28,13 @@ none_left f mark (y ∷ ys) (suc i) h = none_left f mark ys i (omega arith)
 pub marked_end : {X : Type 0} (f : X → List ℕ) (text mark all : List ℕ) (xs : List X) (i : ℕ) → length xs ≤ i → text ++ marked mark (map f (drop i xs)) ≡ all → text ≡ all
 marked_end f text mark all xs i h so =
     sym (append-nil text) ∙ ap (λ z. text ++ z) (sym (none_left f mark xs i h)) ∙ so
+
+-- ---- texts that grow
+
+pub pushed : {A E : Type 0} (r : Result A E) (new old s : List ℕ) → new ≡ (if is_ok r then old ++ s else old) → OnOk r (new ≡ old ++ s)
+pushed (Ok x) new old s e = e
+pushed (Err x) new old s e = tt
+
+pub three_pushed : (text a b c first second third : List ℕ) → first ≡ text ++ a → second ≡ first ++ b → third ≡ second ++ c → third ≡ text ++ (a ++ (b ++ c))
+three_pushed text a b c first second third e1 e2 e3 =
+    e3 ∙ ap (λ z. z ++ c) (e2 ∙ ap (λ z. z ++ b) e1) ∙ append_assoc (text ++ a) b c ∙ append_assoc text a (b ++ c)

@@ -84,7 +84,6 @@ fn check_files<S: Store, W: Write, E: Write>(
 }
 
 /// Checks a file, and notes what was found out.
-#[tactic(auto, using(crate::proofs::Held::held, crate::proofs::Held::refused_of))]
 fn check_file<S: Store, W: Write, E: Write>(
     asked: &Check<'_>,
     name: &str,
@@ -100,23 +99,38 @@ fn check_file<S: Store, W: Write, E: Write>(
     ensures kept { S.holds store.new ≡ S.holds store.old }
 {
     match store.read(alloc, name) {
-        Ok(bytes) => {
-            let found = inspect(asked.kind, name, bytes.as_slice(), alloc)?;
-            if found.is_empty() {
-                return Ok(());
-            }
-            tally.wrong = true;
-            if asked.quiet {
-                return Ok(());
-            }
-            tell(asked.style, name, &found, alloc, log, writer)
-        }
+        Ok(bytes) => check_bytes(asked, name, bytes.as_slice(), tally, alloc, log, writer),
         Err(fault) => {
             tally.unread = true;
             complain_of(name, &fault, alloc, errors);
             Ok(())
         }
     }
+}
+
+/// Checks the bytes of a file, and notes what was found out.
+fn check_bytes<W: Write>(
+    asked: &Check<'_>,
+    name: &str,
+    bytes: &[u8],
+    tally: &mut Tally,
+    alloc: Global,
+    log: &mut Option<Log>,
+    writer: &mut W,
+) -> Result<()>
+    ensures right { OnOk result (tally.new.wrong ≡ false → (tally.new.unread ≡ tally.old.unread) × (tally.old.wrong ≡ false) × IsAllowed asked.now.kind bytes.now) }
+    ensures wrong { OnOk result (tally.new.wrong ≡ true → (tally.old.wrong ≡ true) ⊎ IsRefused asked.now.kind bytes.now) }
+    ensures unread { OnOk result (tally.new.unread ≡ tally.old.unread) }
+{
+    let found = inspect(asked.kind, name, bytes, alloc)?;
+    if found.is_empty() {
+        return Ok(());
+    }
+    tally.wrong = true;
+    if asked.quiet {
+        return Ok(());
+    }
+    tell(asked.style, name, &found, alloc, log, writer)
 }
 
 /// Writes the findings in a file, or keeps them for the log.

@@ -230,7 +230,10 @@ pub fn pin<S: Store, W: Write, E: Write>(
     match store.read(alloc, file) {
         Ok(bytes) => {
             let done = pin_bytes(text, file, bytes.as_slice(), alloc, writer, errors)?;
-            Ok(if done { 0 } else { 1 })
+            if done {
+                return Ok(0);
+            }
+            Ok(1)
         }
         Err(fault) => {
             complain_of(file, &fault, alloc, errors);
