@@ -34,10 +34,10 @@ def table(name, kind, items):
 def enum(n):
     """The type, and its tables."""
     out = "".join(f"/// {it}\n" for it in n.about)
-    derives = ["Clone", "Copy", "Debug"] + ["Default"] * bool(n.default()) + ["PartialEq", "Eq"] + ["Hash"] * ("hashed" in n.marks)
+    derives = ["Clone", "Copy", "Debug", "PartialEq", "Eq"] + ["Hash"] * ("hashed" in n.marks)
     out += f"#[derive({', '.join(derives)})]\npub enum {n.name} {{\n"
     for v in n.variants:
-        out += f"    /// {v.what}\n" + "    #[default]\n" * v.default + f"    {v.name},\n"
+        out += f"    /// {v.what}\n    {v.name},\n"
     out += "}\n\n" + table("ALL", n.name, [f"{n.name}::{v.name}" for v in n.variants])
     out += table("NAMES", "&str", [f'"{v.text}"' for v in n.variants])
     if n.shows():
@@ -249,6 +249,21 @@ impl OciMember for {name} {{
 """
 
 
+def default(n):
+    w, name = n.word, n.name
+    return f"""impl Default for {name} {{
+    ghost use Rattle.{n.crate}.specs.{name}.{{{w}_default}};
+
+    ghost is_default = {{ λ x. x ≡ {w}_default }};
+
+    fn default() -> {name} {{
+        {name}::{n.default().name}
+    }}
+}}
+
+"""
+
+
 def absent(n):
     w, name = n.word, n.name
     return f"""
@@ -266,7 +281,7 @@ impl OciDefault for {name} {{
 
 
 def source(n):
-    out = head(n) + "\n" + enum(n) + (display(n) if "display" in n.marks else "")
+    out = head(n) + "\n" + enum(n) + (default(n) if n.default() else "") + (display(n) if "display" in n.marks else "")
     uses = ""
     if n.refusal:
         out += (spelled(n) if n.shows() else "") + unknown(n)

@@ -10,10 +10,9 @@ use serde_json::Value;
 use std::alloc::Global;
 
 /// The type of a device (runtime specification, "Linux Container Configuration", "Devices", `type`). The default is `A`.
-#[derive(Clone, Copy, Debug, Default, PartialEq, Eq)]
+#[derive(Clone, Copy, Debug, PartialEq, Eq)]
 pub enum LinuxDeviceType {
     /// All types, in a rule of the device cgroup.
-    #[default]
     A,
     /// A block device, which is buffered.
     B,
@@ -34,6 +33,16 @@ static ALL: [LinuxDeviceType; 5] = [
 ];
 
 static NAMES: [&str; 5] = ["a", "b", "c", "u", "p"];
+
+impl Default for LinuxDeviceType {
+    ghost use Rattle.oci_linux_names.specs.LinuxDeviceType.{linux_device_type_default};
+
+    ghost is_default = { λ x. x ≡ linux_device_type_default };
+
+    fn default() -> LinuxDeviceType {
+        LinuxDeviceType::A
+    }
+}
 
 impl LinuxDeviceType {
     /// Returns the variant with this JSON string.

@@ -12,7 +12,7 @@ use std::fmt;
 
 /// The type of a namespace (runtime specification, "Linux Container Configuration", "Namespaces", `type`). The default is
 /// `Pid`. The kernel's words `mnt` and `net` are displayed; in JSON these are `mount` and `network`.
-#[derive(Clone, Copy, Debug, Default, PartialEq, Eq, Hash)]
+#[derive(Clone, Copy, Debug, PartialEq, Eq, Hash)]
 pub enum LinuxNamespaceType {
     /// What is mounted where.
     Mount,
@@ -25,7 +25,6 @@ pub enum LinuxNamespaceType {
     /// The IDs of users and groups.
     User,
     /// The IDs of processes.
-    #[default]
     Pid,
     /// Network devices, addresses, ports and the like.
     Network,
@@ -53,6 +52,16 @@ static SHOWN: [&str; 8] = ["mnt", "cgroup", "uts", "ipc", "user", "pid", "net", 
 static NUMBERS: [u32; 8] = [
     0x00020000, 0x02000000, 0x04000000, 0x08000000, 0x10000000, 0x20000000, 0x40000000, 0x00000080,
 ];
+
+impl Default for LinuxNamespaceType {
+    ghost use Rattle.oci_linux_names.specs.LinuxNamespaceType.{linux_namespace_type_default};
+
+    ghost is_default = { λ x. x ≡ linux_namespace_type_default };
+
+    fn default() -> LinuxNamespaceType {
+        LinuxNamespaceType::Pid
+    }
+}
 
 impl fmt::Display for LinuxNamespaceType {
     ghost use Rattle.std.specs.Prelude.{Some};

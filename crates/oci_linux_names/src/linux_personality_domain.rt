@@ -12,10 +12,9 @@ use std::fmt;
 
 /// An execution domain (runtime specification, "Linux Container Configuration", "Personality", `domain`). The default is
 /// `PerLinux`.
-#[derive(Clone, Copy, Debug, Default, PartialEq, Eq)]
+#[derive(Clone, Copy, Debug, PartialEq, Eq)]
 pub enum LinuxPersonalityDomain {
     /// That of the machine.
-    #[default]
     PerLinux,
     /// A machine of 32 bits.
     PerLinux32,
@@ -27,6 +26,16 @@ static ALL: [LinuxPersonalityDomain; 2] = [
 ];
 
 static NAMES: [&str; 2] = ["LINUX", "LINUX32"];
+
+impl Default for LinuxPersonalityDomain {
+    ghost use Rattle.oci_linux_names.specs.LinuxPersonalityDomain.{linux_personality_domain_default};
+
+    ghost is_default = { λ x. x ≡ linux_personality_domain_default };
+
+    fn default() -> LinuxPersonalityDomain {
+        LinuxPersonalityDomain::PerLinux
+    }
+}
 
 impl fmt::Display for LinuxPersonalityDomain {
     ghost use Rattle.std.specs.Prelude.{Some};

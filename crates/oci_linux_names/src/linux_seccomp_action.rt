@@ -12,7 +12,7 @@ use std::fmt;
 
 /// What is done about a system call (runtime specification, "Linux Container Configuration", "Seccomp", `action`). The
 /// default is `ScmpActAllow`. `as_u32` is the number that a filter returns.
-#[derive(Clone, Copy, Debug, Default, PartialEq, Eq)]
+#[derive(Clone, Copy, Debug, PartialEq, Eq)]
 pub enum LinuxSeccompAction {
     /// The thread that made the call is ended, as by `ScmpActKillThread`.
     ScmpActKill,
@@ -31,7 +31,6 @@ pub enum LinuxSeccompAction {
     /// The call is made and logged.
     ScmpActLog,
     /// The call is made.
-    #[default]
     ScmpActAllow,
 }
 
@@ -58,6 +57,16 @@ static NAMES: [&str; 9] = [
     "SCMP_ACT_LOG",
     "SCMP_ACT_ALLOW",
 ];
+
+impl Default for LinuxSeccompAction {
+    ghost use Rattle.oci_linux_names.specs.LinuxSeccompAction.{linux_seccomp_action_default};
+
+    ghost is_default = { λ x. x ≡ linux_seccomp_action_default };
+
+    fn default() -> LinuxSeccompAction {
+        LinuxSeccompAction::ScmpActAllow
+    }
+}
 
 impl fmt::Display for LinuxSeccompAction {
     ghost use Rattle.std.specs.Prelude.{Some};

@@ -12,7 +12,7 @@ use std::fmt;
 
 /// How a system call's argument is compared with a value (runtime specification, "Linux Container Configuration",
 /// "Seccomp", `op`). The default is `ScmpCmpEq`.
-#[derive(Clone, Copy, Debug, Default, PartialEq, Eq)]
+#[derive(Clone, Copy, Debug, PartialEq, Eq)]
 pub enum LinuxSeccompOperator {
     /// It is another one.
     ScmpCmpNe,
@@ -21,7 +21,6 @@ pub enum LinuxSeccompOperator {
     /// It is less or equal.
     ScmpCmpLe,
     /// It is equal.
-    #[default]
     ScmpCmpEq,
     /// It is greater or equal.
     ScmpCmpGe,
@@ -52,6 +51,16 @@ static NAMES: [&str; 7] = [
 ];
 
 static NUMBERS: [u32; 7] = [1, 2, 3, 4, 5, 6, 7];
+
+impl Default for LinuxSeccompOperator {
+    ghost use Rattle.oci_linux_names.specs.LinuxSeccompOperator.{linux_seccomp_operator_default};
+
+    ghost is_default = { λ x. x ≡ linux_seccomp_operator_default };
+
+    fn default() -> LinuxSeccompOperator {
+        LinuxSeccompOperator::ScmpCmpEq
+    }
+}
 
 impl fmt::Display for LinuxSeccompOperator {
     ghost use Rattle.std.specs.Prelude.{Some};

@@ -12,10 +12,9 @@ use std::fmt;
 
 /// How the node of a new page is chosen (runtime specification, "Linux Container Configuration", `memoryPolicy`, `mode`).
 /// The default is `MpolDefault`.
-#[derive(Clone, Copy, Debug, Default, PartialEq, Eq)]
+#[derive(Clone, Copy, Debug, PartialEq, Eq)]
 pub enum MemoryPolicyModeType {
     /// As the kernel does by itself.
-    #[default]
     MpolDefault,
     /// From the given nodes alone.
     MpolBind,
@@ -50,6 +49,16 @@ static NAMES: [&str; 7] = [
     "MPOL_PREFERRED_MANY",
     "MPOL_LOCAL",
 ];
+
+impl Default for MemoryPolicyModeType {
+    ghost use Rattle.oci_linux_names.specs.MemoryPolicyModeType.{memory_policy_mode_type_default};
+
+    ghost is_default = { λ x. x ≡ memory_policy_mode_type_default };
+
+    fn default() -> MemoryPolicyModeType {
+        MemoryPolicyModeType::MpolDefault
+    }
+}
 
 impl fmt::Display for MemoryPolicyModeType {
     ghost use Rattle.std.specs.Prelude.{Some};

@@ -13,12 +13,11 @@ use std::fmt;
 
 /// The class by which a process's input and output is served (runtime specification, "Configuration", "Linux Process",
 /// `ioPriority`). The default is `IoprioClassBe`.
-#[derive(Clone, Copy, Debug, Default, PartialEq, Eq)]
+#[derive(Clone, Copy, Debug, PartialEq, Eq)]
 pub enum IOPriorityClass {
     /// Real time: served before all others.
     IoprioClassRt,
     /// Best effort.
-    #[default]
     IoprioClassBe,
     /// Served where nothing else asks for the device.
     IoprioClassIdle,
@@ -31,6 +30,16 @@ static ALL: [IOPriorityClass; 3] = [
 ];
 
 static NAMES: [&str; 3] = ["IOPRIO_CLASS_RT", "IOPRIO_CLASS_BE", "IOPRIO_CLASS_IDLE"];
+
+impl Default for IOPriorityClass {
+    ghost use Rattle.oci_process_names.specs.IOPriorityClass.{io_priority_class_default};
+
+    ghost is_default = { λ x. x ≡ io_priority_class_default };
+
+    fn default() -> IOPriorityClass {
+        IOPriorityClass::IoprioClassBe
+    }
+}
 
 impl fmt::Display for IOPriorityClass {
     ghost use Rattle.std.specs.Prelude.{Some};

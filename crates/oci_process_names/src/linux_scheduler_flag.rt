@@ -12,10 +12,9 @@ use std::fmt;
 
 /// A flag with which a scheduling policy is set (runtime specification, "Configuration", "Linux Process", `scheduler`).
 /// The default is `SchedResetOnFork`. In JSON one has another text than for `Display` and `from_str`.
-#[derive(Clone, Copy, Debug, Default, PartialEq, Eq)]
+#[derive(Clone, Copy, Debug, PartialEq, Eq)]
 pub enum LinuxSchedulerFlag {
     /// A child process does not inherit the policy.
-    #[default]
     SchedResetOnFork,
     /// Processor time that others leave unused is used.
     SchedFlagReclaim,
@@ -60,6 +59,16 @@ static SHOWN: [&str; 7] = [
     "SCHED_FLAG_UTIL_CLAMP_MIN",
     "SCHED_FLAG_UTIL_CLAMP_MAX",
 ];
+
+impl Default for LinuxSchedulerFlag {
+    ghost use Rattle.oci_process_names.specs.LinuxSchedulerFlag.{linux_scheduler_flag_default};
+
+    ghost is_default = { λ x. x ≡ linux_scheduler_flag_default };
+
+    fn default() -> LinuxSchedulerFlag {
+        LinuxSchedulerFlag::SchedResetOnFork
+    }
+}
 
 impl fmt::Display for LinuxSchedulerFlag {
     ghost use Rattle.std.specs.Prelude.{Some};

@@ -12,10 +12,9 @@ use std::fmt;
 
 /// The policy by which the scheduler chooses a process (runtime specification, "Configuration", "Linux Process",
 /// `scheduler`). The default is `SchedOther`.
-#[derive(Clone, Copy, Debug, Default, PartialEq, Eq)]
+#[derive(Clone, Copy, Debug, PartialEq, Eq)]
 pub enum LinuxSchedulerPolicy {
     /// Time sharing.
-    #[default]
     SchedOther,
     /// First in, first out, by a static priority.
     SchedFifo,
@@ -50,6 +49,16 @@ static NAMES: [&str; 7] = [
     "SCHED_IDLE",
     "SCHED_DEADLINE",
 ];
+
+impl Default for LinuxSchedulerPolicy {
+    ghost use Rattle.oci_process_names.specs.LinuxSchedulerPolicy.{linux_scheduler_policy_default};
+
+    ghost is_default = { λ x. x ≡ linux_scheduler_policy_default };
+
+    fn default() -> LinuxSchedulerPolicy {
+        LinuxSchedulerPolicy::SchedOther
+    }
+}
 
 impl fmt::Display for LinuxSchedulerPolicy {
     ghost use Rattle.std.specs.Prelude.{Some};

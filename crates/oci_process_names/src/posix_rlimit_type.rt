@@ -12,10 +12,9 @@ use std::fmt;
 
 /// What a limit on a process is on (runtime specification, "Configuration", "POSIX process", `rlimits`).
 /// The default is `RlimitCpu`.
-#[derive(Clone, Copy, Debug, Default, PartialEq, Eq)]
+#[derive(Clone, Copy, Debug, PartialEq, Eq)]
 pub enum PosixRlimitType {
     /// The processor time, in seconds.
-    #[default]
     RlimitCpu,
     /// The size of a file that is written, in bytes.
     RlimitFsize,
@@ -86,6 +85,16 @@ static NAMES: [&str; 16] = [
     "RLIMIT_RTPRIO",
     "RLIMIT_RTTIME",
 ];
+
+impl Default for PosixRlimitType {
+    ghost use Rattle.oci_process_names.specs.PosixRlimitType.{posix_rlimit_type_default};
+
+    ghost is_default = { λ x. x ≡ posix_rlimit_type_default };
+
+    fn default() -> PosixRlimitType {
+        PosixRlimitType::RlimitCpu
+    }
+}
 
 impl fmt::Display for PosixRlimitType {
     ghost use Rattle.std.specs.Prelude.{Some};

@@ -11,7 +11,7 @@ use std::fmt;
 
 /// Where a container is in its life (runtime specification, "Runtime and Lifecycle", "State", `status`). The default is
 /// `Stopped`.
-#[derive(Clone, Copy, Debug, Default, PartialEq, Eq, Hash)]
+#[derive(Clone, Copy, Debug, PartialEq, Eq, Hash)]
 pub enum ContainerState {
     /// It is being created.
     Creating,
@@ -20,7 +20,6 @@ pub enum ContainerState {
     /// Its program runs.
     Running,
     /// Its program has ended.
-    #[default]
     Stopped,
 }
 
@@ -32,6 +31,16 @@ static ALL: [ContainerState; 4] = [
 ];
 
 static NAMES: [&str; 4] = ["creating", "created", "running", "stopped"];
+
+impl Default for ContainerState {
+    ghost use Rattle.oci_runtime_names.specs.ContainerState.{container_state_default};
+
+    ghost is_default = { λ x. x ≡ container_state_default };
+
+    fn default() -> ContainerState {
+        ContainerState::Stopped
+    }
+}
 
 impl fmt::Display for ContainerState {
     ghost use Rattle.std.specs.Prelude.{Some};

@@ -11,10 +11,9 @@ use std::alloc::{AllocError, Global};
 use std::fmt;
 
 /// The type of a namespace of z/OS (runtime specification, `config-zos.md`, "Namespaces", `type`). The default is `Pid`.
-#[derive(Clone, Copy, Debug, Default, PartialEq, Eq, Hash)]
+#[derive(Clone, Copy, Debug, PartialEq, Eq, Hash)]
 pub enum ZOSNamespaceType {
     /// The IDs of processes.
-    #[default]
     Pid,
     /// What is mounted where.
     Mount,
@@ -32,6 +31,16 @@ static ALL: [ZOSNamespaceType; 4] = [
 ];
 
 static NAMES: [&str; 4] = ["pid", "mount", "ipc", "uts"];
+
+impl Default for ZOSNamespaceType {
+    ghost use Rattle.oci_runtime_names.specs.ZOSNamespaceType.{zos_namespace_type_default};
+
+    ghost is_default = { λ x. x ≡ zos_namespace_type_default };
+
+    fn default() -> ZOSNamespaceType {
+        ZOSNamespaceType::Pid
+    }
+}
 
 impl fmt::Display for ZOSNamespaceType {
     ghost use Rattle.std.specs.Prelude.{Some};
