@@ -8,8 +8,8 @@ ghost use Rattle.oci_json_tape.specs.Numbers.{num_of};
 use crate::numeral::{Number, parse_number};
 use json::Element;
 
-/// The member of this name; of equal names the last.
-pub fn member<'t, 'a>(element: &Element<'t, 'a>, name: &str) -> Option<Element<'t, 'a>>
+/// Finds the member of this name; of equal names the last.
+pub fn find<'t, 'a>(element: &Element<'t, 'a>, name: &str) -> Option<Element<'t, 'a>>
     ensures { (d : Data) → BeginsWithData element.now d → FindsData result (get name.now d) }
 {
     element.get(name)

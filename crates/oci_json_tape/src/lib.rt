@@ -7,7 +7,7 @@ pub mod numeral;
 pub mod parse;
 pub mod walk;
 
-pub use element::{boolean, is_null, member, number, text};
+pub use element::{boolean, find, is_null, number, text};
 pub use numeral::Number;
 pub use parse::open;
 pub use walk::{items, members, next_item, next_member};
