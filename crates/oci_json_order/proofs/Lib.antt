@@ -1,0 +1,4 @@
+pub mod Ascending
+pub mod Holes
+pub mod Ordered
+pub mod Rows
