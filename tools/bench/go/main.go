@@ -1,6 +1,6 @@
 // Command bench makes a call so often as is asked: bench CALL FILE COUNT. The calls manifest, spec, reference and digest are those of
-// the package ciderglen; manifest_json and spec_json read and print a document by encoding/json and the types of image-spec and
-// runtime-spec; digest_go is that of the package go-digest.
+// the package ciderglen; manifest_json, index_json, config_json and spec_json read and print a document by encoding/json and the types of
+// image-spec and runtime-spec; digest_go is that of the package go-digest.
 package main
 
 import (
@@ -36,6 +36,10 @@ func call(name string, input []byte, text string) (err error) {
 		err = ciderglen.CheckDigest(text)
 	case "manifest_json":
 		err = printed(new(image.Manifest), input)
+	case "index_json":
+		err = printed(new(image.Index), input)
+	case "config_json":
+		err = printed(new(image.Image), input)
 	case "spec_json":
 		err = printed(new(runtime.Spec), input)
 	default:
