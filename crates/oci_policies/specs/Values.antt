@@ -43,8 +43,8 @@ list_in f d = option_and_then (each f) (as_array d)
 abbrev pub texts_in : Data → Option (List (List ℕ))
 texts_in d = list_in as_str d
 
--- an array of two texts
-abbrev pub two : List (List ℕ) → Option (List ℕ × List ℕ)
+-- an array of two
+abbrev pub two : {A : Type 0} → List A → Option (A × A)
 two (s ∷ t ∷ []) = Some (s, t)
 two _ = None
 
@@ -58,13 +58,8 @@ natural z = if int_le (pos 0) z then Some (unsigned_abs z) else None
 abbrev pub natural_in : Data → Option ℕ
 natural_in d = option_and_then natural (as_integer d)
 
--- an array of two integers
-abbrev pub bounds : Items → Option (ℤ × ℤ)
-bounds (item low (item high no_items)) = both (as_integer low) (as_integer high)
-bounds _ = None
-
 abbrev pub bounds_in : Data → Option (ℤ × ℤ)
-bounds_in d = option_and_then bounds (as_array d)
+bounds_in d = option_and_then two (list_in as_integer d)
 
 -- what has to be `true` where it stands
 abbrev pub yes : Bool → Option Bool

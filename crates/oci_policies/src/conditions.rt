@@ -1,8 +1,8 @@
 //! The conditions of a policy.
-ghost use Rattle.std.specs.Prelude.{◌≡◌, [], option_map};
+ghost use Rattle.std.specs.Prelude.{◌≡◌, [], true, codes};
 ghost use Rattle.oci_rules.specs.Tables.{texts_of, check_of, condition_of as code_condition, origin_of as code_origin};
 ghost use Rattle.oci_policies.specs.Conditions as conditions;
-ghost use Rattle.oci_policies.specs.Values.{Reads, or_else};
+ghost use Rattle.oci_policies.specs.Values.{Reads};
 ghost use Rattle.oci_policies.specs.Values as values;
 ghost use Rattle.toml.specs.Data.{as_bool};
 ghost use Rattle.toml.specs.View.{view, table_view};
@@ -62,7 +62,7 @@ fn check<'a>(arena: &'a Bump, key: &str, value: &Value, alloc: Global) -> Result
         "one_of" => Ok(Check::OneOf(texts(arena, "one_of", value)?)),
         "boolean" => Ok(Check::Boolean(boolean("boolean", value)?)),
         "within" => {
-            let (low, high) = bounds("within", value)?;
+            let (low, high) = bounds("within", value, alloc)?;
             Ok(Check::Within(low, high))
         }
         "lists" => Ok(Check::Lists(texts(arena, "lists", value)?)),

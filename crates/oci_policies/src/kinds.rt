@@ -1,10 +1,10 @@
 //! The tests of a policy, by their names.
-ghost use Rattle.std.specs.Prelude.{◌≡◌, map};
+ghost use Rattle.std.specs.Prelude.{◌≡◌};
 ghost use Rattle.oci_rules.specs.Tables.{texts_of, ways_of, key_of as code_key, test_of};
 ghost use Rattle.oci_policies.specs.Tests as tests;
-ghost use Rattle.oci_policies.specs.Values.{Reads, list_in};
+ghost use Rattle.oci_policies.specs.Values.{Reads, each, list_in};
 ghost use Rattle.oci_policies.specs.Places.{way_in};
-ghost use Rattle.toml.specs.View.{view, table_view};
+ghost use Rattle.toml.specs.View.{view, items_view, table_view};
 
 use crate::error::{Fault, expected};
 use crate::grammars::grammar;
@@ -66,9 +66,20 @@ fn item<'a>(arena: &'a Bump, table: &Table) -> Result<Test<'a>, Fault>
 fn ways<'a>(arena: &'a Bump, value: &Value, alloc: Global) -> Result<&'a [&'a [&'a str]], Fault>
     ensures { Reads (λ ws. ways_of ws.now) result (list_in way_in (view value.now)) }
 {
-    let Some(items) = value.as_array() else {
-        return Err(expected("distinct", "`itself`, `entry-name` or an array of places"));
-    };
+    match value.as_array() {
+        Some(items) => each_way(arena, items, alloc),
+        None => Err(expected("distinct", "`itself`, `entry-name` or an array of places")),
+    }
+}
+
+#[tactic(auto, using(crate::proofs::Lists::behind_nothing, crate::proofs::Lists::behind_more))]
+fn each_way<'a>(
+    arena: &'a Bump,
+    items: &Vec<Value>,
+    alloc: Global,
+) -> Result<&'a [&'a [&'a str]], Fault>
+    ensures { Reads (λ ws. ways_of ws.now) result (each way_in (items_view items.now.items)) }
+{
     let mut found = Vec::new(arena);
     for item in items {
         found.push(way(arena, "distinct", item, alloc)?)?;
@@ -103,7 +114,7 @@ pub(crate) fn test<'a>(
         "begins" => Ok(Test::Begins(kept_text(arena, "begins", value)?)),
         "reserved" => reserved(arena, table_of(reserved_names(), "reserved", value, alloc)?),
         "within" => {
-            let (low, high) = bounds("within", value)?;
+            let (low, high) = bounds("within", value, alloc)?;
             Ok(Test::Within(low, high))
         }
         "boolean" => Ok(Test::Boolean(boolean("boolean", value)?)),

@@ -1,11 +1,10 @@
 //! The places of a policy: JSON Pointers with steps to each item and member.
-ghost use Rattle.std.specs.Prelude.{◌≡◌, ◌==◌, ◌<◌, [], map, OnOk, IfOk, IfErr};
+ghost use Rattle.std.specs.Prelude.{◌≡◌, ◌==◌, IfOk};
 ghost use Rattle.std.specs.List.{slice_split};
 ghost use Rattle.oci_rules.specs.Tables.{texts_of};
-ghost use Rattle.oci_policies.specs.declared.error.Fault.TheVariants.{Memory};
 ghost use Rattle.oci_policies.specs.Places as places;
-ghost use Rattle.oci_policies.specs.Steps.{step_view};
-ghost use Rattle.oci_policies.specs.Values.{Reads};
+ghost use Rattle.oci_policies.specs.Steps.{step_view, steps_view};
+ghost use Rattle.oci_policies.specs.Values.{Reads, all};
 ghost use Rattle.toml.specs.View.{view};
 
 use crate::error::{Fault, expected};
@@ -40,12 +39,7 @@ fn parts<'t>(key: &'static str, text: &'t str, alloc: Global) -> Result<Vec<&'t 
 fn has_tilde(part: &str) -> bool
     ensures { result ≡ places.has_tilde part.now }
 {
-    for byte in part.as_bytes() {
-        if *byte == b'~' {
-            return true;
-        }
-    }
-    false
+    part.as_bytes().contains(&b'~')
 }
 
 /// The name of a member, in the arena.
@@ -80,8 +74,15 @@ pub(crate) fn way<'a>(
     ensures { Reads (λ ts. texts_of ts.now) result (places.way_in (view value.now)) }
 {
     let parts = parts(key, text(key, value)?, alloc)?;
+    names(arena, key, &parts)
+}
+
+#[tactic(auto, using(crate::proofs::Lists::behind_nothing, crate::proofs::Lists::behind_more))]
+fn names<'a>(arena: &'a Bump, key: &'static str, parts: &Vec<&str>) -> Result<&'a [&'a str], Fault>
+    ensures { Reads (λ ts. texts_of ts.now) result (all places.name_of (texts_of parts.now.items)) }
+{
     let mut names = Vec::new(arena);
-    for part in &parts {
+    for part in parts {
         names.push(name(arena, key, part)?)?;
     }
     Ok(into_bump_slice(names))
@@ -94,11 +95,23 @@ pub(crate) fn steps_of<'a>(
     text: &str,
     alloc: Global,
 ) -> Result<Vec<Step<'a>>, Fault>
-    ensures { Reads (λ v. map step_view v.items) result (places.steps_of text.now) }
+    ensures { Reads (λ v. steps_view v.items) result (places.steps_of text.now) }
 {
     let parts = parts(key, text, alloc)?;
+    each_step(arena, key, &parts, alloc)
+}
+
+#[tactic(auto, using(crate::proofs::Lists::behind_nothing, crate::proofs::Lists::behind_more))]
+fn each_step<'a>(
+    arena: &'a Bump,
+    key: &'static str,
+    parts: &Vec<&str>,
+    alloc: Global,
+) -> Result<Vec<Step<'a>>, Fault>
+    ensures { Reads (λ v. steps_view v.items) result (all places.step_of (texts_of parts.now.items)) }
+{
     let mut steps = Vec::new(alloc);
-    for part in &parts {
+    for part in parts {
         steps.push(step(arena, key, part)?)?;
     }
     Ok(steps)
@@ -111,7 +124,7 @@ pub(crate) fn steps<'a>(
     value: &Value,
     alloc: Global,
 ) -> Result<Vec<Step<'a>>, Fault>
-    ensures { Reads (λ v. map step_view v.items) result (places.steps_in (view value.now)) }
+    ensures { Reads (λ v. steps_view v.items) result (places.steps_in (view value.now)) }
 {
     steps_of(arena, key, text(key, value)?, alloc)
 }

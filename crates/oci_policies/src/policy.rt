@@ -1,12 +1,10 @@
 //! Policies from TOML files.
-ghost use Rattle.std.specs.Prelude.{◌≡◌, ◌↔◌, List, ℕ, map, IfOk, IfErr, MatchResult, Some, None};
-ghost use Rattle.oci_policies.specs.declared.error.Fault.TheVariants as fault;
+ghost use Rattle.std.specs.Prelude.{◌≡◌, ◌↔◌, List, map, IfOk, IfErr, MatchResult, Some, None};
+ghost use Rattle.oci_policies.specs.declared.error.Fault.TheVariants as reading;
 ghost use Rattle.oci_policies.specs.declared.error.PolicyError.TheVariants.{Memory};
 ghost use Rattle.oci_policies.specs.Policies.{IsPolicy, Worded, policy_in, rules_in};
 ghost use Rattle.oci_policies.specs.Steps.{worded};
-ghost use Rattle.oci_policies.specs.Values.{under};
-ghost use Rattle.toml.specs.Data.{as_array};
-ghost use Rattle.toml.specs.Parse.{parse_document};
+ghost use Rattle.toml.specs.Errors.{IsMemory};
 ghost use Rattle.toml.specs.View.{items_view, table_view};
 ghost use Rattle.oci_rules.specs.Tables.{texts_of};
 ghost use Rattle.oci_policies.specs.Policies as policies;
@@ -75,7 +73,7 @@ fn read<'a>(
 
 /// The array of the rules' tables.
 fn tables<'t>(table: &'t Table, alloc: Global) -> Result<&'t Vec<Value>, Fault>
-    ensures { MatchResult result (λ v. policy_in (table_view table.now) ≡ rules_in (items_view v.now.items)) (λ e. ¬ (e ≡ fault.Memory) → policy_in (table_view table.now) ≡ None) }
+    ensures { MatchResult result (λ v. policy_in (table_view table.now) ≡ rules_in (items_view v.now.items)) (λ e. ¬ (e ≡ reading.Memory) → policy_in (table_view table.now) ≡ None) }
 {
     only(document_names(), table, alloc)?;
     match under(table, "rule")?.as_array() {
@@ -85,6 +83,7 @@ fn tables<'t>(table: &'t Table, alloc: Global) -> Result<&'t Vec<Value>, Fault>
 }
 
 /// The rules of the tables.
+#[tactic(auto, using(crate::proofs::Lists::behind_nothing, crate::proofs::Lists::behind_together))]
 fn rules<'a>(
     text: &str,
     items: &Vec<Value>,
@@ -105,7 +104,7 @@ fn rules<'a>(
 
 /// The error for a fault in the table at this index.
 fn located(fault: Fault, text: &str, index: usize) -> PolicyError
-    ensures { (result ≡ Memory) ↔ (fault ≡ fault.Memory) }
+    ensures { (result ≡ Memory) ↔ (fault ≡ reading.Memory) }
 {
     match fault {
         Fault::Memory => PolicyError::Memory,

@@ -1,13 +1,13 @@
 //! The rules of a policy, table by table.
-ghost use Rattle.std.specs.Prelude.{◌≡◌, ◌++◌, [], map, option_map, MatchResult, OnOk, IfErr, Some, None};
+ghost use Rattle.std.specs.Prelude.{◌≡◌, ◌++◌, [], map, codes, MatchResult, IfOk, OnOk, IfErr, Some, None};
 ghost use Rattle.oci_rules.specs.Tables.{texts_of, level_of, platform_of, test_of};
 ghost use Rattle.oci_policies.specs.declared.error.Fault.TheVariants.{Memory};
 ghost use Rattle.oci_policies.specs.Policies as policies;
 ghost use Rattle.oci_policies.specs.Policies.{rule_at};
 ghost use Rattle.oci_policies.specs.Places.{steps_in};
-ghost use Rattle.oci_policies.specs.Steps.{steps_view, head_view, worded};
-ghost use Rattle.oci_policies.specs.Values.{Reads, list_in, under_or, behind};
-ghost use Rattle.toml.specs.View.{view, table_view};
+ghost use Rattle.oci_policies.specs.Steps.{step_view, steps_view, head_view, worded};
+ghost use Rattle.oci_policies.specs.Values.{Reads, each, list_in, under_or, behind};
+ghost use Rattle.toml.specs.View.{view, items_view, table_view};
 
 use crate::conditions::condition;
 use crate::error::{Fault, expected};
@@ -84,9 +84,16 @@ fn platform(value: &Value) -> Result<Platform, Fault>
 fn listed_platforms<'a>(arena: &'a Bump, value: &Value) -> Result<&'a [Platform], Fault>
     ensures { Reads (λ ps. map platform_of ps.now) result (list_in policies.platform_in (view value.now)) }
 {
-    let Some(items) = value.as_array() else {
-        return Err(expected("platforms", "an array of strings"));
-    };
+    match value.as_array() {
+        Some(items) => each_platform(arena, items),
+        None => Err(expected("platforms", "an array of strings")),
+    }
+}
+
+#[tactic(auto, using(crate::proofs::Lists::behind_nothing, crate::proofs::Lists::behind_more))]
+fn each_platform<'a>(arena: &'a Bump, items: &Vec<Value>) -> Result<&'a [Platform], Fault>
+    ensures { Reads (λ ps. map platform_of ps.now) result (each policies.platform_in (items_view items.now.items)) }
+{
     let mut found = Vec::new(arena);
     for item in items {
         found.push(platform(item)?)?;
@@ -131,9 +138,20 @@ fn listed_places<'a>(
 ) -> Result<Vec<Vec<Step<'a>>>, Fault>
     ensures { Reads (λ v. map (λ s. steps_view s.items) v.items) result (list_in steps_in (view value.now)) }
 {
-    let Some(items) = value.as_array() else {
-        return Err(expected("at", "a place or an array of places"));
-    };
+    match value.as_array() {
+        Some(items) => each_place(arena, items, alloc),
+        None => Err(expected("at", "a place or an array of places")),
+    }
+}
+
+#[tactic(auto, using(crate::proofs::Lists::behind_nothing, crate::proofs::Lists::behind_more))]
+fn each_place<'a>(
+    arena: &'a Bump,
+    items: &Vec<Value>,
+    alloc: Global,
+) -> Result<Vec<Vec<Step<'a>>>, Fault>
+    ensures { Reads (λ v. map (λ s. steps_view s.items) v.items) result (each steps_in (items_view items.now.items)) }
+{
     let mut found = Vec::new(alloc);
     for item in items {
         found.push(steps(arena, "at", item, alloc)?)?;
@@ -158,12 +176,30 @@ fn places<'a>(arena: &'a Bump, value: &Value, alloc: Global) -> Result<Vec<Vec<S
 fn conditions<'a>(arena: &'a Bump, value: &Value, alloc: Global) -> Result<Vec<Step<'a>>, Fault>
     ensures { Reads (λ v. steps_view v.items) result (list_in policies.step_if (view value.now)) }
 {
-    let Some(items) = value.as_array() else {
-        return Err(expected("when", "an array of tables"));
-    };
+    match value.as_array() {
+        Some(items) => each_condition(arena, items, alloc),
+        None => Err(expected("when", "an array of tables")),
+    }
+}
+
+/// A condition, as a step.
+fn step_if<'a>(arena: &'a Bump, value: &Value, alloc: Global) -> Result<Step<'a>, Fault>
+    ensures { Reads step_view result (policies.step_if (view value.now)) }
+{
+    Ok(Step::When(condition(arena, value, alloc)?))
+}
+
+#[tactic(auto, using(crate::proofs::Lists::behind_nothing, crate::proofs::Lists::behind_more))]
+fn each_condition<'a>(
+    arena: &'a Bump,
+    items: &Vec<Value>,
+    alloc: Global,
+) -> Result<Vec<Step<'a>>, Fault>
+    ensures { Reads (λ v. steps_view v.items) result (each policies.step_if (items_view items.now.items)) }
+{
     let mut found = Vec::new(alloc);
     for item in items {
-        found.push(Step::When(condition(arena, item, alloc)?))?;
+        found.push(step_if(arena, item, alloc)?)?;
     }
     Ok(found)
 }
@@ -218,6 +254,22 @@ fn joined<'a>(
     Ok(into_bump_slice(steps))
 }
 
+/// A rule that looks at one place.
+#[tactic(auto, using(crate::proofs::Lists::place_is))]
+fn at_place<'a>(
+    arena: &'a Bump,
+    head: &Rule<'a>,
+    place: &Vec<Step<'a>>,
+    rest: &Vec<Step<'a>>,
+) -> Result<Rule<'a>, Fault>
+    ensures ok { IfOk result (λ r. worded r ≡ rule_at (head_view head.now) (steps_view place.now.items ++ steps_view rest.now.items)) }
+    ensures memory { IfErr result (λ e. e ≡ Memory) }
+{
+    let mut rule = *head;
+    rule.place = joined(arena, place, rest)?;
+    Ok(rule)
+}
+
 /// Adds a rule for each place.
 fn add_places<'a>(
     arena: &'a Bump,
@@ -230,9 +282,7 @@ fn add_places<'a>(
     ensures memory { IfErr result (λ e. e ≡ Memory) }
 {
     for place in places {
-        let mut rule = *head;
-        rule.place = joined(arena, place, rest)?;
-        found.push(rule)?;
+        found.push(at_place(arena, head, place, rest)?)?;
     }
     Ok(())
 }

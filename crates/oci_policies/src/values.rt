@@ -5,8 +5,8 @@ ghost use Rattle.oci_rules.specs.Tables.{texts_of};
 ghost use Rattle.oci_policies.specs.declared.error.Fault.TheVariants.{Memory};
 ghost use Rattle.oci_policies.specs.Values as values;
 ghost use Rattle.oci_policies.specs.Values.{Reads};
-ghost use Rattle.toml.specs.Data.{as_str, as_bool, get_member};
-ghost use Rattle.toml.specs.View.{view, table_view};
+ghost use Rattle.toml.specs.Data.{as_str, as_bool, as_integer, get_member};
+ghost use Rattle.toml.specs.View.{view, items_view, table_view};
 
 use crate::error::{Fault, Reason, expected};
 use bumpalo::Bump;
@@ -32,12 +32,27 @@ pub(crate) fn kept_text<'a>(arena: &'a Bump, key: &'static str, value: &Value) -
 }
 
 /// An array of strings.
-pub(crate) fn texts<'a>(arena: &'a Bump, key: &'static str, value: &Value) -> Result<&'a [&'a str], Fault>
+pub(crate) fn texts<'a>(
+    arena: &'a Bump,
+    key: &'static str,
+    value: &Value,
+) -> Result<&'a [&'a str], Fault>
     ensures { Reads (λ ts. texts_of ts.now) result (values.texts_in (view value.now)) }
 {
-    let Some(items) = value.as_array() else {
-        return Err(expected(key, "an array of strings"));
-    };
+    match value.as_array() {
+        Some(items) => each_text(arena, key, items),
+        None => Err(expected(key, "an array of strings")),
+    }
+}
+
+#[tactic(auto, using(crate::proofs::Lists::behind_nothing, crate::proofs::Lists::behind_more))]
+fn each_text<'a>(
+    arena: &'a Bump,
+    key: &'static str,
+    items: &Vec<Value>,
+) -> Result<&'a [&'a str], Fault>
+    ensures { Reads (λ ts. texts_of ts.now) result (values.each as_str (items_view items.now.items)) }
+{
     let mut found = Vec::new(arena);
     for item in items {
         found.push(kept_text(arena, key, item)?)?;
@@ -46,7 +61,11 @@ pub(crate) fn texts<'a>(arena: &'a Bump, key: &'static str, value: &Value) -> Re
 }
 
 /// An array of two strings.
-pub(crate) fn pair<'a>(arena: &'a Bump, key: &'static str, value: &Value) -> Result<(&'a str, &'a str), Fault>
+pub(crate) fn pair<'a>(
+    arena: &'a Bump,
+    key: &'static str,
+    value: &Value,
+) -> Result<(&'a str, &'a str), Fault>
     ensures { Reads (λ p. (p.0.now, p.1.now)) result (values.pair_in (view value.now)) }
 {
     match texts(arena, key, value)? {
@@ -92,18 +111,47 @@ pub(crate) fn natural(key: &'static str, value: &Value) -> Result<u64, Fault>
     }
 }
 
+/// An integer.
+fn integer(key: &'static str, value: &Value) -> Result<i128, Fault>
+    ensures { Reads (λ z. z) result (as_integer (view value.now)) }
+{
+    match value.as_integer() {
+        Some(integer) => Ok(integer as i128),
+        None => Err(expected(key, "integers")),
+    }
+}
+
+#[tactic(auto, using(crate::proofs::Lists::behind_nothing, crate::proofs::Lists::behind_more))]
+fn each_integer(key: &'static str, items: &Vec<Value>, alloc: Global) -> Result<Vec<i128>, Fault>
+    ensures { Reads (λ v. v.items) result (values.each as_integer (items_view items.now.items)) }
+{
+    let mut found = Vec::new(alloc);
+    for item in items {
+        found.push(integer(key, item)?)?;
+    }
+    Ok(found)
+}
+
+fn integers(key: &'static str, value: &Value, alloc: Global) -> Result<Vec<i128>, Fault>
+    ensures { Reads (λ v. v.items) result (values.list_in as_integer (view value.now)) }
+{
+    match value.as_array() {
+        Some(items) => each_integer(key, items, alloc),
+        None => Err(expected(key, "an array of two integers")),
+    }
+}
+
 /// An array of two integers.
-pub(crate) fn bounds(key: &'static str, value: &Value) -> Result<(i128, i128), Fault>
+pub(crate) fn bounds(
+    key: &'static str,
+    value: &Value,
+    alloc: Global,
+) -> Result<(i128, i128), Fault>
     ensures { Reads (λ b. b) result (values.bounds_in (view value.now)) }
 {
-    let Some(items) = value.as_array() else {
-        return Err(expected(key, "an array of two integers"));
-    };
-    match items.as_slice() {
-        [low, high] => match (low.as_integer(), high.as_integer()) {
-            (Some(low), Some(high)) => Ok((low as i128, high as i128)),
-            _ => Err(expected(key, "an array of two integers")),
-        },
+    let integers = integers(key, value, alloc)?;
+    match integers.as_slice() {
+        [low, high] => Ok((*low, *high)),
         _ => Err(expected(key, "an array of two integers")),
     }
 }
