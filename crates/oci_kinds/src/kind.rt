@@ -3,7 +3,7 @@ ghost use Rattle.std.specs.Prelude.{◌≡◌};
 ghost use Rattle.oci_json_model.specs.WellFormed.{WellFormed};
 ghost use Rattle.oci_schema_types.specs.Shapes.{schema_shape, shape_at};
 ghost use Rattle.oci_schemas.specs.Table.{shapes};
-ghost use Rattle.oci_doc_run.specs.Kinds.{kind_of, shape_of};
+ghost use Rattle.oci_kinds.specs.Kinds.{kind_of, shape_of};
 
 use oci_schema_types::Schema;
 use oci_schemas::distribution::{error_response, repository_list, tag_list};

@@ -3,9 +3,9 @@ use Rattle.std.proofs.Common.{◌≡◌, sym, subst}
 use Rattle.oci_json_model.specs.WellFormed.{WellFormed}
 use Rattle.oci_json_model.specs.Shape.{Shape}
 use Rattle.oci_shapes.proofs.Well.{well_image_manifest, well_image_index, well_image_configuration, well_artifact_manifest, well_oci_layout, well_descriptor, well_error_response, well_repository_list, well_tag_list, well_reference, well_spec, well_state, well_container_process_state, well_features}
-use Rattle.oci_doc_run.specs.Kinds.{shape_of}
-use Rattle.oci_doc_run.specs.declared.kind.Kind.{Kind}
-use Rattle.oci_doc_run.specs.declared.kind.Kind.TheVariants.{Manifest, Index, Config, Artifact, Layout, Descriptor, Error, Repositories, Tags, Reference, Spec, State, ProcessState, Features}
+use Rattle.oci_kinds.specs.Kinds.{shape_of}
+use Rattle.oci_kinds.specs.declared.kind.Kind.{Kind}
+use Rattle.oci_kinds.specs.declared.kind.Kind.TheVariants.{Manifest, Index, Config, Artifact, Layout, Descriptor, Error, Repositories, Tags, Reference, Spec, State, ProcessState, Features}
 
 kind_well : (k : Kind) → WellFormed (shape_of k)
 kind_well Manifest = well_image_manifest

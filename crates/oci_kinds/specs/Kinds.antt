@@ -15,8 +15,8 @@ use Rattle.oci_shapes.specs.Spec.{spec}
 use Rattle.oci_shapes.specs.State.{state}
 use Rattle.oci_shapes.specs.ContainerProcessState.{container_process_state}
 use Rattle.oci_shapes.specs.Features.{features}
-use Rattle.oci_doc_run.specs.declared.kind.Kind.{Kind}
-use Rattle.oci_doc_run.specs.declared.kind.Kind.TheVariants.{Manifest, Index, Config, Artifact, Layout, Descriptor, Error, Repositories, Tags, Reference, Spec, State, ProcessState, Features}
+use Rattle.oci_kinds.specs.declared.kind.Kind.{Kind}
+use Rattle.oci_kinds.specs.declared.kind.Kind.TheVariants.{Manifest, Index, Config, Artifact, Layout, Descriptor, Error, Repositories, Tags, Reference, Spec, State, ProcessState, Features}
 
 -- the kind that a word names
 abbrev pub kind_of : List ℕ → Option Kind
