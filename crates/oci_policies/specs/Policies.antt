@@ -80,14 +80,17 @@ abbrev pub Worded : Type 0
 Worded = Rule × List ℕ
 
 abbrev pub rule_at : Head → List Step → Worded
-rule_at h steps = (record {
-  name = h.name;
-  level = h.level;
-  section = h.section;
-  platforms = h.platforms;
-  place = along steps;
-  test = h.test;
-}, h.message)
+rule_at h steps = (
+  record {
+    name = h.name;
+    level = h.level;
+    section = h.section;
+    platforms = h.platforms;
+    place = along steps;
+    test = h.test;
+  },
+  h.message,
+)
 
 -- the rules of a table: one for each of its places
 abbrev pub rules_of : Members → Option (List Worded)

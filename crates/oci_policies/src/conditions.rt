@@ -9,13 +9,16 @@ ghost use Rattle.toml.specs.View.{view, table_view};
 
 use crate::error::{Fault, expected};
 use crate::places::way;
-use crate::values::{boolean, bounds, found, kept_text, sole_other, table_of, texts, under, unknown, yes};
+use crate::values::{
+    boolean, bounds, found, kept_text, sole_other, table_of, texts, under, unknown, yes,
+};
 use bumpalo::Bump;
 use oci_rules::{Check, Condition, Origin};
 use std::alloc::Global;
 use toml::{Table, Value};
 
 static CONDITION_NAMES: [&str; 3] = ["part", "document", "holds"];
+
 static ITEM_NAMES: [&str; 4] = ["name", "values", "with", "without"];
 
 fn condition_names() -> &'static [&'static str]
@@ -31,7 +34,11 @@ fn item_names() -> &'static [&'static str]
 }
 
 /// The strings under a name, or none.
-fn texts_or_none<'a>(arena: &'a Bump, key: &'static str, table: &Table) -> Result<&'a [&'a str], Fault>
+fn texts_or_none<'a>(
+    arena: &'a Bump,
+    key: &'static str,
+    table: &Table,
+) -> Result<&'a [&'a str], Fault>
     ensures { Reads (λ ts. texts_of ts.now) result (values.under_or [] values.texts_in key.now (table_view table.now)) }
 {
     match found(table, key) {
@@ -72,7 +79,11 @@ fn check<'a>(arena: &'a Bump, key: &str, value: &Value, alloc: Global) -> Result
 }
 
 /// From where a condition looks, and the way from there.
-fn origin<'a>(arena: &'a Bump, table: &Table, alloc: Global) -> Result<(Origin, &'a [&'a str]), Fault>
+fn origin<'a>(
+    arena: &'a Bump,
+    table: &Table,
+    alloc: Global,
+) -> Result<(Origin, &'a [&'a str]), Fault>
     ensures { Reads (λ o. (code_origin o.0, texts_of o.1.now)) result (conditions.origin_in (table_view table.now)) }
 {
     match (found(table, "part"), found(table, "document")) {
@@ -99,7 +110,11 @@ fn checked<'a>(arena: &'a Bump, table: &Table, alloc: Global) -> Result<Check<'a
 }
 
 /// A condition.
-pub(crate) fn condition<'a>(arena: &'a Bump, value: &Value, alloc: Global) -> Result<Condition<'a>, Fault>
+pub(crate) fn condition<'a>(
+    arena: &'a Bump,
+    value: &Value,
+    alloc: Global,
+) -> Result<Condition<'a>, Fault>
     ensures { Reads code_condition result (conditions.condition_in (view value.now)) }
 {
     let Some(table) = value.as_table() else {
@@ -108,5 +123,10 @@ pub(crate) fn condition<'a>(arena: &'a Bump, value: &Value, alloc: Global) -> Re
     let (origin, way) = origin(arena, table, alloc)?;
     let holds = holds(table)?;
     let check = checked(arena, table, alloc)?;
-    Ok(Condition { origin, way, holds, check })
+    Ok(Condition {
+        origin,
+        way,
+        holds,
+        check,
+    })
 }

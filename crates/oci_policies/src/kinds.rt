@@ -9,7 +9,9 @@ ghost use Rattle.toml.specs.View.{view, items_view, table_view};
 use crate::error::{Fault, expected};
 use crate::grammars::grammar;
 use crate::places::way;
-use crate::values::{boolean, bounds, kept_text, natural, pair, table_of, texts, under, unknown, yes};
+use crate::values::{
+    boolean, bounds, kept_text, natural, pair, table_of, texts, under, unknown, yes,
+};
 use bumpalo::Bump;
 use bumpalo::collections::into_bump_slice;
 use oci_rules::{Key, Test};
@@ -17,7 +19,9 @@ use std::alloc::Global;
 use toml::{Table, Value};
 
 static RESERVED_NAMES: [&str; 2] = ["prefix", "names"];
+
 static SUM_NAMES: [&str; 2] = ["members", "most"];
+
 static ITEM_NAMES: [&str; 2] = ["name", "value"];
 
 fn reserved_names() -> &'static [&'static str]

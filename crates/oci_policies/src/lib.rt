@@ -8,7 +8,6 @@ mod kinds;
 mod places;
 pub mod policy;
 mod rules;
-
 mod values;
 
 pub use bumpalo::Bump;

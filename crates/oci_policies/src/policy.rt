@@ -99,7 +99,9 @@ fn rules<'a>(
             return Err(located(fault, text, index));
         }
     }
-    Ok(Policy { rules: into_bump_slice(found) })
+    Ok(Policy {
+        rules: into_bump_slice(found),
+    })
 }
 
 /// The error for a fault in the table at this index.
@@ -108,7 +110,10 @@ fn located(fault: Fault, text: &str, index: usize) -> PolicyError
 {
     match fault {
         Fault::Memory => PolicyError::Memory,
-        Fault::Refused(reason) => PolicyError::Rule { line: line_of(text, index), reason },
+        Fault::Refused(reason) => PolicyError::Rule {
+            line: line_of(text, index),
+            reason,
+        },
     }
 }
 
@@ -138,7 +143,10 @@ fn unread(text: &str, error: toml::de::Error) -> PolicyError
         Some(span) => span.start,
         None => 0,
     };
-    PolicyError::Toml { line: line_at(text, start), error }
+    PolicyError::Toml {
+        line: line_at(text, start),
+        error,
+    }
 }
 
 /// The line in which the byte at this index stands.

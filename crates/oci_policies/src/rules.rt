@@ -128,7 +128,15 @@ fn head<'a>(arena: &'a Bump, table: &Table, alloc: Global) -> Result<Rule<'a>, F
     let wanted = kept_text(arena, "message", under(table, "message")?)?;
     let platforms = platforms(arena, table)?;
     let test = test_in(arena, table, alloc)?;
-    Ok(Rule { name, level, section, wanted, platforms, place: &[], test })
+    Ok(Rule {
+        name,
+        level,
+        section,
+        wanted,
+        platforms,
+        place: &[],
+        test,
+    })
 }
 
 fn listed_places<'a>(

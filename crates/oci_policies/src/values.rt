@@ -25,7 +25,11 @@ pub(crate) fn text<'t>(key: &'static str, value: &'t Value) -> Result<&'t str, F
 }
 
 /// A string that stays in the arena.
-pub(crate) fn kept_text<'a>(arena: &'a Bump, key: &'static str, value: &Value) -> Result<&'a str, Fault>
+pub(crate) fn kept_text<'a>(
+    arena: &'a Bump,
+    key: &'static str,
+    value: &Value,
+) -> Result<&'a str, Fault>
     ensures { Reads (λ t. t.now) result (as_str (view value.now)) }
 {
     Ok(arena.try_alloc_str(text(key, value)?)?)
@@ -142,11 +146,7 @@ fn integers(key: &'static str, value: &Value, alloc: Global) -> Result<Vec<i128>
 }
 
 /// An array of two integers.
-pub(crate) fn bounds(
-    key: &'static str,
-    value: &Value,
-    alloc: Global,
-) -> Result<(i128, i128), Fault>
+pub(crate) fn bounds(key: &'static str, value: &Value, alloc: Global) -> Result<(i128, i128), Fault>
     ensures { Reads (λ b. b) result (values.bounds_in (view value.now)) }
 {
     let integers = integers(key, value, alloc)?;

@@ -17,6 +17,7 @@ use std::process::ExitCode;
 use std::rt::Files;
 
 const POLICIES: [&str; 3] = ["restricted-container", "published-image", "each-test"];
+
 const FILES: [&str; 3] = ["refused", "unknown", "twice"];
 
 fn rows<R: Files + AllocGlobal>(rt: &R, name: &str) -> Result<String> {
