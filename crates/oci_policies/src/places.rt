@@ -1,5 +1,5 @@
 //! The places of a policy: JSON Pointers with steps to each item and member.
-ghost use Rattle.std.specs.Prelude.{◌≡◌, ◌==◌, IfOk};
+ghost use Rattle.std.specs.Prelude.{◌≡◌, ◌==◌, option_map, IfOk};
 ghost use Rattle.std.specs.List.{slice_split};
 ghost use Rattle.oci_rules.specs.Tables.{texts_of};
 ghost use Rattle.oci_policies.specs.Places as places;
@@ -23,6 +23,13 @@ fn between_slashes<'t>(text: &'t str, alloc: Global) -> Result<Vec<&'t str>, All
     Ok(parts)
 }
 
+/// What stands behind the slash with which the text begins.
+fn behind_slash(text: &str) -> Option<&str>
+    ensures { option_map (λ t. t.now) result ≡ places.behind_slash text.now }
+{
+    text.strip_prefix('/')
+}
+
 /// The parts of a pointer.
 fn parts<'t>(key: &'static str, text: &'t str, alloc: Global) -> Result<Vec<&'t str>, Fault>
     ensures { Reads (λ v. texts_of v.items) result (places.parts_of text.now) }
@@ -30,7 +37,7 @@ fn parts<'t>(key: &'static str, text: &'t str, alloc: Global) -> Result<Vec<&'t 
     if text.is_empty() {
         return Ok(Vec::new(alloc));
     }
-    match text.strip_prefix('/') {
+    match behind_slash(text) {
         Some(rest) => Ok(between_slashes(rest, alloc)?),
         None => Err(expected(key, "a place, as `/process/args/*`")),
     }
