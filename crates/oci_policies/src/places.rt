@@ -15,7 +15,7 @@ use oci_rules::Step;
 use std::alloc::{AllocError, Global};
 use toml::Value;
 
-/// What stands between slashes.
+/// The texts between slashes.
 fn between_slashes<'t>(text: &'t str, alloc: Global) -> Result<Vec<&'t str>, AllocError>
     ensures { IfOk result (λ v. texts_of v.items ≡ slice_split (λ b. b == 47) text.now) }
 {
@@ -23,7 +23,7 @@ fn between_slashes<'t>(text: &'t str, alloc: Global) -> Result<Vec<&'t str>, All
     Ok(parts)
 }
 
-/// What stands behind the slash with which the text begins.
+/// The text after the slash with which it begins.
 fn behind_slash(text: &str) -> Option<&str>
     ensures { option_map (λ t. t.now) result ≡ places.behind_slash text.now }
 {

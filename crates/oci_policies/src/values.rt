@@ -156,7 +156,7 @@ pub(crate) fn bounds(key: &'static str, value: &Value, alloc: Global) -> Result<
     }
 }
 
-/// What stands under a name that has to be there.
+/// The value under a name that has to be there.
 pub(crate) fn under<'t>(table: &'t Table, name: &'static str) -> Result<&'t Value, Fault>
     ensures { Reads (λ v. view v.now) result (get_member name.now (table_view table.now)) }
 {
@@ -166,7 +166,7 @@ pub(crate) fn under<'t>(table: &'t Table, name: &'static str) -> Result<&'t Valu
     }
 }
 
-/// What stands under a name, if anything does.
+/// The value under a name, if there is one.
 pub(crate) fn found<'t>(table: &'t Table, name: &str) -> Option<&'t Value>
     ensures { option_map (λ v. view v.now) result ≡ get_member name.now (table_view table.now) }
 {
