@@ -45,7 +45,7 @@ parts_of t = if length t == 0 then Some [] else option_map (slice_split (λ b. b
 abbrev pub name_of : List ℕ → Option (List ℕ)
 name_of t = if has_tilde t || (bytes_eq t (codes "*") || (bytes_eq t (codes "{}") || bytes_eq t (codes "{name}"))) then None else Some t
 
-abbrev pub step_of : List ℕ → Option Step
+unfoldable pub step_of : List ℕ → Option Step
 step_of t =
     if bytes_eq t (codes "*") then Some to_each_item
     else (if bytes_eq t (codes "{}") then Some to_each_member

@@ -60,6 +60,7 @@ fn name<'a>(arena: &'a Bump, key: &'static str, part: &str) -> Result<&'a str, F
     }
 }
 
+#[tactic(auto, unfolding(crate::specs::Places::step_of))]
 fn step<'a>(arena: &'a Bump, key: &'static str, part: &str) -> Result<Step<'a>, Fault>
     ensures { Reads step_view result (places.step_of part.now) }
 {
