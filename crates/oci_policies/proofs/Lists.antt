@@ -28,6 +28,7 @@ behind_together xs ys (Some rs) (Some ss) is =
 
 -- the place of steps is that of what they stand for
 step_is : (s : Step) (ss : List Step) → place_of ss ≡ along (steps_view ss) → place_of (s ∷ ss) ≡ along (steps_view (s ∷ ss))
+unfolding step_view
 step_is (step.Member name) ss is = rw is
 step_is step.EachItem ss is = rw is
 step_is step.EachMember ss is = rw is

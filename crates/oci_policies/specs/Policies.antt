@@ -79,7 +79,7 @@ head_of ms =
 abbrev pub Worded : Type 0
 Worded = Rule × List ℕ
 
-abbrev pub rule_placed : Head → Place → Worded
+unfoldable pub rule_placed : Head → Place → Worded
 rule_placed h place = (
   record {
     name = h.name;

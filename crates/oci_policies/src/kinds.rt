@@ -51,7 +51,7 @@ fn reserved<'a>(arena: &'a Bump, table: &Table) -> Result<Test<'a>, Fault>
     Ok(Test::Reserved(prefix, names))
 }
 
-#[tactic(auto, using(crate::proofs::Both::first_missing, crate::proofs::Both::second_missing, crate::proofs::Both::both_there, crate::proofs::Both::mapped_missing))]
+#[tactic(auto, using(crate::proofs::Both::first_missing, crate::proofs::Both::second_missing, crate::proofs::Both::both_there, crate::proofs::Both::mapped_missing), unfolding(crate::specs::Tests::sum_of))]
 fn sum<'a>(arena: &'a Bump, table: &Table) -> Result<Test<'a>, Fault>
     ensures { Reads test_of result (tests.sum_of (table_view table.now)) }
 {
@@ -105,6 +105,49 @@ fn key<'a>(arena: &'a Bump, value: &Value, alloc: Global) -> Result<Key<'a>, Fau
     }
 }
 
+/// A test of arrays, by its name.
+fn array_test<'a>(
+    arena: &'a Bump,
+    key_name: &str,
+    value: &Value,
+    alloc: Global,
+) -> Result<Test<'a>, Fault>
+    ensures { Reads test_of result (tests.array_test key_name.now (view value.now)) }
+{
+    match key_name {
+        "lists" => Ok(Test::Lists(texts(arena, "lists", value)?)),
+        "lists_item" => item(arena, table_of(item_names(), "lists_item", value, alloc)?),
+        "distinct" => Ok(Test::Distinct(key(arena, value, alloc)?)),
+        _ => Err(unknown(key_name, alloc)),
+    }
+}
+
+/// A test of objects or of arrays, by its name.
+fn object_test<'a>(
+    arena: &'a Bump,
+    key_name: &str,
+    value: &Value,
+    alloc: Global,
+) -> Result<Test<'a>, Fault>
+    ensures { Reads test_of result (tests.object_test key_name.now (view value.now)) }
+{
+    match key_name {
+        "there" => Ok(Test::There(kept_text(arena, "there", value)?)),
+        "absent" => Ok(Test::Absent(kept_text(arena, "absent", value)?)),
+        "either" => Ok(Test::Either(texts(arena, "either", value)?)),
+        "at_most" => {
+            let (first, second) = pair(arena, "at_most", value)?;
+            Ok(Test::AtMost(first, second))
+        }
+        "sum_at_most" => sum(arena, table_of(sum_names(), "sum_at_most", value, alloc)?),
+        "among" => {
+            let (first, second) = pair(arena, "among", value)?;
+            Ok(Test::Among(first, second))
+        }
+        _ => array_test(arena, key_name, value, alloc),
+    }
+}
+
 /// A test, by its name.
 pub(crate) fn test<'a>(
     arena: &'a Bump,
@@ -125,26 +168,11 @@ pub(crate) fn test<'a>(
             Ok(Test::Within(low, high))
         }
         "boolean" => Ok(Test::Boolean(boolean("boolean", value)?)),
-        "there" => Ok(Test::There(kept_text(arena, "there", value)?)),
-        "absent" => Ok(Test::Absent(kept_text(arena, "absent", value)?)),
-        "either" => Ok(Test::Either(texts(arena, "either", value)?)),
         "not_empty" => {
             yes("not_empty", value)?;
             Ok(Test::NotEmpty)
         }
         "length_at_most" => Ok(Test::LengthAtMost(natural("length_at_most", value)? as usize)),
-        "at_most" => {
-            let (first, second) = pair(arena, "at_most", value)?;
-            Ok(Test::AtMost(first, second))
-        }
-        "sum_at_most" => sum(arena, table_of(sum_names(), "sum_at_most", value, alloc)?),
-        "lists" => Ok(Test::Lists(texts(arena, "lists", value)?)),
-        "lists_item" => item(arena, table_of(item_names(), "lists_item", value, alloc)?),
-        "distinct" => Ok(Test::Distinct(key(arena, value, alloc)?)),
-        "among" => {
-            let (first, second) = pair(arena, "among", value)?;
-            Ok(Test::Among(first, second))
-        }
-        _ => Err(unknown(key_name, alloc)),
+        _ => object_test(arena, key_name, value, alloc),
     }
 }

@@ -60,7 +60,7 @@ fn name<'a>(arena: &'a Bump, key: &'static str, part: &str) -> Result<&'a str, F
     }
 }
 
-#[tactic(auto, unfolding(crate::specs::Places::step_of))]
+#[tactic(auto, unfolding(crate::specs::Places::step_of, crate::specs::Steps::step_view))]
 fn step<'a>(arena: &'a Bump, key: &'static str, part: &str) -> Result<Step<'a>, Fault>
     ensures { Reads step_view result (places.step_of part.now) }
 {

@@ -192,6 +192,7 @@ fn conditions<'a>(arena: &'a Bump, value: &Value, alloc: Global) -> Result<Vec<S
 }
 
 /// A condition, as a step.
+#[tactic(auto, unfolding(crate::specs::Steps::step_view))]
 fn step_if<'a>(arena: &'a Bump, value: &Value, alloc: Global) -> Result<Step<'a>, Fault>
     ensures { Reads step_view result (policies.step_if (view value.now)) }
 {
@@ -265,12 +266,19 @@ fn joined<'a>(
 }
 
 /// The rule with this place.
+#[tactic(auto, unfolding(crate::specs::Policies::rule_placed))]
 fn placed<'a>(head: &Rule<'a>, place: &'a [Step<'a>]) -> Rule<'a>
     ensures { worded result ≡ rule_placed (head_view head.now) (place_of place.now) }
 {
-    let mut rule = *head;
-    rule.place = place;
-    rule
+    Rule {
+        name: head.name,
+        level: head.level,
+        section: head.section,
+        wanted: head.wanted,
+        platforms: head.platforms,
+        place,
+        test: head.test,
+    }
 }
 
 /// The rule that looks at a place and at what comes behind it.
