@@ -39,7 +39,7 @@ abbrev pub key_in : Data → Option rules.Key
 key_in d = key_of (as_str d) d
 
 -- a test of arrays, by its name
-abbrev pub array_test : List ℕ → Data → Option rules.Test
+unfoldable pub array_test : List ℕ → Data → Option rules.Test
 array_test k d =
     if bytes_eq k (codes "lists") then option_map rules.lists (texts_in d)
     else (if bytes_eq k (codes "lists_item") then option_and_then item_of (table_of item_names d)
@@ -47,7 +47,7 @@ array_test k d =
     else None))
 
 -- a test of objects or of arrays
-abbrev pub object_test : List ℕ → Data → Option rules.Test
+unfoldable pub object_test : List ℕ → Data → Option rules.Test
 object_test k d =
     if bytes_eq k (codes "there") then option_map rules.there (as_str d)
     else (if bytes_eq k (codes "absent") then option_map rules.absent (as_str d)

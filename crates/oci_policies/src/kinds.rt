@@ -106,6 +106,7 @@ fn key<'a>(arena: &'a Bump, value: &Value, alloc: Global) -> Result<Key<'a>, Fau
 }
 
 /// A test of arrays, by its name.
+#[tactic(auto, unfolding(crate::specs::Tests::array_test))]
 fn array_test<'a>(
     arena: &'a Bump,
     key_name: &str,
@@ -123,6 +124,7 @@ fn array_test<'a>(
 }
 
 /// A test of objects or of arrays, by its name.
+#[tactic(auto, unfolding(crate::specs::Tests::object_test))]
 fn object_test<'a>(
     arena: &'a Bump,
     key_name: &str,
