@@ -19,8 +19,8 @@ def kinds_specs(model):
             imports.setdefault((model.crate[it.file], pascal(it.file)), []).append(f"{it.word}_rules")
     out = "-- The rules of each kind of documents: those of its books.\n"
     out += "use Rattle.std.specs.Prelude.{List, [], ◌++◌}\n"
-    out += "use Rattle.oci_doc_run.specs.declared.kind.Kind.{Kind}\n"
-    out += f"use Rattle.oci_doc_run.specs.declared.kind.Kind.TheVariants.{{{', '.join(variant(it) for it in model.kinds)}}}\n"
+    out += "use Rattle.oci_kinds.specs.declared.kind.Kind.{Kind}\n"
+    out += f"use Rattle.oci_kinds.specs.declared.kind.Kind.TheVariants.{{{', '.join(variant(it) for it in model.kinds)}}}\n"
     out += "use Rattle.oci_rules.specs.Rules.{Rule}\n"
     for (crate, file), words in sorted(imports.items()):
         out += f"use Rattle.{crate}.specs.{file}.{{{', '.join(dict.fromkeys(words))}}}\n"
@@ -40,8 +40,8 @@ def kinds_source(model):
     out = "//! The books of rules of each kind of documents.\n#![tactic(auto)]\n"
     out += "ghost use Rattle.std.specs.Prelude.{◌≡◌, map, IfOk};\nghost use Rattle.std.specs.List.{flat_map};\n"
     out += "ghost use Rattle.oci_rules.specs.Tables.{rule_of};\n"
-    out += f"ghost use Rattle.{CRATE}.specs.Kinds as kinds;\nghost use Rattle.oci_doc_run.specs.declared.kind.Kind.TheVariants as kind;\n\n"
-    out += "use oci_doc_run::Kind;\nuse oci_rules::Rule;\n"
+    out += f"ghost use Rattle.{CRATE}.specs.Kinds as kinds;\nghost use Rattle.oci_kinds.specs.declared.kind.Kind.TheVariants as kind;\n\n"
+    out += "use oci_kinds::Kind;\nuse oci_rules::Rule;\n"
     for crate, words in sorted(used.items()):
         out += f"use {crate}::{{{', '.join(sorted(set(words)))}}};\n"
     out += "use std::alloc::{AllocError, Global};\n"
@@ -68,9 +68,9 @@ def places(model):
     """That each place of each kind's rules stands in the shape of its documents."""
     out = "-- Each place of the rules of a kind stands in the shape of its documents.\n"
     out += "use Rattle.std.specs.Prelude.{◌≡◌, true, refl}\n"
-    out += "use Rattle.oci_doc_run.specs.declared.kind.Kind.{Kind}\n"
-    out += f"use Rattle.oci_doc_run.specs.declared.kind.Kind.TheVariants.{{{', '.join(variant(it) for it in model.kinds)}}}\n"
-    out += f"use Rattle.oci_doc_run.specs.Kinds.{{shape_of}}\nuse Rattle.{CRATE}.specs.Kinds.{{rules_of}}\nuse Rattle.{CRATE}.specs.Stands.{{stands_in}}\n"
+    out += "use Rattle.oci_kinds.specs.declared.kind.Kind.{Kind}\n"
+    out += f"use Rattle.oci_kinds.specs.declared.kind.Kind.TheVariants.{{{', '.join(variant(it) for it in model.kinds)}}}\n"
+    out += f"use Rattle.oci_kinds.specs.Kinds.{{shape_of}}\nuse Rattle.{CRATE}.specs.Kinds.{{rules_of}}\nuse Rattle.{CRATE}.specs.Stands.{{stands_in}}\n"
     out += "\npub each_stands : (kind : Kind) → stands_in (shape_of kind) (rules_of kind) ≡ true\n"
     return out + "".join(f"each_stands {variant(kind)} = refl\n" for kind in model.kinds)
 
@@ -88,7 +88,7 @@ def answers(model, kind):
     out = "use Rattle.std.proofs.Common.{[], ◌∷◌}\n"
     out += f"use Rattle.{CRATE}.specs.Kinds as kinds\nuse Rattle.{CRATE}.proofs.Chains.{{all_joined, collects}}\n"
     out += "".join(f"use Rattle.{crate}.specs.{file}.{{{', '.join(words)}}}\n" for (crate, file), words in sorted(imports.items()))
-    out += "use Rattle.oci_doc_run.specs.declared.kind.Kind.TheVariants as kind\n"
+    out += "use Rattle.oci_kinds.specs.declared.kind.Kind.TheVariants as kind\n"
     out += f"use Rattle.{CRATE}.proofs.{snake_of(kind)}_books.Goals as goal\n\npub returns : goal.returns\nreturns c =\n"
     out += f"    collects c.collected.result (λ v. v.items)\n    ({listed})\n    (kinds.rules_of kind.{variant(kind)}) c.collected.ensures\n"
     return out + f"    (all_joined\n    ({listed})\n    ({rules})\n    {equal})\n"

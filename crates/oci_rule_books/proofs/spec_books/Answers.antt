@@ -6,7 +6,7 @@ use Rattle.oci_rules_runtime.specs.Linux.{linux_rules, linux_2_rules, linux_3_ru
 use Rattle.oci_rules_runtime.specs.Platforms.{platforms_rules, platforms_2_rules}
 use Rattle.oci_rules_runtime.specs.Process.{process_rules, process_2_rules, process_3_rules, process_capabilities_rules, process_capabilities_2_rules}
 use Rattle.oci_rules_runtime.specs.Spec.{spec_rules, spec_2_rules, spec_3_rules, spec_4_rules, spec_mounts_rules, spec_mounts_2_rules, spec_mounts_3_rules, spec_hooks_rules, spec_hooks_2_rules, spec_hooks_3_rules}
-use Rattle.oci_doc_run.specs.declared.kind.Kind.TheVariants as kind
+use Rattle.oci_kinds.specs.declared.kind.Kind.TheVariants as kind
 use Rattle.oci_rule_books.proofs.spec_books.Goals as goal
 
 pub returns : goal.returns
