@@ -6,9 +6,9 @@ ghost use Rattle.std.specs.Prelude.{◌≡◌, map, IfOk};
 ghost use Rattle.std.specs.List.{flat_map};
 ghost use Rattle.oci_rules.specs.Tables.{rule_of};
 ghost use Rattle.oci_rule_books.specs.Kinds as kinds;
-ghost use Rattle.oci_doc_run.specs.declared.kind.Kind.TheVariants as kind;
+ghost use Rattle.oci_kinds.specs.declared.kind.Kind.TheVariants as kind;
 
-use oci_doc_run::Kind;
+use oci_kinds::Kind;
 use oci_rules::Rule;
 use oci_rules_image::{
     artifact_annotations_rules, artifact_blobs_annotations_rules, artifact_blobs_rules,
