@@ -48,7 +48,7 @@ def kinds_source(model):
     for crate, words in sorted(used.items()):
         out += f"use {crate}::{{{', '.join(sorted(set(words)))}}};\n"
     out += "use std::alloc::{AllocError, Global};\n"
-    out += "\n/// Returns the books of a kind of documents, in their order. Fails if out of memory.\n"
+    out += "\n/// Returns the rules of a kind of documents, in the order of its books, a few in each slice. Fails if out of memory.\n"
     out += f"pub fn rules_of(kind: Kind, alloc: Global) -> {BOOKS}\n"
     out += f"    ensures {{ IfOk result (λ v. {RULES} v.items ≡ kinds.rules_of kind) }}\n{{\n    match kind {{\n"
     for kind in model.kinds:

@@ -29,7 +29,7 @@ use oci_rules_runtime::{
 };
 use std::alloc::{AllocError, Global};
 
-/// Returns the books of a kind of documents, in their order. Fails if out of memory.
+/// Returns the rules of a kind of documents, in the order of its books, a few in each slice. Fails if out of memory.
 pub fn rules_of(kind: Kind, alloc: Global) -> Result<Vec<&'static [Rule<'static>]>, AllocError>
     ensures { IfOk result (λ v. flat_map (λ b. map rule_of b.now) v.items ≡ kinds.rules_of kind) }
 {
