@@ -37,7 +37,7 @@ pub enum Grammar {
     CpuList,
     /// A date and time (RFC 3339, section 5.6).
     DateTime,
-    /// A whole number, a fraction as `.75`, or both, as `1.25`.
+    /// An integer, a fraction as `.75`, or both, as `1.25`.
     DecimalNumber,
     /// Some of `r`, `w` and `m`, each once at most.
     DeviceAccess,
