@@ -251,8 +251,9 @@ impl OciMember for {name} {{
 
 def default(n):
     w, name = n.word, n.name
+    equals = "" if "◌≡◌" in head(n) else imported("std.specs.Prelude", ["◌≡◌"], True)
     return f"""impl Default for {name} {{
-    ghost use Rattle.{n.crate}.specs.{name}.{{{w}_default}};
+{equals}    ghost use Rattle.{n.crate}.specs.{name}.{{{w}_default}};
 
     ghost is_default = {{ λ x. x ≡ {w}_default }};
 

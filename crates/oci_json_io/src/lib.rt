@@ -10,5 +10,7 @@ pub mod writing;
 pub use display::display_pretty;
 pub use file::{from_file, to_file, to_file_pretty};
 pub use normal::normalize;
-pub use reading::{from_reader, from_slice, value_from_reader};
+pub use reading::{
+    bytes_from_reader, from_reader, from_slice, value_from_reader, value_from_slice,
+};
 pub use writing::{to_string, to_string_pretty, to_writer, to_writer_pretty, write_text};

@@ -18,12 +18,13 @@ pub fn from_slice<T: OciRecord>(alloc: Global, bytes: &[u8]) -> Result<T>
     ensures schema { IfErr result (λ e. IsSchema e → IsNoDocument T.shape bytes.now) }
     ensures kind { IfErr result IsMemoryOrSerDe }
 {
-    let value = value_of(alloc, bytes)?;
+    let value = value_from_slice(alloc, bytes)?;
     T::from_value_owned(alloc, value)
 }
 
-/// Parses bytes as JSON. Fails with `SerDe(Json)` if they are not.
-fn value_of(alloc: Global, bytes: &[u8]) -> Result<Value>
+/// Parses bytes as JSON. Fails with `SerDe(Json)` if they are not JSON (not UTF-8 or nested deeper than 127 levels, too), and with
+/// `Memory` if out of memory.
+pub fn value_from_slice(alloc: Global, bytes: &[u8]) -> Result<Value>
     ensures ok { IfOk result (λ v. ReadsAs bytes.now (view v)) }
     ensures json { IfErr result (λ e. IsJson e → IsNoJson bytes.now) }
     ensures no_schema { IfErr result (λ e. ¬ IsSchema e) }
@@ -43,7 +44,7 @@ fn value_of(alloc: Global, bytes: &[u8]) -> Result<Value>
 
 /// Reads to the end. Fails with the reader's first error, an interrupted read included, and with `Memory` if out of memory, as for
 /// a reader that never ends.
-fn read_all<R: Read>(alloc: Global, reader: &mut R) -> Result<Vec<u8>>
+pub fn bytes_from_reader<R: Read>(alloc: Global, reader: &mut R) -> Result<Vec<u8>>
     ensures ok { IfOk result (λ bytes. IfSome (R.remaining reader.old) (λ all. bytes.items ≡ all)) }
     ensures kind { IfErr result IsMemoryOrIo }
 {
@@ -66,8 +67,8 @@ pub fn value_from_reader<R: Read + Drop>(alloc: Global, mut reader: R) -> Result
     ensures no_schema { IfErr result (λ e. ¬ IsSchema e) }
     ensures kind { IfErr result IsMemorySerDeOrIo }
 {
-    let bytes = read_all(alloc, &mut reader)?;
-    value_of(alloc, bytes.as_slice())
+    let bytes = bytes_from_reader(alloc, &mut reader)?;
+    value_from_slice(alloc, bytes.as_slice())
 }
 
 /// Reads to the end and deserializes a document. Fails as `from_slice`, and with `Io` if a read fails.

@@ -33,6 +33,7 @@ static ALL: [ContainerState; 4] = [
 static NAMES: [&str; 4] = ["creating", "created", "running", "stopped"];
 
 impl Default for ContainerState {
+    ghost use Rattle.std.specs.Prelude.{◌≡◌};
     ghost use Rattle.oci_runtime_names.specs.ContainerState.{container_state_default};
 
     ghost is_default = { λ x. x ≡ container_state_default };
