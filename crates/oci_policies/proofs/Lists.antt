@@ -1,13 +1,14 @@
 -- Lists that are read from the front.
-use Rattle.std.proofs.Common.{◌≡◌, List, ℕ, [], ◌∷◌, ◌++◌, map, Option, Some, None, refl, ap, sym, append_assoc, append-nil, absurd, ◌∙◌}
+use Rattle.std.proofs.Common.{◌≡◌, ◌≢◌, Bor, length, List, ℕ, [], ◌∷◌, ◌++◌, map, Option, Some, None, refl, ap, sym, append_assoc, append-nil, absurd, ◌∙◌}
+use Rattle.std.proofs.lemmas.List.{map-append}
 use Rattle.toml.specs.Data.{Data, Members, member}
 use Rattle.oci_rules.specs.declared.rule.Step.{Step}
 use Rattle.oci_rules.specs.declared.rule.Step.TheVariants as step
-use Rattle.oci_rules.specs.Tables.{place_of}
+use Rattle.oci_rules.specs.Tables.{place_of, texts_of}
 use Rattle.oci_policies.specs.Places.{along}
 use Rattle.oci_policies.specs.Policies.{Worded, together}
-use Rattle.oci_policies.specs.Steps.{steps_view}
-use Rattle.oci_policies.specs.Values.{before, behind}
+use Rattle.oci_policies.specs.Steps.{step_view, steps_view}
+use Rattle.oci_policies.specs.Values.{before, behind, two}
 
 pub behind_nothing : {A : Type 0} (os : Option (List A)) → behind [] os ≡ os
 behind_nothing None = refl
@@ -36,6 +37,22 @@ step_is (step.When c) ss is = rw is
 pub place_is : (ss : List Step) → place_of ss ≡ along (steps_view ss)
 place_is [] = refl
 place_is (s ∷ ss) = step_is s ss (place_is ss)
+
+pub place_joined : (p a b : List Step) → p ≡ a ++ b → place_of p ≡ along (steps_view a ++ steps_view b)
+place_joined p a b h = rw h (place_is (a ++ b) ∙ ap along (map-append step_view a b))
+
+-- nothing, unless there are two
+pub two_missing : {A : Type 0} (xs : List A) → length xs ≢ 2 → two xs ≡ None
+two_missing [] h = refl
+two_missing (x ∷ []) h = refl
+two_missing (x ∷ y ∷ []) h = absurd (h refl)
+two_missing (x ∷ y ∷ z ∷ zs) h = refl
+
+pub two_texts_missing : (ts : List (Bor (List ℕ))) → length ts ≢ 2 → two (texts_of ts) ≡ None
+two_texts_missing [] h = refl
+two_texts_missing (x ∷ []) h = refl
+two_texts_missing (x ∷ y ∷ []) h = absurd (h refl)
+two_texts_missing (x ∷ y ∷ z ∷ zs) h = refl
 
 -- a member in front, if there is one
 abbrev pub in_front : Option (List ℕ × Data) → Members → Members

@@ -58,7 +58,7 @@ fn grammars() -> &'static [(&'static str, Grammar)]
     &GRAMMARS
 }
 
-/// What stands beside the name.
+/// The grammar with the name.
 fn named(rows: &[(&str, Grammar)], name: &str) -> Option<Grammar>
     ensures { result ≡ defined.named (map (λ r. (r.0.now, r.1)) rows.now) name.now }
 {

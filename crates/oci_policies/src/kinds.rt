@@ -42,6 +42,7 @@ fn item_names() -> &'static [&'static str]
     &ITEM_NAMES
 }
 
+#[tactic(auto, using(crate::proofs::Both::first_missing, crate::proofs::Both::second_missing, crate::proofs::Both::both_there, crate::proofs::Both::mapped_missing))]
 fn reserved<'a>(arena: &'a Bump, table: &Table) -> Result<Test<'a>, Fault>
     ensures { Reads test_of result (tests.reserved_of (table_view table.now)) }
 {
@@ -50,6 +51,7 @@ fn reserved<'a>(arena: &'a Bump, table: &Table) -> Result<Test<'a>, Fault>
     Ok(Test::Reserved(prefix, names))
 }
 
+#[tactic(auto, using(crate::proofs::Both::first_missing, crate::proofs::Both::second_missing, crate::proofs::Both::both_there, crate::proofs::Both::mapped_missing))]
 fn sum<'a>(arena: &'a Bump, table: &Table) -> Result<Test<'a>, Fault>
     ensures { Reads test_of result (tests.sum_of (table_view table.now)) }
 {
@@ -58,6 +60,7 @@ fn sum<'a>(arena: &'a Bump, table: &Table) -> Result<Test<'a>, Fault>
     Ok(Test::SumAtMost(first, second, most))
 }
 
+#[tactic(auto, using(crate::proofs::Both::first_missing, crate::proofs::Both::second_missing, crate::proofs::Both::both_there, crate::proofs::Both::mapped_missing))]
 fn item<'a>(arena: &'a Bump, table: &Table) -> Result<Test<'a>, Fault>
     ensures { Reads test_of result (tests.item_of (table_view table.now)) }
 {
