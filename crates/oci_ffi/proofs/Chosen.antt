@@ -1,5 +1,6 @@
 -- The rules of the levels up to one, book by book.
-use Rattle.std.proofs.Common.{◌≡◌, ℕ, List, [], ◌∷◌, ◌++◌, Bool, true, false, length, refl, ap, cases_Bool, inl, inr}
+use Rattle.std.proofs.Common.{◌≡◌, ℕ, List, [], ◌∷◌, ◌++◌, Bool, true, false, length, refl, ap, inl, inr}
+use Rattle.std.proofs.lemmas.Bool.{cases_Bool}
 use Rattle.std.specs.Prelude.{◌↔◌, if◌then◌else◌}
 use Rattle.oci_rules.specs.Rules.{Level, Rule}
 use Rattle.oci_ffi.specs.Rules.{is_up_to, rules_up_to}

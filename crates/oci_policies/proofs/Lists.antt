@@ -1,5 +1,5 @@
 -- Lists that are read from the front.
-use Rattle.std.proofs.Common.{◌≡◌, ◌≢◌, Bor, length, List, ℕ, [], ◌∷◌, ◌++◌, map, Option, Some, None, refl, ap, sym, append_assoc, append-nil, absurd, ◌∙◌}
+use Rattle.std.proofs.Common.{◌≡◌, ◌≢◌, Bor, length, List, ℕ, [], ◌∷◌, ◌++◌, map, Option, Some, None, refl, ap, sym, append_assoc, ◌∙◌}
 use Rattle.std.proofs.lemmas.List.{map-append}
 use Rattle.toml.specs.Data.{Data, Members, member}
 use Rattle.oci_rules.specs.declared.rule.Step.{Step}
@@ -16,7 +16,7 @@ behind_nothing (Some xs) = refl
 
 pub behind_more : {A : Type 0} (xs : List A) (x : A) (os : Option (List A)) → behind (xs ++ x ∷ []) os ≡ behind xs (before (Some x) os)
 behind_more xs x None = refl
-behind_more xs x (Some ys) = ap Some (append_assoc)
+behind_more xs x (Some ys) = ap Some (append_assoc xs (x ∷ []) ys)
 
 -- the rules of one more table
 pub behind_together : (xs ys : List Worded) (o os : Option (List Worded)) → behind xs o ≡ Some ys → behind xs (together o os) ≡ behind ys os
@@ -24,7 +24,7 @@ behind_together xs ys None os is = absurd (cc)
 behind_together xs ys (Some rs) None is = refl
 behind_together xs ys (Some rs) (Some ss) is =
     let same : xs ++ rs ≡ ys = cc in
-    ap Some (sym append_assoc ∙ ap (λ l. l ++ ss) same)
+    ap Some (sym (append_assoc xs rs ss) ∙ ap (λ l. l ++ ss) same)
 
 -- the place of steps is that of what they stand for
 step_is : (s : Step) (ss : List Step) → place_of ss ≡ along (steps_view ss) → place_of (s ∷ ss) ≡ along (steps_view (s ∷ ss))

@@ -1,5 +1,6 @@
 -- A text that begins with a slash.
-use Rattle.std.proofs.Common.{◌≡◌, ◌≢◌, ◌==◌, ℕ, List, [], ◌∷◌, Option, Some, None, Bor, refl, absurd, option_map, cases_Bool, eqb-true, inl, inr}
+use Rattle.std.proofs.Common.{◌≡◌, ◌≢◌, ◌==◌, ℕ, List, [], ◌∷◌, Option, Some, None, Bor, refl, option_map, eqb-true, inl, inr}
+use Rattle.std.proofs.lemmas.Bool.{cases_Bool}
 use Rattle.std.specs.Prelude.{MatchOption}
 use Rattle.oci_policies.specs.Places.{behind_slash}
 
