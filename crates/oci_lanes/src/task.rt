@@ -1,5 +1,5 @@
 //! One way, taken so often as is asked.
-use oci_doc_run::Kind;
+use oci_kinds::Kind;
 use oci_schema::normalize;
 use oci_schema_bytes::{Workspace, normalize_bytes};
 use oci_schemas::OciRecords;

@@ -1,5 +1,5 @@
 -- What bytes mean by a schema, of which it was found out what they are read as.
-use Rattle.std.proofs.Common.{◌≡◌, ℕ, List, [], true, true≢false, Option, Some, None, Result, Ok, Err, sym, ◌∙◌, subst}
+use Rattle.std.proofs.Common.{◌≡◌, ℕ, List, [], true, true≢false, Option, Some, None, Result, Ok, Err, sym, ap, ◌∙◌, subst}
 use Rattle.std.specs.Prelude.{◌↔◌, IsUtf8, is_some, IfSome, IfErr}
 use Rattle.json.specs.Token.{Token}
 use Rattle.serde_json.specs.Data.{Data}
@@ -16,6 +16,7 @@ use Rattle.oci_json_model.specs.Value.{value}
 use Rattle.oci_json_model.specs.WellFormed.{WellFormed}
 use Rattle.oci_json_model.specs.Writable.{Writable}
 use Rattle.oci_json_io.specs.Engines.{ReadsAs, MeansBytes}
+use Rattle.oci_json.proofs.OneMeaning.{one_meaning}
 use Rattle.oci_schema_walks.specs.Normalized.{accepts, normalized}
 use Rattle.oci_schema_walks.specs.Violations.{violations}
 use Rattle.oci_schema_walks.proofs.Empty.{none_is_meant}
@@ -32,6 +33,12 @@ pub accepted_document : (s : Shape) (bytes : List ℕ) (d : Data) → WellFormed
 accepted_document s bytes d well read h =
     let m = accepted s (sound s well) d h in
     (m.0, (d, read, m.1), m.2, (told s d m.0 m.1 m.2).1)
+
+-- whatever the same bytes mean is written as one text
+pub same_text : (s : Shape) (bytes : List ℕ) (p q : Plain) → MeansBytes s bytes p → MeansBytes s bytes q → compact_text (value s p) ≡ compact_text (value s q)
+same_text s bytes p q a b =
+    let same = one_value bytes a.0 b.0 a.1 b.1 in
+    ap (λ x. compact_text (value s x)) (one_meaning s a.0 p q a.2 (subst (λ d. Means s d q) (sym same) b.2))
 
 -- what the value means, the bytes mean
 pub valid_bytes : (s : Shape) (bytes : List ℕ) (d : Data) (P : Type 0) → ReadsAs bytes d → P ↔ ((p : Plain) × Means s d p) → P ↔ ((p : Plain) × MeansBytes s bytes p)

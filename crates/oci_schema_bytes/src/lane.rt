@@ -86,7 +86,7 @@ fn normal_text_of<T: Records>(
     }
 }
 
-/// The same of a tape, with room for so many bytes.
+/// The same of a tape, into a buffer of this capacity.
 fn write_tape<T: Records>(
     records: &T,
     schema: &Schema,

@@ -6,6 +6,7 @@ mod absent;
 mod calls;
 mod fields;
 mod lane;
+pub mod laws;
 mod scalar;
 mod walk;
 

@@ -1,4 +1,4 @@
-//! The walk over a tape by a schema, which writes the normal form of what stands there.
+//! The walk over a tape by a schema, which writes the normal form of what it finds.
 ghost use Rattle.std.specs.Prelude.{◌≡◌, ◌∷◌, ◌++◌, IsTrue};
 ghost use Rattle.json.specs.Token.{begin_object};
 ghost use Rattle.json.specs.Tree.{json_tokens, members_tokens};

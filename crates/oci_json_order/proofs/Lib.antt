@@ -1,4 +1,0 @@
-pub mod Ascending
-pub mod Holes
-pub mod Ordered
-pub mod Rows

@@ -1,3 +1,0 @@
-pub mod Listed
-pub mod Order
-pub mod Rows
