@@ -1,5 +1,5 @@
 -- Lists that are read from the front.
-use Rattle.std.proofs.Common.{◌≡◌, ◌≢◌, ◌<◌, ◌+◌, Bor, length, get_or, drop, suc, add-one, drop-cons, List, ℕ, [], ◌∷◌, ◌++◌, map, Option, Some, None, refl, ap, sym, append_assoc, ◌∙◌}
+use Rattle.std.proofs.Common.{◌≡◌, ◌≢◌, ◌<◌, ◌+◌, Bor, length, get_or, drop, suc, add-one, drop-cons, List, ℕ, [], ◌∷◌, ◌++◌, map, Option, Some, None, refl, ap, sym, subst, append_assoc, ◌∙◌}
 use Rattle.std.proofs.lemmas.List.{map-append}
 use Rattle.toml.specs.Data.{Data, Members, member}
 use Rattle.toml.specs.View.{view, items_view}
@@ -30,13 +30,14 @@ all_next f now v xs i d old new y whole within is reads sofar =
     let next = rw reads at more in
     rw (is, add-one, map-append v old (y ∷ [])) (behind_more (map v old) (v y) (all f (map now (drop (suc i) xs))) ∙ next)
 
-pub each_next : {B Y : Type 0} (f : Data → Option B) (v : Y → B) (xs : List Value) (i : ℕ) (d : Value) (old new : List Y) (y : Y) (whole : Option (List B))
-    → i < length xs → new ≡ old ++ y ∷ [] → f (view (get_or xs i d)) ≡ Some (v y)
+pub each_next : {B Y : Type 0} (f : Data → Option B) (v : Y → B) (xs : List Value) (i : ℕ) (x : Value) (old new : List Y) (y : Y) (whole : Option (List B))
+    → i < length xs → x ≡ get_or xs i x → new ≡ old ++ y ∷ [] → f (view x) ≡ Some (v y)
     → behind (map v old) (each f (items_view (drop i xs))) ≡ whole → behind (map v new) (each f (items_view (drop (i + 1) xs))) ≡ whole
-each_next f v xs i d old new y whole within is reads sofar =
-    let cut : drop i xs ≡ get_or xs i d ∷ drop (suc i) xs = drop-cons xs i d within in
+each_next f v xs i x old new y whole within it is reads sofar =
+    let cut : drop i xs ≡ get_or xs i x ∷ drop (suc i) xs = drop-cons xs i x within in
+    let here : f (view (get_or xs i x)) ≡ Some (v y) = subst (λ (z : Value). f (view z) ≡ Some (v y)) it reads in
     let more = rw cut at sofar in
-    let next = rw reads at more in
+    let next = rw here at more in
     rw (is, add-one, map-append v old (y ∷ [])) (behind_more (map v old) (v y) (each f (items_view (drop (suc i) xs))) ∙ next)
 
 -- the rules of one more table

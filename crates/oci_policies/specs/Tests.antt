@@ -57,16 +57,21 @@ object_test k d =
     else (if bytes_eq k (codes "among") then option_map (λ x. rules.among x.0 x.1) (pair_in d)
     else array_test k d)))))
 
+-- a test of numbers, booleans and lengths, or of objects or arrays
+unfoldable pub size_test : List ℕ → Data → Option rules.Test
+size_test k d =
+    if bytes_eq k (codes "within") then option_map (λ b. rules.within b.0 b.1) (bounds_in d)
+    else (if bytes_eq k (codes "boolean") then option_map rules.truth (as_bool d)
+    else (if bytes_eq k (codes "not_empty") then option_map (λ b. rules.not_empty) (yes_in d)
+    else (if bytes_eq k (codes "length_at_most") then option_map rules.length_at_most (natural_in d)
+    else object_test k d)))
+
 -- a test, by its name
-abbrev pub test_named : List ℕ → Data → Option rules.Test
+unfoldable pub test_named : List ℕ → Data → Option rules.Test
 test_named k d =
     if bytes_eq k (codes "format") then option_map rules.text (grammar_in d)
     else (if bytes_eq k (codes "one_of") then option_map rules.one_of (texts_in d)
     else (if bytes_eq k (codes "none_of") then option_map rules.none_of (texts_in d)
     else (if bytes_eq k (codes "begins") then option_map rules.begins (as_str d)
     else (if bytes_eq k (codes "reserved") then option_and_then reserved_of (table_of reserved_names d)
-    else (if bytes_eq k (codes "within") then option_map (λ b. rules.within b.0 b.1) (bounds_in d)
-    else (if bytes_eq k (codes "boolean") then option_map rules.truth (as_bool d)
-    else (if bytes_eq k (codes "not_empty") then option_map (λ b. rules.not_empty) (yes_in d)
-    else (if bytes_eq k (codes "length_at_most") then option_map rules.length_at_most (natural_in d)
-    else object_test k d))))))))
+    else size_test k d))))

@@ -150,7 +150,33 @@ fn object_test<'a>(
     }
 }
 
+/// A test of numbers, booleans and lengths, or of objects or arrays, by its name.
+#[tactic(auto, unfolding(crate::specs::Tests::size_test))]
+fn size_test<'a>(
+    arena: &'a Bump,
+    key_name: &str,
+    value: &Value,
+    alloc: Global,
+) -> Result<Test<'a>, Fault>
+    ensures { Reads test_of result (tests.size_test key_name.now (view value.now)) }
+{
+    match key_name {
+        "within" => {
+            let (low, high) = bounds("within", value, alloc)?;
+            Ok(Test::Within(low, high))
+        }
+        "boolean" => Ok(Test::Boolean(boolean("boolean", value)?)),
+        "not_empty" => {
+            yes("not_empty", value)?;
+            Ok(Test::NotEmpty)
+        }
+        "length_at_most" => Ok(Test::LengthAtMost(natural("length_at_most", value)? as usize)),
+        _ => object_test(arena, key_name, value, alloc),
+    }
+}
+
 /// A test, by its name.
+#[tactic(auto, unfolding(crate::specs::Tests::test_named))]
 pub(crate) fn test<'a>(
     arena: &'a Bump,
     key_name: &str,
@@ -165,16 +191,6 @@ pub(crate) fn test<'a>(
         "none_of" => Ok(Test::NoneOf(texts(arena, "none_of", value)?)),
         "begins" => Ok(Test::Begins(kept_text(arena, "begins", value)?)),
         "reserved" => reserved(arena, table_of(reserved_names(), "reserved", value, alloc)?),
-        "within" => {
-            let (low, high) = bounds("within", value, alloc)?;
-            Ok(Test::Within(low, high))
-        }
-        "boolean" => Ok(Test::Boolean(boolean("boolean", value)?)),
-        "not_empty" => {
-            yes("not_empty", value)?;
-            Ok(Test::NotEmpty)
-        }
-        "length_at_most" => Ok(Test::LengthAtMost(natural("length_at_most", value)? as usize)),
-        _ => object_test(arena, key_name, value, alloc),
+        _ => size_test(arena, key_name, value, alloc),
     }
 }
