@@ -97,9 +97,10 @@ class Table:
 
     def default_text(self, crate, name):
         """The text of an enum's default variant."""
-        variants = re.search(rf"pub enum {name} {{\n(.*?)\n}}", self.source_of(crate, name), re.S)[1]
-        lines = [it.strip() for it in variants.splitlines() if it.strip() and not it.strip().startswith("///")]
-        return self.texts(crate, name)[lines.index("#[default]")]
+        source = self.source_of(crate, name)
+        variants = re.findall(r"(?m)^    (\w+),$", re.search(rf"pub enum {name} {{\n(.*?)\n}}", source, re.S)[1])
+        default = re.search(rf"fn default\(\) -> {name} {{\n        {name}::(\w+)", source)[1]
+        return self.texts(crate, name)[variants.index(default)]
 
     # ---- what is written
 
