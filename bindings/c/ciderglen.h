@@ -51,6 +51,12 @@ enum ciderglen_status {
     CIDERGLEN_INVALID_UTF8 = 6,
     /* The text is not a digest. */
     CIDERGLEN_INVALID_DIGEST = 7,
+    /* The content has another size. */
+    CIDERGLEN_OTHER_SIZE = 8,
+    /* The content has another digest. */
+    CIDERGLEN_OTHER_DIGEST = 9,
+    /* The digest is by another algorithm than `sha256`, `sha384` and `sha512`. */
+    CIDERGLEN_UNKNOWN_ALGORITHM = 10,
     /* The text is not a reference: it is empty. */
     CIDERGLEN_NAME_EMPTY = 16,
     /* The text is not a reference: the repository has an uppercase letter. */
@@ -160,6 +166,13 @@ uint32_t ciderglen_resolve_registry(const uint8_t *text, size_t text_len, uint8_
  * not read. Returns CIDERGLEN_INVALID_JSON or CIDERGLEN_INVALID_DOCUMENT if there is no descriptor. */
 uint32_t ciderglen_pin(const uint8_t *text, size_t text_len, const uint8_t *json, size_t json_len, uint8_t *buffer,
                        size_t buffer_capacity, size_t *output_len);
+
+/* Compares a content with the digest and the size that a descriptor says of it (image specification, "Content Descriptors",
+ * "Verification"). Returns CIDERGLEN_DONE if it has both, CIDERGLEN_OTHER_SIZE or CIDERGLEN_OTHER_DIGEST if it has another, and
+ * CIDERGLEN_UNKNOWN_ALGORITHM if the digest is by none of sha256, sha384 and sha512. Returns CIDERGLEN_INVALID_DIGEST if the text is
+ * not a digest, or CIDERGLEN_INVALID_UTF8 if it is not UTF-8. Allocates nothing. */
+uint32_t ciderglen_verify(const uint8_t *digest, size_t digest_len, uint64_t size, const uint8_t *content,
+                          size_t content_len);
 
 #ifdef __cplusplus
 }

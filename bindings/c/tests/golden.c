@@ -165,6 +165,9 @@ static void others(void) {
     CHECK(ciderglen_digest_check(TEXT("foo:bar")) == CIDERGLEN_DONE);
     CHECK(ciderglen_digest_check(TEXT("sha256:abc")) == CIDERGLEN_INVALID_DIGEST);
     CHECK(ciderglen_digest_check(TEXT("\xff")) == CIDERGLEN_INVALID_UTF8);
+    CHECK(ciderglen_verify(TEXT("sha256:ba7816bf8f01cfea414140de5dae2223b00361a396177a9cb410ff61f20015ad"), 3, TEXT("abc")) == CIDERGLEN_DONE);
+    CHECK(ciderglen_verify(TEXT("sha256:ba7816bf8f01cfea414140de5dae2223b00361a396177a9cb410ff61f20015ad"), 3, TEXT("abd")) == CIDERGLEN_OTHER_DIGEST);
+    CHECK(ciderglen_verify(TEXT("sha256:abc"), 3, TEXT("abc")) == CIDERGLEN_INVALID_DIGEST);
     CHECK(ciderglen_pin(TEXT("busybox:1"), TEXT("{\"mediaType\":\"a/b\",\"size\":1,\"digest\":\"x:y\"}"), buffer, sizeof buffer, &output_len) == CIDERGLEN_DONE);
     CHECK(output_len == 29 && !memcmp(buffer, "docker.io/library/busybox@x:y", 29));
     CHECK(ciderglen_pin(TEXT("busybox:1"), TEXT("{}"), buffer, sizeof buffer, &output_len) == CIDERGLEN_INVALID_DOCUMENT);

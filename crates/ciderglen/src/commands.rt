@@ -42,8 +42,6 @@ static PLATFORMS: [&str; 6] = ["linux", "windows", "solaris", "vm", "zos", "free
 
 static UNKNOWN: [&str; 3] = ["deny", "warn", "allow"];
 
-static POLICIES: [&str; 2] = ["restricted-container", "published-image"];
-
 /// A command, or that memory ran out while it was made.
 type Made<'a> = Result<Command<'a>, AllocError>;
 
@@ -167,9 +165,8 @@ fn check<'a>(alloc: Global) -> Made<'a> {
 fn policy<'a>(alloc: Global) -> Arg<'a> {
     Arg::new(alloc, "policy")
         .long("policy")
-        .value_name("POLICY")
-        .value_parser(ValueParser::Names(&POLICIES))
-        .help("Check the rules of this policy too")
+        .value_name("FILE")
+        .help("Check the rules of the policy in this TOML file too")
 }
 
 fn level<'a>(alloc: Global) -> Arg<'a> {

@@ -3,9 +3,8 @@ use crate::commands::ciderglen;
 use clap::error::ErrorKind;
 use clap::{ArgMatches, Error};
 use oci_content::Algorithm;
-use oci_doc_run::Kind;
+use oci_kinds::Kind;
 use oci_layout::Options;
-use oci_policies::{published_image_rules, restricted_container_rules};
 use oci_report::kind_named;
 use oci_rules::{Level, Platform, Rule};
 use oci_tool::{Asked, Check, Compare, Format, Style, Tree, Unknown};
@@ -60,11 +59,19 @@ pub fn shown<'m>(matches: &'m ArgMatches<'m>) -> Option<&'m str> {
     }
 }
 
-/// The command that the matches ask for, if they name one.
-pub fn asked<'m>(matches: &'m ArgMatches<'m>) -> Option<Asked<'m>> {
+/// The file of the policy that `check` is asked to check, if the matches name one.
+pub fn policy_file<'m>(matches: &'m ArgMatches<'m>) -> Option<&'m str> {
+    match matches.subcommand()? {
+        ("check", given) => given.get_str("policy"),
+        _ => None,
+    }
+}
+
+/// The command that the matches ask for, with the rules of the policy, if they name one.
+pub fn asked<'m>(matches: &'m ArgMatches<'m>, policy: &'m [Rule<'m>]) -> Option<Asked<'m>> {
     let (name, given) = matches.subcommand()?;
     match name {
-        "check" => Some(Asked::Check(check_in(given))),
+        "check" => Some(Asked::Check(check_in(given, policy))),
         "fmt" => Some(Asked::Format(Format {
             kind: kind_in(given),
             pretty: given.get_flag("pretty"),
@@ -95,26 +102,17 @@ pub fn asked<'m>(matches: &'m ArgMatches<'m>) -> Option<Asked<'m>> {
     }
 }
 
-fn check_in<'m>(given: &'m ArgMatches<'m>) -> Check<'m> {
+fn check_in<'m>(given: &'m ArgMatches<'m>, policy: &'m [Rule<'m>]) -> Check<'m> {
     Check {
         kind: kind_in(given),
         rules: given.get_flag("rules"),
-        policy: policy_in(given),
+        policy,
         level: level_in(given),
         platform: platform_in(given),
         unknown: unknown_in(given),
         style: style_in(given),
         quiet: given.get_flag("quiet"),
         files: files_in(given),
-    }
-}
-
-/// The rules of the policy that is named; none if none is.
-fn policy_in(given: &ArgMatches<'_>) -> &'static [Rule<'static>] {
-    match given.get_str("policy") {
-        Some("restricted-container") => restricted_container_rules(),
-        Some("published-image") => published_image_rules(),
-        _ => &[],
     }
 }
 

@@ -8,8 +8,9 @@ mod watch;
 
 use clap::ArgMatches;
 use files::FileStore;
-use line::{asked, matches_of, shown, status_of, verified, words_of};
+use line::{asked, matches_of, policy_file, shown, status_of, verified, words_of};
 use oci_layout::{Folder, Options};
+use oci_policies::{Bump, Policy, PolicyError};
 use oci_tool::{Asked, Tree};
 use std::fs;
 use std::process::ExitCode;
@@ -48,9 +49,39 @@ fn perform(rt: &HostRuntime, matches: &ArgMatches<'_>) -> u8 {
             return show(rt, folder);
         }
     }
-    match asked(matches) {
+    match policy_file(matches) {
+        Some(file) => check_policy(rt, matches, file),
+        None => run_asked(rt, asked(matches, &[])),
+    }
+}
+
+fn run_asked(rt: &HostRuntime, asked: Option<Asked<'_>>) -> u8 {
+    match asked {
         Some(asked) => run(rt, &asked),
         None => 2,
+    }
+}
+
+/// Runs `check` with the policy in a file. Returns 2 if the file holds no policy, and 3 if it cannot be read.
+fn check_policy(rt: &HostRuntime, matches: &ArgMatches<'_>, file: &str) -> u8 {
+    let text = match fs::read_to_string(rt, file) {
+        Ok(text) => text,
+        Err(fault) => {
+            let _ = eprintln!(rt; "ciderglen: {file}: {fault}");
+            return 3;
+        }
+    };
+    let arena = Bump::new(rt.alloc());
+    match Policy::from_toml(text.as_str(), &arena, rt.alloc()) {
+        Ok(policy) => run_asked(rt, asked(matches, policy.rules())),
+        Err(PolicyError::Memory) => {
+            let _ = eprintln!(rt; "ciderglen: out of memory");
+            3
+        }
+        Err(error) => {
+            let _ = eprintln!(rt; "ciderglen: {file}: {error}");
+            2
+        }
     }
 }
 

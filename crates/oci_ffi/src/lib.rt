@@ -4,6 +4,7 @@
 #![tactic(auto)]
 
 mod buffer;
+pub mod content;
 pub mod digest;
 pub mod document;
 mod input;

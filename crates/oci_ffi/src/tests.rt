@@ -1,10 +1,14 @@
+use crate::content::ciderglen_verify;
 use crate::digest::ciderglen_digest_check;
 use crate::document::{ciderglen_normalize, ciderglen_pretty};
 use crate::interface::{INTERFACE, ciderglen_interface};
 use crate::kind::{LAYOUT, MANIFEST};
 use crate::pinning::ciderglen_pin;
 use crate::reference::{CiderglenReference, ciderglen_reference, ciderglen_resolve_registry};
-use crate::status::{BUFFER_TOO_SMALL, DONE, INVALID_DOCUMENT, UNKNOWN_KIND};
+use crate::status::{
+    BUFFER_TOO_SMALL, DONE, INVALID_DIGEST, INVALID_DOCUMENT, OTHER_DIGEST, OTHER_SIZE,
+    UNKNOWN_ALGORITHM, UNKNOWN_KIND,
+};
 use crate::violations::ciderglen_violations;
 
 #[test]
@@ -100,4 +104,18 @@ fn texts(rt: HostRuntime) {
         b"docker.io/library/busybox@x:y".as_slice()
     );
     assert_eq!(rt; ciderglen_digest_check(b"foo:bar"), DONE);
+}
+
+// the digest of FIPS 180-4's example `abc`
+#[test]
+fn contents(rt: HostRuntime) {
+    let digest = b"sha256:ba7816bf8f01cfea414140de5dae2223b00361a396177a9cb410ff61f20015ad";
+    assert_eq!(rt; ciderglen_verify(digest, 3, b"abc"), DONE);
+    assert_eq!(rt; ciderglen_verify(digest, 4, b"abc"), OTHER_SIZE);
+    assert_eq!(rt; ciderglen_verify(digest, 3, b"abd"), OTHER_DIGEST);
+    assert_eq!(rt;
+        ciderglen_verify(b"md5:900150983cd24fb0", 3, b"abc"),
+        UNKNOWN_ALGORITHM
+    );
+    assert_eq!(rt; ciderglen_verify(b"sha256:abc", 3, b"abc"), INVALID_DIGEST);
 }

@@ -1,8 +1,8 @@
 -- The names of the kinds of documents.
 use Rattle.std.specs.Prelude.{ℕ, List, codes, bytes_eq, Option, Some, if◌then◌else◌}
-use Rattle.oci_doc_run.specs.declared.kind.Kind.{Kind}
-use Rattle.oci_doc_run.specs.declared.kind.Kind.TheVariants.{Config, Spec}
-use Rattle.oci_doc_run.specs.Kinds.{kind_of}
+use Rattle.oci_kinds.specs.declared.kind.Kind.{Kind}
+use Rattle.oci_kinds.specs.declared.kind.Kind.TheVariants.{Config, Spec}
+use Rattle.oci_kinds.specs.Kinds.{kind_of}
 
 -- the kind of a name: a word of `ocidoc`, or another name of two of them
 abbrev pub kind_named : List ℕ → Option Kind

@@ -1,6 +1,6 @@
 //! Which kind of document a value is.
 use crate::kinds::{KINDS, title_of};
-use oci_doc_run::Kind;
+use oci_kinds::Kind;
 use oci_schema_types::{Member, Part, Records, Schema};
 use oci_schemas::OciRecords;
 use serde_json::Value;

@@ -2,7 +2,7 @@
 ghost use Rattle.std.specs.Prelude.{◌≡◌};
 ghost use Rattle.oci_report.specs.Kinds.{kind_named};
 
-use oci_doc_run::Kind;
+use oci_kinds::Kind;
 
 /// All kinds.
 pub static KINDS: [Kind; 14] = [

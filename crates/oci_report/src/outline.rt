@@ -1,7 +1,7 @@
 //! Indexes and manifests as trees.
 use crate::kinds::title_of;
 use crate::render::on_a_line;
-use oci_doc_run::Kind;
+use oci_kinds::Kind;
 use serde_json::Value;
 use std::alloc::{AllocError, Global};
 

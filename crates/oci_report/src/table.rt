@@ -1,7 +1,7 @@
 //! The members of a kind of documents.
 use crate::kinds::title_of;
 use crate::wording::push_scalar;
-use oci_doc_run::Kind;
+use oci_kinds::Kind;
 use oci_schema_types::{DefaultValue, Member, Part, Presence, Record, Records, Schema};
 use oci_schemas::OciRecords;
 use std::alloc::{AllocError, Global};

@@ -6,8 +6,8 @@ use Rattle.oci_json_model.specs.Plain.{Plain}
 use Rattle.oci_json_model.specs.Shape.{Shape}
 use Rattle.oci_json_model.specs.Means.{Means}
 use Rattle.oci_json_io.specs.Engines.{ReadsAs, MeansBytes, IsNoJson}
-use Rattle.oci_doc_run.specs.declared.kind.Kind.{Kind}
-use Rattle.oci_doc_run.specs.Kinds.{shape_of}
+use Rattle.oci_kinds.specs.declared.kind.Kind.{Kind}
+use Rattle.oci_kinds.specs.Kinds.{shape_of}
 use Rattle.oci_report.specs.declared.finding.Finding.{Finding}
 use Rattle.oci_tool.specs.Checks.{IsAllowed, IsAsked, IsRight, IsRightValue}
 use Rattle.oci_tool.specs.declared.asked.Check.{Check}

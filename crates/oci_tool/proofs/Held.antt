@@ -6,8 +6,8 @@ use Rattle.oci_json_model.specs.Shape.{Shape}
 use Rattle.oci_json_io.specs.Engines.{MeansBytes, WritesDocument}
 use Rattle.oci_schema.specs.Normalizes.{WritesPretty}
 use Rattle.oci_shapes.specs.Descriptor.{descriptor}
-use Rattle.oci_doc_run.specs.declared.kind.Kind.{Kind}
-use Rattle.oci_doc_run.specs.Kinds.{shape_of}
+use Rattle.oci_kinds.specs.declared.kind.Kind.{Kind}
+use Rattle.oci_kinds.specs.Kinds.{shape_of}
 use Rattle.oci_doc_run.specs.Outputs.{WritesPinned}
 use Rattle.oci_tool.specs.Checks.{Formats, IsAsked}
 

@@ -7,8 +7,8 @@ use Rattle.oci_json_model.specs.Plain.{Plain}
 use Rattle.oci_json_model.specs.Means.{Means}
 use Rattle.oci_json_io.specs.Engines.{IsNoJson, MeansBytes, ReadsAs, WritesDocument}
 use Rattle.oci_schema.specs.Normalizes.{WritesPretty}
-use Rattle.oci_doc_run.specs.declared.kind.Kind.{Kind}
-use Rattle.oci_doc_run.specs.Kinds.{shape_of}
+use Rattle.oci_kinds.specs.declared.kind.Kind.{Kind}
+use Rattle.oci_kinds.specs.Kinds.{shape_of}
 use Rattle.oci_rule_books.specs.Kinds.{rules_of}
 use Rattle.oci_lint.specs.Unknown.{Report, unknown}
 use Rattle.oci_rules.specs.Breaks.{Told}

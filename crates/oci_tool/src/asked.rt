@@ -1,6 +1,6 @@
 //! Commands as values.
 use oci_content::Algorithm;
-use oci_doc_run::Kind;
+use oci_kinds::Kind;
 use oci_rules::{Level, Platform, Rule};
 
 /// How findings and differences are written.

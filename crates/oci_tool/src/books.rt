@@ -1,5 +1,5 @@
 //! The books of rules, for people.
-use oci_doc_run::Kind;
+use oci_kinds::Kind;
 use oci_report::render::word_of;
 use oci_report::{KINDS, title_of};
 use oci_rule_books::rules_of;

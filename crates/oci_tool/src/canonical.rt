@@ -3,7 +3,7 @@ ghost use Rattle.std.specs.Prelude.{◌≡◌, true, false, Some, None, IfOk, If
 ghost use Rattle.std.specs.Io.KnownBytes.{Appends, Keeps};
 ghost use Rattle.oci_json_io.specs.Engines.{WritesDocument};
 ghost use Rattle.oci_schema.specs.Normalizes.{WritesPretty};
-ghost use Rattle.oci_doc_run.specs.Kinds.{shape_of};
+ghost use Rattle.oci_kinds.specs.Kinds.{shape_of};
 ghost use Rattle.oci_tool.specs.Checks.{IsAsked, Formats};
 ghost use Rattle.oci_tool.specs.Done.{IsStatus};
 
@@ -13,8 +13,8 @@ use crate::inspect::{inspect, kind_of};
 use crate::store::Store;
 use crate::texts::{complain, complain_of, report_findings};
 use oci_content::Algorithm;
-use oci_doc_run::Kind;
 use oci_json_io::write_text;
+use oci_kinds::Kind;
 use oci_report::render::on_a_line;
 use oci_schema::normal_value_from_reader;
 use oci_schema_walks::place::{under_index, under_name};

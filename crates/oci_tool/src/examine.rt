@@ -2,7 +2,7 @@
 ghost use Rattle.std.specs.Prelude.{◌≡◌, ◌↔◌, ◌++◌, [], Some, map, length, IfOk, OnOk};
 ghost use Rattle.std.specs.List.{filter, flat_map};
 ghost use Rattle.serde_json.specs.View.{view};
-ghost use Rattle.oci_doc_run.specs.Kinds.{shape_of};
+ghost use Rattle.oci_kinds.specs.Kinds.{shape_of};
 ghost use Rattle.oci_lint.specs.Unknown.{unknown as all_unknown};
 ghost use Rattle.oci_rules.specs.Tables.{level_of, platform_of, rule_of, told as broken_told};
 ghost use Rattle.oci_report.specs.Findings.{breach};
@@ -10,7 +10,7 @@ ghost use Rattle.oci_tool.specs.Checks.{IsRight, IsRightValue, IsWrong, asked_ru
 
 use crate::asked::{Check, Unknown};
 use crate::inspect::{Reading, faulty, read_value, schema_findings, shown_at, with_other_kind};
-use oci_doc_run::Kind;
+use oci_kinds::Kind;
 use oci_lint::{UnknownMember, suggestion, unknown_members};
 use oci_report::{Cause, Finding, Report};
 use oci_rule_books::rules_of;

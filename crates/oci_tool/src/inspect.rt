@@ -4,12 +4,12 @@ ghost use Rattle.serde_json.specs.View.{view};
 ghost use Rattle.oci_json_model.specs.Plain.{Plain};
 ghost use Rattle.oci_json_model.specs.Means.{Means};
 ghost use Rattle.oci_json_io.specs.Engines.{MeansBytes};
-ghost use Rattle.oci_doc_run.specs.Kinds.{shape_of};
+ghost use Rattle.oci_kinds.specs.Kinds.{shape_of};
 ghost use Rattle.oci_schema_walks.specs.Violations.{violations as all_violations};
 ghost use Rattle.oci_report.specs.Findings.{told, told_of, as_told};
 ghost use Rattle.oci_tool.specs.Checks.{IsAllowed, IsAsked, IsReading};
 
-use oci_doc_run::Kind;
+use oci_kinds::Kind;
 use oci_report::detect::{Detected, detect, explain_open};
 use oci_report::place::place_behind;
 use oci_report::{Cause, Finding, Report, name_of, title_of};

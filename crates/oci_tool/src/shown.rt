@@ -4,8 +4,8 @@ ghost use Rattle.oci_tool.specs.Done.{IsStatus};
 
 use crate::books::{all_rules, rules_of_kind, rules_of_name};
 use crate::texts::complain;
-use oci_doc_run::Kind;
 use oci_json_io::write_text;
+use oci_kinds::Kind;
 use oci_report::kind_named;
 use oci_report::table::table_of;
 use oci_text_base::Result;
