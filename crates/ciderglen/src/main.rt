@@ -4,6 +4,7 @@
 mod commands;
 mod files;
 mod line;
+mod rules;
 mod watch;
 
 use clap::ArgMatches;
@@ -12,6 +13,7 @@ use line::{asked, matches_of, policy_file, shown, status_of, verified, words_of}
 use oci_layout::{Folder, Options};
 use oci_policies::{Bump, Policy, PolicyError};
 use oci_tool::{Asked, Tree};
+use rules::Specifications;
 use std::fs;
 use std::process::ExitCode;
 use watch::Started;
@@ -89,7 +91,14 @@ fn run(rt: &HostRuntime, asked: &Asked<'_>) -> u8 {
     let mut store = FileStore::new(rt);
     let mut writer = rt.stdout();
     let mut errors = rt.stderr();
-    oci_tool::run(asked, rt.alloc(), &mut store, &mut writer, &mut errors)
+    oci_tool::run(
+        &Specifications,
+        asked,
+        rt.alloc(),
+        &mut store,
+        &mut writer,
+        &mut errors,
+    )
 }
 
 fn verify(rt: &HostRuntime, options: &Options, root: &str) -> u8 {

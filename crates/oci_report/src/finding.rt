@@ -116,7 +116,7 @@ fn push_found(text: &mut String, found: &str) -> Result<(), AllocError>
 
 /// That a member is unknown, and which may be meant.
 fn unknown_message(meant: Option<&'static str>, alloc: Global) -> Result<String, AllocError>
-    ensures { IfOk result (λ t. string_bytes t ≡ message_words (Unknown meant)) }
+    ensures { IfOk result (λ t. string_bytes t ≡ message_words (Unknown meant.entry)) }
 {
     match meant {
         Some(name) => joined("unknown member; the schema has ", name, alloc),

@@ -23,8 +23,8 @@ impl<'a> Report<'a> {
         bytes: &[u8],
         alloc: Global,
     ) -> Result<Report<'a>, AllocError>
-        ensures errors { IfOk result (λ r. r.errors ≡ errors) }
-        ensures warnings { IfOk result (λ r. r.warnings ≡ warnings) }
+        ensures errors { IfOk result (λ r. r.errors ≡ errors.entry) }
+        ensures warnings { IfOk result (λ r. r.warnings ≡ warnings.entry) }
     {
         let places = places_of(&errors, &warnings, bytes, alloc)?;
         Ok(Report {

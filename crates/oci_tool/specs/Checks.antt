@@ -9,7 +9,6 @@ use Rattle.oci_json_io.specs.Engines.{IsNoJson, MeansBytes, ReadsAs, WritesDocum
 use Rattle.oci_schema.specs.Normalizes.{WritesPretty}
 use Rattle.oci_kinds.specs.declared.kind.Kind.{Kind}
 use Rattle.oci_kinds.specs.Kinds.{shape_of}
-use Rattle.oci_rule_books.specs.Kinds.{rules_of}
 use Rattle.oci_lint.specs.Unknown.{Report, unknown}
 use Rattle.oci_rules.specs.Breaks.{Told}
 use Rattle.oci_rules.specs.Documents.{platform_in}
@@ -62,13 +61,13 @@ counts should should = true
 counts host level = true
 counts asked level = false
 
-abbrev pub rules_if : Bool → Kind → List rules.Rule
-rules_if true kind = rules_of kind
-rules_if false kind = []
+abbrev pub rules_if : Bool → List rules.Rule → List rules.Rule
+rules_if true rs = rs
+rules_if false rs = []
 
 -- the rules of the specifications for the kind, where they are asked for, and those of the policy
-abbrev pub asked_rules : Check → Kind → List rules.Rule
-asked_rules a kind = rules_if a.rules kind ++ map rule_of a.policy.now
+abbrev pub asked_rules : (Kind → List rules.Rule) → Check → Kind → List rules.Rule
+asked_rules books a kind = rules_if a.rules (books kind) ++ map rule_of a.policy.now
 
 -- the platform that is asked for, or the one that the document says
 abbrev pub platform_asked : Option Platform → Data → rules.Platform
@@ -76,8 +75,8 @@ platform_asked (Some platform) d = platform_of platform
 platform_asked None d = platform_in d
 
 -- what breaks the rules, of the levels that count
-abbrev pub counted : Check → Kind → Data → List Told
-counted a kind d = filter (λ x. counts (level_of a.level) x.0.level) (all_broken (asked_rules a kind) (platform_asked a.platform d) d)
+abbrev pub counted : (Kind → List rules.Rule) → Check → Kind → Data → List Told
+counted books a kind d = filter (λ x. counts (level_of a.level) x.0.level) (all_broken (asked_rules books a kind) (platform_asked a.platform d) d)
 
 -- the members that the schema does not list, where they are wrong
 abbrev pub denied : Unknown → Kind → Data → List Report
@@ -86,13 +85,13 @@ denied Warn kind d = []
 denied Allow kind d = []
 
 -- a value is a document of the kind, no rule is broken that counts, and no member is denied
-abbrev pub IsRightValue : Check → Kind → Data → Type 0
-IsRightValue a kind d = ((p : Plain) × Means (shape_of kind) d p) × ((counted a kind d ≡ []) × (denied a.unknown kind d ≡ []))
+abbrev pub IsRightValue : (Kind → List rules.Rule) → Check → Kind → Data → Type 0
+IsRightValue books a kind d = ((p : Plain) × Means (shape_of kind) d p) × ((counted books a kind d ≡ []) × (denied a.unknown kind d ≡ []))
 
 -- the bytes are such a value, of the kind that is asked for, or of some kind where none is
-abbrev pub IsRight : Check → List ℕ → Type 0
-IsRight a bytes = (kind : Kind) × (d : Data) × IsAsked a.kind kind × ReadsAs bytes d × IsRightValue a kind d
+abbrev pub IsRight : (Kind → List rules.Rule) → Check → List ℕ → Type 0
+IsRight books a bytes = (kind : Kind) × (d : Data) × IsAsked a.kind kind × ReadsAs bytes d × IsRightValue books a kind d
 
 -- they are not; nothing is said where no kind is asked for
-abbrev pub IsWrong : Check → List ℕ → Type 0
-IsWrong a bytes = IfSome a.kind (λ kind. IsRight a bytes → ⊥)
+abbrev pub IsWrong : (Kind → List rules.Rule) → Check → List ℕ → Type 0
+IsWrong books a bytes = IfSome a.kind (λ kind. IsRight books a bytes → ⊥)

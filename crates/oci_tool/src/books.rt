@@ -1,17 +1,21 @@
 //! The books of rules, for people.
+use crate::rulebooks::RuleBooks;
 use oci_kinds::Kind;
 use oci_report::render::word_of;
 use oci_report::{KINDS, title_of};
-use oci_rule_books::rules_of;
 use oci_rules::{Rule, Step};
 use std::alloc::{AllocError, Global};
 
 /// The rules of a kind of documents: a line for each, with its name, level and section, and what it wants.
-pub fn rules_of_kind(kind: Kind, alloc: Global) -> Result<String, AllocError> {
+pub fn rules_of_kind<B: RuleBooks>(
+    books: &B,
+    kind: Kind,
+    alloc: Global,
+) -> Result<String, AllocError> {
     let mut text = String::from_str(alloc, title_of(kind))?;
     text.push_str("\n")?;
     let mut told = Vec::new(alloc);
-    for book in rules_of(kind, alloc)? {
+    for book in books.books_of(kind, alloc)? {
         for rule in book {
             if !told.contains(&rule.name) {
                 told.push(rule.name)?;
@@ -23,13 +27,13 @@ pub fn rules_of_kind(kind: Kind, alloc: Global) -> Result<String, AllocError> {
 }
 
 /// The rules of all kinds.
-pub fn all_rules(alloc: Global) -> Result<String, AllocError> {
+pub fn all_rules<B: RuleBooks>(books: &B, alloc: Global) -> Result<String, AllocError> {
     let mut text = String::new(alloc);
     for kind in &KINDS {
         if !text.is_empty() {
             text.push_str("\n")?;
         }
-        text.push_str(rules_of_kind(*kind, alloc)?.as_str())?;
+        text.push_str(rules_of_kind(books, *kind, alloc)?.as_str())?;
     }
     Ok(text)
 }
@@ -42,17 +46,27 @@ fn push_rule(text: &mut String, rule: &Rule<'_>, alloc: Global) -> Result<(), Al
 }
 
 /// The rules of a name, each with the places at which it is asked; none if there is no such rule.
-pub fn rules_of_name(name: &str, alloc: Global) -> Result<Option<String>, AllocError> {
+pub fn rules_of_name<B: RuleBooks>(
+    books: &B,
+    name: &str,
+    alloc: Global,
+) -> Result<Option<String>, AllocError> {
     let mut text = String::new(alloc);
     for kind in &KINDS {
-        add_of_kind(name, *kind, &mut text, alloc)?;
+        add_of_kind(books, name, *kind, &mut text, alloc)?;
     }
     Ok(if text.is_empty() { None } else { Some(text) })
 }
 
-fn add_of_kind(name: &str, kind: Kind, text: &mut String, alloc: Global) -> Result<(), AllocError> {
+fn add_of_kind<B: RuleBooks>(
+    books: &B,
+    name: &str,
+    kind: Kind,
+    text: &mut String,
+    alloc: Global,
+) -> Result<(), AllocError> {
     let mut found = false;
-    for book in rules_of(kind, alloc)? {
+    for book in books.books_of(kind, alloc)? {
         for rule in book {
             if rule.name == name {
                 if !found {

@@ -1,11 +1,12 @@
 //! The command `check`.
-ghost use Rattle.std.specs.Prelude.{◌≡◌, ◌<◌, ◌⊎◌, ℕ, true, false, length, IfOk, IfSome, OnOk};
+ghost use Rattle.std.specs.Prelude.{◌≡◌, ◌<◌, ◌⊎◌, [], ℕ, true, false, length, IfOk, IfSome, OnOk};
 ghost use Rattle.std.specs.List.{All, HoldsAt};
 ghost use Rattle.oci_tool.specs.Checks.{IsRight, IsWrong};
 ghost use Rattle.oci_tool.specs.Done.{IsStatus};
 
 use crate::asked::{Check, Style};
 use crate::examine::examine;
+use crate::rulebooks::RuleBooks;
 use crate::store::Store;
 use crate::texts::complain_of;
 use oci_json_io::write_text;
@@ -27,7 +28,8 @@ pub struct Tally {
 
 /// Writes what is wrong with each file. Returns 0 if nothing is, 1 if something is, and 3 if a file could not be read, which a line on
 /// standard error says; the others are checked all the same. Fails if the findings cannot be written, or if out of memory.
-pub fn check<S: Store, W: Write, E: Write>(
+pub fn check<S: Store, B: RuleBooks, W: Write, E: Write>(
+    books: &B,
     asked: &Check<'_>,
     alloc: Global,
     store: &mut S,
@@ -35,14 +37,14 @@ pub fn check<S: Store, W: Write, E: Write>(
     errors: &mut E,
 ) -> Result<u8>
     ensures status { IfOk result IsStatus }
-    ensures right { IfOk result (λ s. s ≡ 0 → All (λ f. IfSome (S.holds store.old f.now) (IsRight asked.now)) asked.now.files.now) }
-    ensures wrong { IfOk result (λ s. s ≡ 1 → (i : ℕ) × (i < length asked.now.files.now) × HoldsAt (λ f. IfSome (S.holds store.old f.now) (IsWrong asked.now)) asked.now.files.now i) }
+    ensures right { IfOk result (λ s. s ≡ 0 → All (λ f. IfSome (S.holds store.old f.now) (IsRight (B.rules books.now) asked.now)) asked.now.files.now) }
+    ensures wrong { IfOk result (λ s. s ≡ 1 → (i : ℕ) × (i < length asked.now.files.now) × HoldsAt (λ f. IfSome (S.holds store.old f.now) (IsWrong (B.rules books.now) asked.now)) asked.now.files.now i) }
 {
     let mut log = match asked.style {
         Style::Sarif => Some(Log::new(alloc)?),
         _ => None,
     };
-    let tally = check_files(asked, alloc, store, &mut log, writer, errors)?;
+    let tally = check_files(books, asked, alloc, store, &mut log, writer, errors)?;
     close(log, asked.quiet, writer)?;
     Ok(status_of(tally))
 }
@@ -62,7 +64,8 @@ fn status_of(tally: Tally) -> u8
     }
 }
 
-fn check_files<S: Store, W: Write, E: Write>(
+fn check_files<S: Store, B: RuleBooks, W: Write, E: Write>(
+    books: &B,
     asked: &Check<'_>,
     alloc: Global,
     store: &mut S,
@@ -70,21 +73,24 @@ fn check_files<S: Store, W: Write, E: Write>(
     writer: &mut W,
     errors: &mut E,
 ) -> Result<Tally>
-    ensures right { IfOk result (λ t. t.wrong ≡ false → t.unread ≡ false → All (λ f. IfSome (S.holds store.old f.now) (IsRight asked.now)) asked.now.files.now) }
-    ensures wrong { IfOk result (λ t. t.wrong ≡ true → (i : ℕ) × (i < length asked.now.files.now) × HoldsAt (λ f. IfSome (S.holds store.old f.now) (IsWrong asked.now)) asked.now.files.now i) }
+    ensures right { IfOk result (λ t. t.wrong ≡ false → t.unread ≡ false → All (λ f. IfSome (S.holds store.old f.now) (IsRight (B.rules books.now) asked.now)) asked.now.files.now) }
+    ensures wrong { IfOk result (λ t. t.wrong ≡ true → (i : ℕ) × (i < length asked.now.files.now) × HoldsAt (λ f. IfSome (S.holds store.old f.now) (IsWrong (B.rules books.now) asked.now)) asked.now.files.now i) }
 {
     let mut tally = Tally {
         wrong: false,
         unread: false,
     };
     for name in asked.files {
-        check_file(asked, name, &mut tally, alloc, store, log, writer, errors)?;
+        check_file(
+            books, asked, name, &mut tally, alloc, store, log, writer, errors,
+        )?;
     }
     Ok(tally)
 }
 
 /// Checks a file, and notes what was found out.
-fn check_file<S: Store, W: Write, E: Write>(
+fn check_file<S: Store, B: RuleBooks, W: Write, E: Write>(
+    books: &B,
     asked: &Check<'_>,
     name: &str,
     tally: &mut Tally,
@@ -94,12 +100,21 @@ fn check_file<S: Store, W: Write, E: Write>(
     writer: &mut W,
     errors: &mut E,
 ) -> Result<()>
-    ensures right { OnOk result (tally.new.wrong ≡ false → tally.new.unread ≡ false → (tally.old.wrong ≡ false) × (tally.old.unread ≡ false) × IfSome (S.holds store.old name.now) (IsRight asked.now)) }
-    ensures wrong { OnOk result (tally.new.wrong ≡ true → (tally.old.wrong ≡ true) ⊎ IfSome (S.holds store.old name.now) (IsWrong asked.now)) }
+    ensures right { OnOk result (tally.new.wrong ≡ false → tally.new.unread ≡ false → (tally.old.wrong ≡ false) × (tally.old.unread ≡ false) × IfSome (S.holds store.old name.now) (IsRight (B.rules books.now) asked.now)) }
+    ensures wrong { OnOk result (tally.new.wrong ≡ true → (tally.old.wrong ≡ true) ⊎ IfSome (S.holds store.old name.now) (IsWrong (B.rules books.now) asked.now)) }
     ensures kept { S.holds store.new ≡ S.holds store.old }
 {
     match store.read(alloc, name) {
-        Ok(bytes) => check_bytes(asked, name, bytes.as_slice(), tally, alloc, log, writer),
+        Ok(bytes) => check_bytes(
+            books,
+            asked,
+            name,
+            bytes.as_slice(),
+            tally,
+            alloc,
+            log,
+            writer,
+        ),
         Err(fault) => {
             tally.unread = true;
             complain_of(name, &fault, alloc, errors);
@@ -109,7 +124,8 @@ fn check_file<S: Store, W: Write, E: Write>(
 }
 
 /// Checks the bytes of a file, and notes what was found out.
-fn check_bytes<W: Write>(
+fn check_bytes<B: RuleBooks, W: Write>(
+    books: &B,
     asked: &Check<'_>,
     name: &str,
     bytes: &[u8],
@@ -118,18 +134,27 @@ fn check_bytes<W: Write>(
     log: &mut Option<Log>,
     writer: &mut W,
 ) -> Result<()>
-    ensures right { OnOk result (tally.new.wrong ≡ false → (tally.new.unread ≡ tally.old.unread) × (tally.old.wrong ≡ false) × IsRight asked.now bytes.now) }
-    ensures wrong { OnOk result (tally.new.wrong ≡ true → (tally.old.wrong ≡ true) ⊎ IsWrong asked.now bytes.now) }
+    ensures right { OnOk result (tally.new.wrong ≡ false → (tally.new.unread ≡ tally.old.unread) × (tally.old.wrong ≡ false) × IsRight (B.rules books.now) asked.now bytes.now) }
+    ensures wrong { OnOk result (tally.new.wrong ≡ true → (tally.old.wrong ≡ true) ⊎ IsWrong (B.rules books.now) asked.now bytes.now) }
     ensures unread { OnOk result (tally.new.unread ≡ tally.old.unread) }
 {
-    let found = examine(asked, name, bytes, alloc)?;
-    if !found.errors.is_empty() {
-        tally.wrong = true;
-    }
+    let found = examine(books, asked, name, bytes, alloc)?;
+    note(&found, tally);
     if asked.quiet {
         return Ok(());
     }
     tell(asked.style, name, &found, alloc, log, writer)
+}
+
+/// Notes whether something is wrong with a file.
+fn note(found: &Report<'_>, tally: &mut Tally)
+    ensures right { tally.new.wrong ≡ false → (tally.old.wrong ≡ false) × (found.now.errors.items ≡ []) }
+    ensures wrong { tally.new.wrong ≡ true → (tally.old.wrong ≡ true) ⊎ ¬ (found.now.errors.items ≡ []) }
+    ensures unread { tally.new.unread ≡ tally.old.unread }
+{
+    if !found.errors.is_empty() {
+        tally.wrong = true;
+    }
 }
 
 /// Writes the findings in a file, or keeps them for the log.

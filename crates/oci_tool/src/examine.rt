@@ -10,28 +10,30 @@ ghost use Rattle.oci_tool.specs.Checks.{IsRight, IsRightValue, IsWrong, asked_ru
 
 use crate::asked::{Check, Unknown};
 use crate::inspect::{Reading, faulty, read_value, schema_findings, shown_at, with_other_kind};
+use crate::rulebooks::RuleBooks;
 use oci_kinds::Kind;
 use oci_lint::{UnknownMember, suggestion, unknown_members};
 use oci_report::{Cause, Finding, Report};
-use oci_rule_books::rules_of;
 use oci_rules::{Broken, Level, Platform, Rule, broken, platform_of_document};
 use oci_schemas::OciRecords;
 use serde_json::Value;
 use std::alloc::{AllocError, Global};
 
 /// What is wrong with the bytes of a document, by all that is asked. Fails if out of memory.
-pub fn examine<'a>(
+#[tactic(auto, using(crate::proofs::Allowed::right_of, crate::proofs::Allowed::wrong_of, crate::proofs::Allowed::wrong_of_no_json))]
+pub fn examine<'a, B: RuleBooks>(
+    books: &B,
     asked: &Check<'a>,
     name: &str,
     bytes: &[u8],
     alloc: Global,
 ) -> Result<Report<'a>, AllocError>
-    ensures right { IfOk result (λ r. r.errors.items ≡ [] → IsRight asked.now bytes.now) }
-    ensures wrong { IfOk result (λ r. ¬ (r.errors.items ≡ []) → IsWrong asked.now bytes.now) }
+    ensures right { IfOk result (λ r. r.errors.items ≡ [] → IsRight (B.rules books.now) asked.now bytes.now) }
+    ensures wrong { IfOk result (λ r. ¬ (r.errors.items ≡ []) → IsWrong (B.rules books.now) asked.now bytes.now) }
 {
     match read_value(asked.kind, name, bytes, alloc)? {
         Reading::Value(kind, value) => {
-            let errors = errors_of(asked, kind, name, &value, alloc)?;
+            let errors = errors_of(books, asked, kind, name, &value, alloc)?;
             let warnings = warnings_of(asked.unknown, kind, &value, alloc)?;
             Report::new(errors, warnings, bytes, alloc)
         }
@@ -40,18 +42,19 @@ pub fn examine<'a>(
 }
 
 /// What is wrong with a value.
-fn errors_of<'a>(
+fn errors_of<'a, B: RuleBooks>(
+    books: &B,
     asked: &Check<'a>,
     kind: Kind,
     name: &str,
     value: &Value,
     alloc: Global,
 ) -> Result<Vec<Finding<'a>>, AllocError>
-    ensures { IfOk result (λ v. (v.items ≡ []) ↔ IsRightValue asked.now kind (view value.now)) }
+    ensures { IfOk result (λ v. (v.items ≡ []) ↔ IsRightValue (B.rules books.now) asked.now kind (view value.now)) }
 {
     let of_schema = schema_findings(kind, value, alloc)?;
     let of_schema = with_other_kind(kind, name, value, of_schema, alloc)?;
-    let of_rules = rule_findings(asked, kind, value, alloc)?;
+    let of_rules = rule_findings(books, asked, kind, value, alloc)?;
     let of_members = denied_findings(asked.unknown, kind, value, alloc)?;
     joined(of_schema, of_rules, of_members)
 }
@@ -70,18 +73,19 @@ fn joined<'a>(
 }
 
 /// What is wrong with a value by the rules that are asked for.
-fn rule_findings<'a>(
+fn rule_findings<'a, B: RuleBooks>(
+    books: &B,
     asked: &Check<'a>,
     kind: Kind,
     value: &Value,
     alloc: Global,
 ) -> Result<Vec<Finding<'a>>, AllocError>
-    ensures { IfOk result (λ v. map breach v.items ≡ map Some (counted asked.now kind (view value.now))) }
+    ensures { IfOk result (λ v. map breach v.items ≡ map Some (counted (B.rules books.now) asked.now kind (view value.now))) }
 {
-    let books = books_of(asked, kind, alloc)?;
+    let listed_books = asked_books(books, asked, kind, alloc)?;
     let platform = platform_for(asked.platform, value);
     let mut found = Vec::new(alloc);
-    for book in &books {
+    for book in &listed_books {
         let listed = broken(book, platform, value, alloc)?;
         add_counted(&listed, asked.level, value, &mut found, alloc)?;
     }
@@ -89,20 +93,21 @@ fn rule_findings<'a>(
 }
 
 /// The books that are asked for: those of the kind, and the policy's.
-fn books_of<'a>(
+fn asked_books<'a, B: RuleBooks>(
+    books: &B,
     asked: &Check<'a>,
     kind: Kind,
     alloc: Global,
 ) -> Result<Vec<&'a [Rule<'a>]>, AllocError>
-    ensures { IfOk result (λ v. flat_map (λ b. map rule_of b.now) v.items ≡ asked_rules asked.now kind) }
+    ensures { IfOk result (λ v. flat_map (λ b. map rule_of b.now) v.items ≡ asked_rules (B.rules books.now) asked.now kind) }
 {
-    let mut books = if asked.rules {
-        rules_of(kind, alloc)?
+    let mut found = if asked.rules {
+        books.books_of(kind, alloc)?
     } else {
         Vec::new(alloc)
     };
-    books.push(asked.policy)?;
-    Ok(books)
+    found.push(asked.policy)?;
+    Ok(found)
 }
 
 /// The platform that is asked for, or the one that the document says.

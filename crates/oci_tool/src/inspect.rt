@@ -31,6 +31,7 @@ pub enum Reading {
 }
 
 /// Reads a value that is to be of the kind, or of the one that is found out by its file name and value. Fails if out of memory.
+#[tactic(auto, using(crate::proofs::Allowed::no_kind_asked, crate::proofs::Allowed::none_is_json))]
 pub fn read_value(
     asked: Option<Kind>,
     name: &str,

@@ -11,10 +11,12 @@ pub mod examine;
 pub mod inspect;
 pub mod outline;
 pub mod program;
+pub mod rulebooks;
 pub mod shown;
 pub mod store;
 pub mod texts;
 
 pub use asked::{Asked, Check, Compare, Format, Style, Tree, Unknown};
 pub use program::run;
+pub use rulebooks::RuleBooks;
 pub use store::Store;

@@ -9,6 +9,7 @@ use crate::check::check;
 use crate::compare::compare;
 use crate::contents::file_digests;
 use crate::outline::tree;
+use crate::rulebooks::RuleBooks;
 use crate::shown::{rules, schema};
 use crate::store::Store;
 use crate::texts::{complain, complain_of, digests, pin, references};
@@ -19,7 +20,8 @@ use std::io::Write;
 
 /// Runs a command, and returns the exit status: 0 if it was done and nothing is wrong, 1 if something is wrong with the input, and 3 if
 /// a file could not be read or written, or out of memory. A failed write to standard error changes nothing.
-pub fn run<S: Store, W: Write, E: Write>(
+pub fn run<S: Store, B: RuleBooks, W: Write, E: Write>(
+    books: &B,
     asked: &Asked<'_>,
     alloc: Global,
     store: &mut S,
@@ -27,11 +29,11 @@ pub fn run<S: Store, W: Write, E: Write>(
     errors: &mut E,
 ) -> u8
     ensures status { IsStatus result }
-    ensures done { result ≡ 0 → IsDone (S.holds store.old) (W.contents writer.old) (W.contents writer.new) asked.now }
-    ensures wrong { result ≡ 1 → IsRejected (S.holds store.old) asked.now }
+    ensures done { result ≡ 0 → IsDone (B.rules books.now) (S.holds store.old) (W.contents writer.old) (W.contents writer.new) asked.now }
+    ensures wrong { result ≡ 1 → IsRejected (B.rules books.now) (S.holds store.old) asked.now }
     ensures silent { IsSilent asked.now → Keeps (W.contents writer.old) (W.contents writer.new) × (S.holds store.new ≡ S.holds store.old) }
 {
-    match perform(asked, alloc, store, writer, errors) {
+    match perform(books, asked, alloc, store, writer, errors) {
         Ok(status) => status,
         Err(error) => {
             report(&error, alloc, errors);
@@ -40,7 +42,8 @@ pub fn run<S: Store, W: Write, E: Write>(
     }
 }
 
-fn perform<S: Store, W: Write, E: Write>(
+fn perform<S: Store, B: RuleBooks, W: Write, E: Write>(
+    books: &B,
     asked: &Asked<'_>,
     alloc: Global,
     store: &mut S,
@@ -48,12 +51,12 @@ fn perform<S: Store, W: Write, E: Write>(
     errors: &mut E,
 ) -> Result<u8>
     ensures status { IfOk result IsStatus }
-    ensures done { IfOk result (λ s. s ≡ 0 → IsDone (S.holds store.old) (W.contents writer.old) (W.contents writer.new) asked.now) }
-    ensures wrong { IfOk result (λ s. s ≡ 1 → IsRejected (S.holds store.old) asked.now) }
+    ensures done { IfOk result (λ s. s ≡ 0 → IsDone (B.rules books.now) (S.holds store.old) (W.contents writer.old) (W.contents writer.new) asked.now) }
+    ensures wrong { IfOk result (λ s. s ≡ 1 → IsRejected (B.rules books.now) (S.holds store.old) asked.now) }
     ensures silent { IsSilent asked.now → Keeps (W.contents writer.old) (W.contents writer.new) × (S.holds store.new ≡ S.holds store.old) }
 {
     match asked {
-        Asked::Check(asked) => check(asked, alloc, store, writer, errors),
+        Asked::Check(asked) => check(books, asked, alloc, store, writer, errors),
         Asked::Format(asked) => format(asked, alloc, store, writer, errors),
         Asked::Compare(asked) => compare(asked, alloc, store, writer, errors),
         Asked::Reference(style, texts) => references(*style, texts, alloc, writer, errors),
@@ -63,7 +66,7 @@ fn perform<S: Store, W: Write, E: Write>(
         }
         Asked::Pin(text, file) => pin(text, file, alloc, store, writer, errors),
         Asked::Tree(asked) => tree(asked, alloc, store, writer, errors),
-        Asked::Rules(name) => rules(*name, alloc, writer, errors),
+        Asked::Rules(name) => rules(books, *name, alloc, writer, errors),
         Asked::Schema(kind) => {
             schema(*kind, alloc, writer)?;
             Ok(0)

@@ -3,6 +3,7 @@ ghost use Rattle.std.specs.Prelude.{IfOk};
 ghost use Rattle.oci_tool.specs.Done.{IsStatus};
 
 use crate::books::{all_rules, rules_of_kind, rules_of_name};
+use crate::rulebooks::RuleBooks;
 use crate::texts::complain;
 use oci_json_io::write_text;
 use oci_kinds::Kind;
@@ -14,7 +15,8 @@ use std::io::Write;
 
 /// Writes the rules of all kinds of documents, or those of a kind, or a rule, by its name. Returns 0 if that was done, and 1 if there is
 /// no such kind and no such rule.
-pub fn rules<W: Write, E: Write>(
+pub fn rules<B: RuleBooks, W: Write, E: Write>(
+    books: &B,
     name: Option<&str>,
     alloc: Global,
     writer: &mut W,
@@ -23,10 +25,10 @@ pub fn rules<W: Write, E: Write>(
     ensures { IfOk result IsStatus }
 {
     let text = match name {
-        None => Some(all_rules(alloc)?),
+        None => Some(all_rules(books, alloc)?),
         Some(name) => match kind_named(name) {
-            Some(kind) => Some(rules_of_kind(kind, alloc)?),
-            None => rules_of_name(name, alloc)?,
+            Some(kind) => Some(rules_of_kind(books, kind, alloc)?),
+            None => rules_of_name(books, name, alloc)?,
         },
     };
     match text {
