@@ -3,7 +3,7 @@ use Rattle.std.proofs.Common.{◌≡◌, ◌<◌, ◌+◌, ℕ, suc, Bool, true,
 use Rattle.std.specs.Prelude.{◌↔◌}
 use Rattle.std.specs.Borrow.{Bor}
 use Rattle.std.specs.List.{filter, flat_map}
-use Rattle.std.proofs.lemmas.List.{append_assoc, append-nil, map-append}
+use Rattle.std.proofs.lemmas.List.{append_assoc, append-nil, get_or_default, map-append}
 use Rattle.std.proofs.lemmas.List.Concat.{flat_map-append}
 use Rattle.std.proofs.lemmas.List.Elements.{filter-append}
 use Rattle.serde_json.specs.Data.{Data}
@@ -59,18 +59,20 @@ all_of_both (x ∷ xs) ys p d = ap (λ q. when (is_for p x.platforms) (told_of x
 abbrev pub rules_in : Bor (List Rule) → List rules.Rule
 rules_in b = map rule_of b.now
 
-pub book_more : (c : Told → Bool) (p : rules.Platform) (d : Data) (new fs : List Finding) (books : List (Bor (List Rule))) (i : ℕ) (b : Bor (List Rule)) (listed : List Broken) → i < length books → b ≡ get_or books i b
-    → map told listed ≡ all_broken (rules_in b) p d → map breach new ≡ map breach fs ++ map Some (filter c (map told listed))
+pub book_more : (c : Told → Bool) (p : rules.Platform) (d : Data) (new fs : List Finding) (books : List (Bor (List Rule))) (i : ℕ) (b : Bor (List Rule)) (listed : List Broken) → i < length books
+    → map told listed ≡ all_broken (rules_in (get_or books i b)) p d → map breach new ≡ map breach fs ++ map Some (filter c (map told listed))
     → map breach fs ≡ map Some (filter c (all_broken (flat_map rules_in (take i books)) p d))
     → map breach new ≡ map Some (filter c (all_broken (flat_map rules_in (take (i + 1) books)) p d))
-book_more c p d new fs books i b listed lt is all more before =
+book_more c p d new fs books i b listed lt all more before =
+    let it : Bor (List Rule) = get_or books i b in
     let step : i + 1 ≡ suc i = omega arith in
-    let so : flat_map rules_in (take (i + 1) books) ≡ flat_map rules_in (take i books) ++ rules_in b =
-    ap (λ n. flat_map rules_in (take n books)) step ∙ ap (flat_map rules_in) (one_more books i b lt is) ∙ flat_map-append rules_in (take i books) (b ∷ []) ∙ ap (λ q. flat_map rules_in (take i books) ++ q) (append-nil (rules_in b)) in
+    let so : flat_map rules_in (take (i + 1) books) ≡ flat_map rules_in (take i books) ++ rules_in it =
+    ap (λ n. flat_map rules_in (take n books)) step ∙ ap (flat_map rules_in) (one_more books i it lt (get_or_default books i b it lt)) ∙ flat_map-append rules_in (take i books) (it ∷ [])
+    ∙ ap (λ q. flat_map rules_in (take i books) ++ q) (append-nil (rules_in it)) in
     let were : List Told = all_broken (flat_map rules_in (take i books)) p d in
-    let are : List Told = all_broken (rules_in b) p d in
+    let are : List Told = all_broken (rules_in it) p d in
     let whole : filter c (all_broken (flat_map rules_in (take (i + 1) books)) p d) ≡ filter c were ++ filter c are =
-    ap (λ q. filter c (all_broken q p d)) so ∙ ap (filter c) (all_of_both (flat_map rules_in (take i books)) (rules_in b) p d) ∙ filter-append c were are in
+    ap (λ q. filter c (all_broken q p d)) so ∙ ap (filter c) (all_of_both (flat_map rules_in (take i books)) (rules_in it) p d) ∙ filter-append c were are in
     more ∙ ap (λ q. q ++ map Some (filter c (map told listed))) before ∙ ap (λ q. map Some (filter c were) ++ map Some (filter c q)) all
     ∙ sym (map-append Some (filter c were) (filter c are)) ∙ ap (map Some) (sym whole)
 

@@ -29,7 +29,7 @@ document_written : (s : Shape) (input : Option (List ℕ)) (W V : List ℕ → T
 document_written s input W V f h = let (p, means, wrote) = h in (p, means, f _ wrote)
 
 pretty_written : (s : Shape) (input : Option (List ℕ)) (W V : List ℕ → Type 0) → ((t : List ℕ) → W t → V t) → WritesPretty s input W → WritesPretty s input V
-pretty_written s input W V f h = let (p, means, text, is, wrote) = h in (p, means, (text, is, f text wrote))
+pretty_written s input W V f h = let (p, means, rest) = h in let (text, is, wrote) = rest in (p, means, (text, is, f text wrote))
 
 -- the canonical form of the kind that was found is that of the kind that was asked for
 pub formats_asked : (asked : Option Kind) (kind : Kind) (pretty : Bool) (input : Option (List ℕ)) (W V : List ℕ → Type 0) → IsAsked asked kind → ((t : List ℕ) → W t → V t) → Formats (Some kind) pretty input W

@@ -4,6 +4,7 @@ ghost use Rattle.std.specs.List.{filter, flat_map};
 ghost use Rattle.serde_json.specs.View.{view};
 ghost use Rattle.oci_kinds.specs.Kinds.{shape_of};
 ghost use Rattle.oci_lint.specs.Unknown.{unknown as all_unknown};
+ghost use Rattle.oci_rules.specs.Listed.{all_broken};
 ghost use Rattle.oci_rules.specs.Tables.{level_of, platform_of, rule_of, told as broken_told};
 ghost use Rattle.oci_report.specs.Findings.{breach};
 ghost use Rattle.oci_tool.specs.Checks.{IsRight, IsRightValue, IsWrong, asked_rules, platform_asked, counts as does_count, counted, denied};
@@ -33,12 +34,27 @@ pub fn examine<'a, B: RuleBooks>(
 {
     match read_value(asked.kind, name, bytes, alloc)? {
         Reading::Value(kind, value) => {
-            let errors = errors_of(books, asked, kind, name, &value, alloc)?;
-            let warnings = warnings_of(asked.unknown, kind, &value, alloc)?;
-            Report::new(errors, warnings, bytes, alloc)
+            examine_value(books, asked, kind, name, &value, bytes, alloc)
         }
         Reading::Fault(fault) => faulty(fault, alloc),
     }
+}
+
+/// The report on a value that was read from these bytes.
+fn examine_value<'a, B: RuleBooks>(
+    books: &B,
+    asked: &Check<'a>,
+    kind: Kind,
+    name: &str,
+    value: &Value,
+    bytes: &[u8],
+    alloc: Global,
+) -> Result<Report<'a>, AllocError>
+    ensures { IfOk result (λ r. (r.errors.items ≡ []) ↔ IsRightValue (B.rules books.now) asked.now kind (view value.now)) }
+{
+    let errors = errors_of(books, asked, kind, name, value, alloc)?;
+    let warnings = warnings_of(asked.unknown, kind, value, alloc)?;
+    Report::new(errors, warnings, bytes, alloc)
 }
 
 /// What is wrong with a value.
@@ -65,7 +81,7 @@ fn joined<'a>(
     mut second: Vec<Finding<'a>>,
     mut third: Vec<Finding<'a>>,
 ) -> Result<Vec<Finding<'a>>, AllocError>
-    ensures { IfOk result (λ v. v.items ≡ first.items ++ (second.items ++ third.items)) }
+    ensures { IfOk result (λ v. v.items ≡ first.entry.items ++ (second.entry.items ++ third.entry.items)) }
 {
     second.append(&mut third)?;
     first.append(&mut second)?;
@@ -82,12 +98,25 @@ fn rule_findings<'a, B: RuleBooks>(
 ) -> Result<Vec<Finding<'a>>, AllocError>
     ensures { IfOk result (λ v. map breach v.items ≡ map Some (counted (B.rules books.now) asked.now kind (view value.now))) }
 {
-    let listed_books = asked_books(books, asked, kind, alloc)?;
+    let listed = asked_books(books, asked, kind, alloc)?;
     let platform = platform_for(asked.platform, value);
+    findings_by(&listed, asked.level, platform, value, alloc)
+}
+
+/// What is wrong with a value by the rules of books, of the levels that count.
+fn findings_by<'a>(
+    books: &Vec<&'a [Rule<'a>]>,
+    level: Level,
+    platform: Platform,
+    value: &Value,
+    alloc: Global,
+) -> Result<Vec<Finding<'a>>, AllocError>
+    ensures { IfOk result (λ v. map breach v.items ≡ map Some (filter (λ x. does_count (level_of level) x.0.level) (all_broken (flat_map (λ b. map rule_of b.now) books.now.items) (platform_of platform) (view value.now)))) }
+{
     let mut found = Vec::new(alloc);
-    for book in &listed_books {
+    for book in books {
         let listed = broken(book, platform, value, alloc)?;
-        add_counted(&listed, asked.level, value, &mut found, alloc)?;
+        add_counted(&listed, level, value, &mut found, alloc)?;
     }
     Ok(found)
 }

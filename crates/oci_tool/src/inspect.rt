@@ -119,7 +119,7 @@ pub fn with_other_kind<'a>(
     mut found: Vec<Finding<'a>>,
     alloc: Global,
 ) -> Result<Vec<Finding<'a>>, AllocError>
-    ensures { IfOk result (λ v. (v.items ≡ []) ↔ (found.items ≡ [])) }
+    ensures { IfOk result (λ v. (v.items ≡ []) ↔ (found.entry.items ≡ [])) }
 {
     if found.is_empty() {
         return Ok(found);

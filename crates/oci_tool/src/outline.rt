@@ -139,7 +139,13 @@ fn push_below<S: Store>(
     };
     if let Ok(value) = Value::from_slice(alloc, bytes.as_slice()) {
         let before = below(row.before.as_str(), row.is_last, alloc)?;
-        push_children(rows, &value, before.as_str(), row.depth + 1, alloc)?;
+        push_children(
+            rows,
+            &value,
+            before.as_str(),
+            row.depth.saturating_add(1),
+            alloc,
+        )?;
     }
     Ok(())
 }

@@ -6,9 +6,9 @@ use Rattle.oci_rules.specs.Tables.{level_of, platform_of}
 use Rattle.oci_report.specs.Findings.{breach}
 use Rattle.oci_tool.specs.Checks.{counts}
 use Rattle.oci_tool.proofs.Counted.{rules_in}
-use Rattle.oci_tool.proofs.examine.rule_findings.Given as goal
+use Rattle.oci_tool.proofs.examine.findings_by.Given as goal
 
 abbrev pub invariant-loop-book : goal.invariant-loop-book
 invariant-loop-book l =
     map breach l.found.items
-    ≡ map Some (filter (λ x. counts (level_of l.asked.level) x.0.level) (all_broken (flat_map rules_in (take l.book-index l.listed_books.items)) (platform_of l.platform) (view l.value)))
+    ≡ map Some (filter (λ x. counts (level_of l.level) x.0.level) (all_broken (flat_map rules_in (take l.book-index l.book-items)) (platform_of l.platform) (view l.value)))
