@@ -99,7 +99,6 @@ def lists(model, crate):
 ABOUT = {
     "oci_rules_image": "The books of rules of image and distribution documents.",
     "oci_rules_runtime": "The books of rules of containers' configurations, states and features.",
-    "oci_policies": "Policies: rules of one's own, as books that are proved to be their descriptions in `policies/`.",
 }
 
 

@@ -32,7 +32,7 @@ void __wrap_free(void *block) {
 static uint8_t document[1 << 20], buffer[1 << 20];
 static size_t document_len, output_len;
 
-enum { CALLS = 7 };
+enum { CALLS = 8 };
 
 static uint32_t call(int which) {
     static const uint8_t text[] = "registry.example.com:5000/team/app:v1.2";
@@ -46,6 +46,7 @@ static uint32_t call(int which) {
     case 3: return ciderglen_reference(text, len, buffer, sizeof buffer, &output_len, &parts);
     case 4: return ciderglen_resolve_registry(text, len, buffer, sizeof buffer, &output_len);
     case 5: return ciderglen_pin(text, len, json, sizeof json - 1, buffer, sizeof buffer, &output_len);
+    case 6: return ciderglen_broken_rules(CIDERGLEN_KIND_MANIFEST, CIDERGLEN_LEVEL_HOST, CIDERGLEN_PLATFORM_LINUX, document, document_len, buffer, sizeof buffer, &output_len, &count);
     default: return ciderglen_digest_check((const uint8_t *)"foo:bar", 7);
     }
 }

@@ -52,5 +52,5 @@ abbrev pub named : {A : Type 0} → List (List ℕ × A) → List ℕ → Option
 named [] t = None
 named (row ∷ rows) t = if bytes_eq t row.0 then Some row.1 else named rows t
 
-abbrev pub grammar_in : Data → Option Grammar
+unfoldable pub grammar_in : Data → Option Grammar
 grammar_in d = option_and_then (named grammars) (as_str d)

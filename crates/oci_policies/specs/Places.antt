@@ -1,6 +1,6 @@
 -- Where a rule of a policy looks: the steps that a JSON Pointer (RFC 6901) writes, with `*` for each item of an array, `{}` for each
 -- member of an object, and `{name}` for the name of each member. A part of a pointer with `~` is refused.
-use Rattle.std.specs.Prelude.{ℕ, List, [], ◌∷◌, Bool, codes, bytes_eq, Option, Some, None, option_map, option_and_then, if◌then◌else◌, ◌==◌, ◌||◌}
+use Rattle.std.specs.Prelude.{ℕ, List, [], ◌∷◌, length, Bool, codes, bytes_eq, Option, Some, None, option_map, option_and_then, if◌then◌else◌, ◌==◌, ◌||◌}
 use Rattle.std.specs.List.{slice_split, list_any}
 use Rattle.toml.specs.Data.{Data, as_str}
 use Rattle.oci_rules.specs.Rules as rules
@@ -34,15 +34,18 @@ slash = 47
 abbrev pub has_tilde : List ℕ → Bool
 has_tilde t = list_any (λ b. b == 126) t
 
+abbrev pub behind_slash : List ℕ → Option (List ℕ)
+behind_slash [] = None
+behind_slash (b ∷ t) = if b == slash then Some t else None
+
 -- the parts of a pointer: nothing for the whole, else each behind a slash
 abbrev pub parts_of : List ℕ → Option (List (List ℕ))
-parts_of [] = Some []
-parts_of (b ∷ t) = if b == slash then Some (slice_split (λ c. c == slash) t) else None
+parts_of t = if length t == 0 then Some [] else option_map (slice_split (λ b. b == slash)) (behind_slash t)
 
 abbrev pub name_of : List ℕ → Option (List ℕ)
 name_of t = if has_tilde t || (bytes_eq t (codes "*") || (bytes_eq t (codes "{}") || bytes_eq t (codes "{name}"))) then None else Some t
 
-abbrev pub step_of : List ℕ → Option Step
+unfoldable pub step_of : List ℕ → Option Step
 step_of t =
     if bytes_eq t (codes "*") then Some to_each_item
     else (if bytes_eq t (codes "{}") then Some to_each_member

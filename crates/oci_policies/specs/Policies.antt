@@ -2,7 +2,7 @@
 use Rattle.std.specs.Prelude.{ℕ, List, [], ◌∷◌, ◌++◌, map, codes, bytes_eq, Option, Some, None, option_map, option_and_then, if◌then◌else◌, ◌≡◌}
 use Rattle.toml.specs.Data.{Data, Items, no_items, item, Members, as_str, as_array, as_table}
 use Rattle.toml.specs.Parse.{parse_document}
-use Rattle.oci_rules.specs.Rules.{Level, must, stated, should, host, Platform, linux, windows, solaris, vm, zos, freebsd, Test, Rule}
+use Rattle.oci_rules.specs.Rules.{Level, must, stated, should, host, Platform, linux, windows, solaris, vm, zos, freebsd, Place, Test, Rule}
 use Rattle.oci_policies.specs.Conditions.{condition_in}
 use Rattle.oci_policies.specs.Places.{Step, if_so, along, steps_of, steps_in}
 use Rattle.oci_policies.specs.Tests.{test_named}
@@ -79,18 +79,21 @@ head_of ms =
 abbrev pub Worded : Type 0
 Worded = Rule × List ℕ
 
-abbrev pub rule_at : Head → List Step → Worded
-rule_at h steps = (
+unfoldable pub rule_placed : Head → Place → Worded
+rule_placed h place = (
   record {
     name = h.name;
     level = h.level;
     section = h.section;
     platforms = h.platforms;
-    place = along steps;
+    place = place;
     test = h.test;
   },
   h.message,
 )
+
+abbrev pub rule_at : Head → List Step → Worded
+rule_at h steps = rule_placed h (along steps)
 
 -- the rules of a table: one for each of its places
 abbrev pub rules_of : Members → Option (List Worded)

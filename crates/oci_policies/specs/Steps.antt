@@ -7,7 +7,7 @@ use Rattle.oci_rules.specs.declared.rule.Rule.{Rule}
 use Rattle.oci_policies.specs.Places as places
 use Rattle.oci_policies.specs.Policies.{Head, Worded}
 
-abbrev pub step_view : Step → places.Step
+unfoldable pub step_view : Step → places.Step
 step_view (step.Member name) = places.to_member name.now
 step_view step.EachItem = places.to_each_item
 step_view step.EachMember = places.to_each_member

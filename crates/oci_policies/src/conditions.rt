@@ -47,6 +47,7 @@ fn texts_or_none<'a>(
     }
 }
 
+#[tactic(auto, using(crate::proofs::Both::first_missing, crate::proofs::Both::second_missing, crate::proofs::Both::both_there, crate::proofs::Both::mapped_missing))]
 fn item<'a>(arena: &'a Bump, table: &Table) -> Result<Check<'a>, Fault>
     ensures { Reads check_of result (conditions.item_of (table_view table.now)) }
 {
@@ -110,6 +111,7 @@ fn checked<'a>(arena: &'a Bump, table: &Table, alloc: Global) -> Result<Check<'a
 }
 
 /// A condition.
+#[tactic(auto, using(crate::proofs::Both::first_missing, crate::proofs::Both::second_missing, crate::proofs::Both::both_there, crate::proofs::Both::mapped_missing))]
 pub(crate) fn condition<'a>(
     arena: &'a Bump,
     value: &Value,

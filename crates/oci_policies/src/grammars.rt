@@ -58,7 +58,7 @@ fn grammars() -> &'static [(&'static str, Grammar)]
     &GRAMMARS
 }
 
-/// What stands beside the name.
+/// The grammar with the name.
 fn named(rows: &[(&str, Grammar)], name: &str) -> Option<Grammar>
     ensures { result ≡ defined.named (map (λ r. (r.0.now, r.1)) rows.now) name.now }
 {
@@ -71,6 +71,7 @@ fn named(rows: &[(&str, Grammar)], name: &str) -> Option<Grammar>
 }
 
 /// A grammar by its name.
+#[tactic(auto, unfolding(crate::specs::Grammars::grammar_in))]
 pub(crate) fn grammar(key: &'static str, value: &Value) -> Result<Grammar, Fault>
     ensures { Reads (λ g. g) result (defined.grammar_in (view value.now)) }
 {

@@ -42,6 +42,7 @@ fn item_names() -> &'static [&'static str]
     &ITEM_NAMES
 }
 
+#[tactic(auto, using(crate::proofs::Both::first_missing, crate::proofs::Both::second_missing, crate::proofs::Both::both_there, crate::proofs::Both::mapped_missing))]
 fn reserved<'a>(arena: &'a Bump, table: &Table) -> Result<Test<'a>, Fault>
     ensures { Reads test_of result (tests.reserved_of (table_view table.now)) }
 {
@@ -50,6 +51,7 @@ fn reserved<'a>(arena: &'a Bump, table: &Table) -> Result<Test<'a>, Fault>
     Ok(Test::Reserved(prefix, names))
 }
 
+#[tactic(auto, using(crate::proofs::Both::first_missing, crate::proofs::Both::second_missing, crate::proofs::Both::both_there, crate::proofs::Both::mapped_missing), unfolding(crate::specs::Tests::sum_of))]
 fn sum<'a>(arena: &'a Bump, table: &Table) -> Result<Test<'a>, Fault>
     ensures { Reads test_of result (tests.sum_of (table_view table.now)) }
 {
@@ -58,6 +60,7 @@ fn sum<'a>(arena: &'a Bump, table: &Table) -> Result<Test<'a>, Fault>
     Ok(Test::SumAtMost(first, second, most))
 }
 
+#[tactic(auto, using(crate::proofs::Both::first_missing, crate::proofs::Both::second_missing, crate::proofs::Both::both_there, crate::proofs::Both::mapped_missing))]
 fn item<'a>(arena: &'a Bump, table: &Table) -> Result<Test<'a>, Fault>
     ensures { Reads test_of result (tests.item_of (table_view table.now)) }
 {
@@ -102,7 +105,78 @@ fn key<'a>(arena: &'a Bump, value: &Value, alloc: Global) -> Result<Key<'a>, Fau
     }
 }
 
+/// A test of arrays, by its name.
+#[tactic(auto, unfolding(crate::specs::Tests::array_test))]
+fn array_test<'a>(
+    arena: &'a Bump,
+    key_name: &str,
+    value: &Value,
+    alloc: Global,
+) -> Result<Test<'a>, Fault>
+    ensures { Reads test_of result (tests.array_test key_name.now (view value.now)) }
+{
+    match key_name {
+        "lists" => Ok(Test::Lists(texts(arena, "lists", value)?)),
+        "lists_item" => item(arena, table_of(item_names(), "lists_item", value, alloc)?),
+        "distinct" => Ok(Test::Distinct(key(arena, value, alloc)?)),
+        _ => Err(unknown(key_name, alloc)),
+    }
+}
+
+/// A test of objects or of arrays, by its name.
+#[tactic(auto, unfolding(crate::specs::Tests::object_test))]
+fn object_test<'a>(
+    arena: &'a Bump,
+    key_name: &str,
+    value: &Value,
+    alloc: Global,
+) -> Result<Test<'a>, Fault>
+    ensures { Reads test_of result (tests.object_test key_name.now (view value.now)) }
+{
+    match key_name {
+        "there" => Ok(Test::There(kept_text(arena, "there", value)?)),
+        "absent" => Ok(Test::Absent(kept_text(arena, "absent", value)?)),
+        "either" => Ok(Test::Either(texts(arena, "either", value)?)),
+        "at_most" => {
+            let (first, second) = pair(arena, "at_most", value)?;
+            Ok(Test::AtMost(first, second))
+        }
+        "sum_at_most" => sum(arena, table_of(sum_names(), "sum_at_most", value, alloc)?),
+        "among" => {
+            let (first, second) = pair(arena, "among", value)?;
+            Ok(Test::Among(first, second))
+        }
+        _ => array_test(arena, key_name, value, alloc),
+    }
+}
+
+/// A test of numbers, booleans and lengths, or of objects or arrays, by its name.
+#[tactic(auto, unfolding(crate::specs::Tests::size_test))]
+fn size_test<'a>(
+    arena: &'a Bump,
+    key_name: &str,
+    value: &Value,
+    alloc: Global,
+) -> Result<Test<'a>, Fault>
+    ensures { Reads test_of result (tests.size_test key_name.now (view value.now)) }
+{
+    match key_name {
+        "within" => {
+            let (low, high) = bounds("within", value, alloc)?;
+            Ok(Test::Within(low, high))
+        }
+        "boolean" => Ok(Test::Boolean(boolean("boolean", value)?)),
+        "not_empty" => {
+            yes("not_empty", value)?;
+            Ok(Test::NotEmpty)
+        }
+        "length_at_most" => Ok(Test::LengthAtMost(natural("length_at_most", value)? as usize)),
+        _ => object_test(arena, key_name, value, alloc),
+    }
+}
+
 /// A test, by its name.
+#[tactic(auto, unfolding(crate::specs::Tests::test_named))]
 pub(crate) fn test<'a>(
     arena: &'a Bump,
     key_name: &str,
@@ -117,31 +191,6 @@ pub(crate) fn test<'a>(
         "none_of" => Ok(Test::NoneOf(texts(arena, "none_of", value)?)),
         "begins" => Ok(Test::Begins(kept_text(arena, "begins", value)?)),
         "reserved" => reserved(arena, table_of(reserved_names(), "reserved", value, alloc)?),
-        "within" => {
-            let (low, high) = bounds("within", value, alloc)?;
-            Ok(Test::Within(low, high))
-        }
-        "boolean" => Ok(Test::Boolean(boolean("boolean", value)?)),
-        "there" => Ok(Test::There(kept_text(arena, "there", value)?)),
-        "absent" => Ok(Test::Absent(kept_text(arena, "absent", value)?)),
-        "either" => Ok(Test::Either(texts(arena, "either", value)?)),
-        "not_empty" => {
-            yes("not_empty", value)?;
-            Ok(Test::NotEmpty)
-        }
-        "length_at_most" => Ok(Test::LengthAtMost(natural("length_at_most", value)? as usize)),
-        "at_most" => {
-            let (first, second) = pair(arena, "at_most", value)?;
-            Ok(Test::AtMost(first, second))
-        }
-        "sum_at_most" => sum(arena, table_of(sum_names(), "sum_at_most", value, alloc)?),
-        "lists" => Ok(Test::Lists(texts(arena, "lists", value)?)),
-        "lists_item" => item(arena, table_of(item_names(), "lists_item", value, alloc)?),
-        "distinct" => Ok(Test::Distinct(key(arena, value, alloc)?)),
-        "among" => {
-            let (first, second) = pair(arena, "among", value)?;
-            Ok(Test::Among(first, second))
-        }
-        _ => Err(unknown(key_name, alloc)),
+        _ => size_test(arena, key_name, value, alloc),
     }
 }

@@ -1,5 +1,5 @@
 //! The places of a policy: JSON Pointers with steps to each item and member.
-ghost use Rattle.std.specs.Prelude.{◌≡◌, ◌==◌, IfOk};
+ghost use Rattle.std.specs.Prelude.{◌≡◌, ◌==◌, option_map, IfOk};
 ghost use Rattle.std.specs.List.{slice_split};
 ghost use Rattle.oci_rules.specs.Tables.{texts_of};
 ghost use Rattle.oci_policies.specs.Places as places;
@@ -15,12 +15,19 @@ use oci_rules::Step;
 use std::alloc::{AllocError, Global};
 use toml::Value;
 
-/// What stands between slashes.
+/// The texts between slashes.
 fn between_slashes<'t>(text: &'t str, alloc: Global) -> Result<Vec<&'t str>, AllocError>
     ensures { IfOk result (λ v. texts_of v.items ≡ slice_split (λ b. b == 47) text.now) }
 {
     let parts: Vec<&str> = text.split('/').collect(alloc)?;
     Ok(parts)
+}
+
+/// The text after the slash with which it begins.
+fn behind_slash(text: &str) -> Option<&str>
+    ensures { option_map (λ t. t.now) result ≡ places.behind_slash text.now }
+{
+    text.strip_prefix('/')
 }
 
 /// The parts of a pointer.
@@ -30,7 +37,7 @@ fn parts<'t>(key: &'static str, text: &'t str, alloc: Global) -> Result<Vec<&'t 
     if text.is_empty() {
         return Ok(Vec::new(alloc));
     }
-    match text.strip_prefix('/') {
+    match behind_slash(text) {
         Some(rest) => Ok(between_slashes(rest, alloc)?),
         None => Err(expected(key, "a place, as `/process/args/*`")),
     }
@@ -53,6 +60,7 @@ fn name<'a>(arena: &'a Bump, key: &'static str, part: &str) -> Result<&'a str, F
     }
 }
 
+#[tactic(auto, unfolding(crate::specs::Places::step_of, crate::specs::Steps::step_view))]
 fn step<'a>(arena: &'a Bump, key: &'static str, part: &str) -> Result<Step<'a>, Fault>
     ensures { Reads step_view result (places.step_of part.now) }
 {

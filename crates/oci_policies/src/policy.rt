@@ -30,7 +30,7 @@ impl<'a> Policy<'a> {
     /// Reads a policy from the text of a TOML file (docs/POLICIES.md). Its rules are kept in the arena.
     ///
     /// Fails with `Toml` if the text is no TOML document, with `Rule` if the document is no policy, and with `Memory` if out of
-    /// memory. The line of a `Rule` is that of the rule's header, `[[rule]]`, where each stands in a line of its own.
+    /// memory. The line of a `Rule` is that of the rule's header, `[[rule]]`, where each has a line of its own.
     pub fn from_toml(text: &str, arena: &'a Bump, alloc: Global) -> Result<Policy<'a>, PolicyError>
         ensures ok { IfOk result (λ p. IsPolicy text.now (map worded p.rules.now)) }
         ensures refused { IfErr result (λ e. ¬ (e ≡ Memory) → (rules : List Worded) → ¬ IsPolicy text.now rules) }
@@ -104,7 +104,7 @@ fn rules<'a>(
     })
 }
 
-/// The error for a fault in the table at this index.
+/// The error for what is wrong in the table at this index.
 fn located(fault: Fault, text: &str, index: usize) -> PolicyError
     ensures { (result ≡ Memory) ↔ (fault ≡ reading.Memory) }
 {
@@ -117,7 +117,7 @@ fn located(fault: Fault, text: &str, index: usize) -> PolicyError
     }
 }
 
-/// The line of the header of the table at this index, as far as each stands in a line of its own.
+/// The line of the header of the table at this index, as far as each has a line of its own.
 fn line_of(text: &str, index: usize) -> usize {
     let mut line = 0usize;
     let mut headers = 0usize;

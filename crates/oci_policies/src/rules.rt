@@ -1,9 +1,9 @@
 //! The rules of a policy, table by table.
 ghost use Rattle.std.specs.Prelude.{◌≡◌, ◌++◌, [], map, codes, MatchResult, IfOk, OnOk, IfErr, Some, None};
-ghost use Rattle.oci_rules.specs.Tables.{texts_of, level_of, platform_of, test_of};
+ghost use Rattle.oci_rules.specs.Tables.{texts_of, level_of, platform_of, place_of, test_of};
 ghost use Rattle.oci_policies.specs.declared.error.Fault.TheVariants.{Memory};
 ghost use Rattle.oci_policies.specs.Policies as policies;
-ghost use Rattle.oci_policies.specs.Policies.{rule_at};
+ghost use Rattle.oci_policies.specs.Policies.{rule_at, rule_placed};
 ghost use Rattle.oci_policies.specs.Places.{steps_in};
 ghost use Rattle.oci_policies.specs.Steps.{step_view, steps_view, head_view, worded};
 ghost use Rattle.oci_policies.specs.Values.{Reads, each, list_in, under_or, behind};
@@ -119,6 +119,7 @@ fn test_in<'a>(arena: &'a Bump, table: &Table, alloc: Global) -> Result<Test<'a>
 }
 
 /// What the rules of a table have alike: a rule that looks nowhere yet.
+#[tactic(auto, using(crate::proofs::Both::first_missing, crate::proofs::Both::second_missing, crate::proofs::Both::both_there, crate::proofs::Both::mapped_missing))]
 fn head<'a>(arena: &'a Bump, table: &Table, alloc: Global) -> Result<Rule<'a>, Fault>
     ensures { Reads head_view result (policies.head_of (table_view table.now)) }
 {
@@ -191,6 +192,7 @@ fn conditions<'a>(arena: &'a Bump, value: &Value, alloc: Global) -> Result<Vec<S
 }
 
 /// A condition, as a step.
+#[tactic(auto, unfolding(crate::specs::Steps::step_view))]
 fn step_if<'a>(arena: &'a Bump, value: &Value, alloc: Global) -> Result<Step<'a>, Fault>
     ensures { Reads step_view result (policies.step_if (view value.now)) }
 {
@@ -231,6 +233,7 @@ fn then<'a>(arena: &'a Bump, table: &Table, alloc: Global) -> Result<Vec<Step<'a
 }
 
 /// What comes behind each place.
+#[tactic(auto, using(crate::proofs::Both::first_missing, crate::proofs::Both::second_missing, crate::proofs::Both::both_there, crate::proofs::Both::mapped_missing))]
 fn rest<'a>(arena: &'a Bump, table: &Table, alloc: Global) -> Result<Vec<Step<'a>>, Fault>
     ensures { Reads (λ v. steps_view v.items) result (policies.rest_of (table_view table.now)) }
 {
@@ -262,8 +265,24 @@ fn joined<'a>(
     Ok(into_bump_slice(steps))
 }
 
-/// A rule that looks at one place.
-#[tactic(auto, using(crate::proofs::Lists::place_is))]
+/// The rule with this place.
+#[tactic(auto, unfolding(crate::specs::Policies::rule_placed))]
+fn placed<'a>(head: &Rule<'a>, place: &'a [Step<'a>]) -> Rule<'a>
+    ensures { worded result ≡ rule_placed (head_view head.now) (place_of place.now) }
+{
+    Rule {
+        name: head.name,
+        level: head.level,
+        section: head.section,
+        wanted: head.wanted,
+        platforms: head.platforms,
+        place,
+        test: head.test,
+    }
+}
+
+/// The rule that looks at a place and at what comes behind it.
+#[tactic(auto, using(crate::proofs::Lists::place_joined))]
 fn at_place<'a>(
     arena: &'a Bump,
     head: &Rule<'a>,
@@ -273,9 +292,8 @@ fn at_place<'a>(
     ensures ok { IfOk result (λ r. worded r ≡ rule_at (head_view head.now) (steps_view place.now.items ++ steps_view rest.now.items)) }
     ensures memory { IfErr result (λ e. e ≡ Memory) }
 {
-    let mut rule = *head;
-    rule.place = joined(arena, place, rest)?;
-    Ok(rule)
+    let steps = joined(arena, place, rest)?;
+    Ok(placed(head, steps))
 }
 
 /// Adds a rule for each place.
@@ -296,6 +314,7 @@ fn add_places<'a>(
 }
 
 /// Adds the rules of a table.
+#[tactic(auto, using(crate::proofs::Both::first_missing, crate::proofs::Both::second_missing, crate::proofs::Both::both_there, crate::proofs::Both::mapped_missing))]
 pub(crate) fn add_table<'a>(
     arena: &'a Bump,
     value: &Value,

@@ -64,6 +64,17 @@ fn each_text<'a>(
     Ok(into_bump_slice(found))
 }
 
+/// Two strings, if there are two.
+#[tactic(auto, using(crate::proofs::Lists::two_texts_missing))]
+fn two_texts<'a>(texts: &[&'a str]) -> Option<(&'a str, &'a str)>
+    ensures { option_map (λ p. (p.0.now, p.1.now)) result ≡ values.two (texts_of texts.now) }
+{
+    match texts {
+        [first, second] => Some((*first, *second)),
+        _ => None,
+    }
+}
+
 /// An array of two strings.
 pub(crate) fn pair<'a>(
     arena: &'a Bump,
@@ -72,9 +83,9 @@ pub(crate) fn pair<'a>(
 ) -> Result<(&'a str, &'a str), Fault>
     ensures { Reads (λ p. (p.0.now, p.1.now)) result (values.pair_in (view value.now)) }
 {
-    match texts(arena, key, value)? {
-        [first, second] => Ok((*first, *second)),
-        _ => Err(expected(key, "an array of two strings")),
+    match two_texts(texts(arena, key, value)?) {
+        Some(pair) => Ok(pair),
+        None => Err(expected(key, "an array of two strings")),
     }
 }
 
@@ -145,18 +156,29 @@ fn integers(key: &'static str, value: &Value, alloc: Global) -> Result<Vec<i128>
     }
 }
 
+/// Two integers, if there are two.
+#[tactic(auto, using(crate::proofs::Lists::two_missing))]
+fn two_integers(integers: &[i128]) -> Option<(i128, i128)>
+    ensures { result ≡ values.two integers.now }
+{
+    match integers {
+        [first, second] => Some((*first, *second)),
+        _ => None,
+    }
+}
+
 /// An array of two integers.
 pub(crate) fn bounds(key: &'static str, value: &Value, alloc: Global) -> Result<(i128, i128), Fault>
     ensures { Reads (λ b. b) result (values.bounds_in (view value.now)) }
 {
     let integers = integers(key, value, alloc)?;
-    match integers.as_slice() {
-        [low, high] => Ok((*low, *high)),
-        _ => Err(expected(key, "an array of two integers")),
+    match two_integers(integers.as_slice()) {
+        Some(bounds) => Ok(bounds),
+        None => Err(expected(key, "an array of two integers")),
     }
 }
 
-/// What stands under a name that has to be there.
+/// The value under a name that has to be there.
 pub(crate) fn under<'t>(table: &'t Table, name: &'static str) -> Result<&'t Value, Fault>
     ensures { Reads (λ v. view v.now) result (get_member name.now (table_view table.now)) }
 {
@@ -166,7 +188,7 @@ pub(crate) fn under<'t>(table: &'t Table, name: &'static str) -> Result<&'t Valu
     }
 }
 
-/// What stands under a name, if anything does.
+/// The value under a name, if there is one.
 pub(crate) fn found<'t>(table: &'t Table, name: &str) -> Option<&'t Value>
     ensures { option_map (λ v. view v.now) result ≡ get_member name.now (table_view table.now) }
 {
