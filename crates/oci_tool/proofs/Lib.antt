@@ -1,0 +1,5 @@
+pub mod Allowed
+pub mod Counted
+pub mod Each
+pub mod Held
+pub mod Told

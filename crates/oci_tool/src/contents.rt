@@ -1,0 +1,68 @@
+//! The command `digest` on files.
+ghost use Rattle.std.specs.Prelude.{◌≡◌, ◌++◌, ◌∷◌, [], List, ℕ, codes, IfOk, string_bytes};
+ghost use Rattle.oci_content.specs.Content.{checksum_of, checksum_text};
+ghost use Rattle.oci_tool.specs.Done.{IsStatus};
+
+use crate::store::Store;
+use crate::texts::complain_of;
+use oci_content::{Algorithm, Checksum, digest_of};
+use oci_json_io::write_text;
+use oci_report::render::on_a_line;
+use oci_text_base::Result;
+use std::alloc::{AllocError, Global};
+use std::io::Write;
+
+/// Writes the digest of each file, a line each. Returns 0 if that was done, and 3 if a file could not be read, which a line on standard
+/// error says; those of the others are written all the same. Fails if they cannot be written, or if out of memory.
+pub fn file_digests<S: Store, W: Write, E: Write>(
+    algorithm: Algorithm,
+    files: &[&str],
+    alloc: Global,
+    store: &mut S,
+    writer: &mut W,
+    errors: &mut E,
+) -> Result<u8>
+    ensures { IfOk result IsStatus }
+{
+    let mut unread = false;
+    for name in files {
+        match store.checksum(algorithm, name) {
+            Ok(checksum) => {
+                let line = checksum_line(&checksum, name, alloc)?;
+                write_text(line.as_bytes(), writer)?;
+            }
+            Err(fault) => {
+                complain_of(name, &fault, alloc, errors);
+                unread = true;
+            }
+        }
+    }
+    Ok(if unread { 3 } else { 0 })
+}
+
+/// The line of a file: the digest of these bytes, and its name behind two spaces.
+pub fn digest_line(
+    algorithm: Algorithm,
+    name: &str,
+    bytes: &[u8],
+    alloc: Global,
+) -> std::result::Result<String, AllocError>
+    ensures { IfOk result (λ t. (shown : List ℕ) × (string_bytes t ≡ checksum_text (checksum_of algorithm bytes.now) ++ (codes "  " ++ (shown ++ 10 ∷ [])))) }
+{
+    checksum_line(&digest_of(algorithm, bytes), name, alloc)
+}
+
+fn checksum_line(
+    checksum: &Checksum,
+    name: &str,
+    alloc: Global,
+) -> std::result::Result<String, AllocError>
+    ensures { IfOk result (λ t. (shown : List ℕ) × (string_bytes t ≡ checksum_text checksum.now ++ (codes "  " ++ (shown ++ 10 ∷ [])))) }
+{
+    let mut line = checksum.text(alloc)?;
+    let shown = on_a_line(name, alloc)?;
+    line.push_str("  ")?;
+    line.push_str(shown.as_str())?;
+    line.push_str("\n")?;
+    Ok(line)
+}
