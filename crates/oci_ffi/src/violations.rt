@@ -13,11 +13,11 @@ use crate::input::status_of;
 use crate::kind::schema_of;
 use crate::status::{BUFFER_TOO_SMALL, DONE, INVALID_JSON, UNKNOWN_KIND};
 use oci_json_io::value_from_slice;
-use oci_schema::{Violation, violations};
+use oci_schema::{violation_lines, violations};
 use oci_schema_types::Schema;
 use oci_schemas::OciRecords;
 use oci_text_base::Result;
-use std::alloc::{AllocError, Global};
+use std::alloc::Global;
 
 /// The violations in a document.
 #[derive(Drop)]
@@ -26,18 +26,6 @@ struct Findings {
     lines: String,
     /// How many there are.
     count: usize,
-}
-
-/// A line for each violation.
-fn lines_of(found: &Vec<Violation>, alloc: Global) -> std::result::Result<String, AllocError> {
-    let mut lines = String::new(alloc);
-    for violation in found {
-        let pointer = violation.pointer.as_str();
-        let expected = violation.expected;
-        let line = format!(in alloc; "{pointer}: {expected}\n")?;
-        lines.push_str(line.as_str())?;
-    }
-    Ok(lines)
 }
 
 /// The violations of a schema in a document.
@@ -50,7 +38,7 @@ fn found_in(schema: &Schema, alloc: Global, document: &[u8]) -> Result<Findings>
 {
     let value = value_from_slice(alloc, document)?;
     let found = violations(&OciRecords, schema, &value, alloc)?;
-    let lines = lines_of(&found, alloc)?;
+    let lines = violation_lines(&found, alloc)?;
     let count = found.len();
     Ok(Findings { lines, count })
 }
