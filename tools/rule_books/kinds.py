@@ -87,7 +87,8 @@ def answers(model, kind):
     out += f"use Rattle.{CRATE}.proofs.Chains.{{collects}}\n"
     out += defined(model, [kind])
     out += f"use Rattle.{CRATE}.proofs.{snake_of(kind)}_books.Goals as goal\n\npub returns : goal.returns\nreturns c =\n"
-    return out + f"    collects c.collected.result (λ v. v.items) _\n    ({rules})\n    c.collected.ensures\n    {have}\n"
+    parts = "".join(f"c.{it.word}_rules.result ∷ " for it in books) + "[]"
+    return out + f"    collects c.collected.result (λ v. v.items)\n    ({parts})\n    ({rules})\n    c.collected.ensures\n    {have}\n"
 
 
 def files(model):

@@ -13,7 +13,7 @@ complete -c ciderglen -n __fish_use_subcommand -a schema -d 'Lists the members o
 complete -c ciderglen -n '__fish_seen_subcommand_from help' -f -a 'check fmt verify diff tree ref digest pin rules schema'
 complete -c ciderglen -n '__fish_seen_subcommand_from check' -s k -l kind -x -a 'manifest index config image-config artifact layout descriptor error repositories tags reference spec runtime-config state process-state features' -d 'The kind of the documents; without it, it is found out'
 complete -c ciderglen -n '__fish_seen_subcommand_from check' -l rules -d 'Check the rules of the specifications beside the schema'
-complete -c ciderglen -n '__fish_seen_subcommand_from check' -l policy -x -a 'restricted-container published-image' -d 'Check the rules of this policy too'
+complete -c ciderglen -n '__fish_seen_subcommand_from check' -l policy -r -F -d 'Check the rules of the policy in this TOML file too'
 complete -c ciderglen -n '__fish_seen_subcommand_from check' -l level -x -a 'must stated should host' -d 'The weakest level of rules that are checked'
 complete -c ciderglen -n '__fish_seen_subcommand_from check' -l platform -x -a 'linux windows solaris vm zos freebsd' -d 'The platform of the documents; without it, they say it'
 complete -c ciderglen -n '__fish_seen_subcommand_from check' -l unknown -x -a 'deny warn allow' -d 'What is done with members that the schema does not list'

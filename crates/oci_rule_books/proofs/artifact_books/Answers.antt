@@ -6,7 +6,8 @@ use Rattle.oci_rule_books.proofs.artifact_books.Goals as goal
 
 pub returns : goal.returns
 returns c =
-    collects c.collected.result (λ v. v.items) _
+    collects c.collected.result (λ v. v.items)
+    (c.artifact_rules.result ∷ c.artifact_annotations_rules.result ∷ c.artifact_blobs_rules.result ∷ c.artifact_blobs_annotations_rules.result ∷ c.artifact_subject_rules.result ∷ c.artifact_subject_annotations_rules.result ∷ [])
     (artifact_rules ∷ artifact_annotations_rules ∷ artifact_blobs_rules ∷ artifact_blobs_annotations_rules ∷ artifact_subject_rules ∷ artifact_subject_annotations_rules ∷ [])
     c.collected.ensures
     (c.artifact_rules.ensures, (c.artifact_annotations_rules.ensures, (c.artifact_blobs_rules.ensures, (c.artifact_blobs_annotations_rules.ensures, (c.artifact_subject_rules.ensures, (c.artifact_subject_annotations_rules.ensures, tt))))))

@@ -6,7 +6,8 @@ use Rattle.oci_rule_books.proofs.config_books.Goals as goal
 
 pub returns : goal.returns
 returns c =
-    collects c.collected.result (λ v. v.items) _
+    collects c.collected.result (λ v. v.items)
+    (c.config_rules.result ∷ c.config_combinations_rules.result ∷ c.config_labels_rules.result ∷ [])
     (config_rules ∷ config_combinations_rules ∷ config_labels_rules ∷ [])
     c.collected.ensures
     (c.config_rules.ensures, (c.config_combinations_rules.ensures, (c.config_labels_rules.ensures, tt)))

@@ -6,7 +6,8 @@ use Rattle.oci_rule_books.proofs.descriptor_books.Goals as goal
 
 pub returns : goal.returns
 returns c =
-    collects c.collected.result (λ v. v.items) _
+    collects c.collected.result (λ v. v.items)
+    (c.descriptor_rules.result ∷ c.descriptor_annotations_rules.result ∷ [])
     (descriptor_rules ∷ descriptor_annotations_rules ∷ [])
     c.collected.ensures
     (c.descriptor_rules.ensures, (c.descriptor_annotations_rules.ensures, tt))

@@ -6,7 +6,8 @@ use Rattle.oci_rule_books.proofs.error_books.Goals as goal
 
 pub returns : goal.returns
 returns c =
-    collects c.collected.result (λ v. v.items) _
+    collects c.collected.result (λ v. v.items)
+    (c.error_rules.result ∷ [])
     (error_rules ∷ [])
     c.collected.ensures
     (c.error_rules.ensures, tt)

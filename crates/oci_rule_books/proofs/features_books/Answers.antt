@@ -6,7 +6,8 @@ use Rattle.oci_rule_books.proofs.features_books.Goals as goal
 
 pub returns : goal.returns
 returns c =
-    collects c.collected.result (λ v. v.items) _
+    collects c.collected.result (λ v. v.items)
+    (c.features_rules.result ∷ [])
     (features_rules ∷ [])
     c.collected.ensures
     (c.features_rules.ensures, tt)

@@ -6,7 +6,8 @@ use Rattle.oci_rule_books.proofs.index_books.Goals as goal
 
 pub returns : goal.returns
 returns c =
-    collects c.collected.result (λ v. v.items) _
+    collects c.collected.result (λ v. v.items)
+    (c.index_rules.result ∷ c.index_combinations_rules.result ∷ c.index_annotations_rules.result ∷ c.index_manifests_rules.result ∷ c.index_manifests_annotations_rules.result ∷ c.index_subject_rules.result ∷ c.index_subject_annotations_rules.result ∷ [])
     (index_rules ∷ index_combinations_rules ∷ index_annotations_rules ∷ index_manifests_rules ∷ index_manifests_annotations_rules ∷ index_subject_rules ∷ index_subject_annotations_rules ∷ [])
     c.collected.ensures
     (c.index_rules.ensures, (c.index_combinations_rules.ensures, (c.index_annotations_rules.ensures, (c.index_manifests_rules.ensures, (c.index_manifests_annotations_rules.ensures, (c.index_subject_rules.ensures, (c.index_subject_annotations_rules.ensures, tt)))))))

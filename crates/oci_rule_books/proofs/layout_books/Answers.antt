@@ -6,7 +6,8 @@ use Rattle.oci_rule_books.proofs.layout_books.Goals as goal
 
 pub returns : goal.returns
 returns c =
-    collects c.collected.result (λ v. v.items) _
+    collects c.collected.result (λ v. v.items)
+    (c.layout_rules.result ∷ [])
     (layout_rules ∷ [])
     c.collected.ensures
     (c.layout_rules.ensures, tt)

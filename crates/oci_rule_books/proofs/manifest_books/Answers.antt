@@ -6,7 +6,8 @@ use Rattle.oci_rule_books.proofs.manifest_books.Goals as goal
 
 pub returns : goal.returns
 returns c =
-    collects c.collected.result (λ v. v.items) _
+    collects c.collected.result (λ v. v.items)
+    (c.manifest_rules.result ∷ c.manifest_annotations_rules.result ∷ c.manifest_config_rules.result ∷ c.manifest_config_annotations_rules.result ∷ c.manifest_layers_rules.result ∷ c.manifest_layers_annotations_rules.result ∷ c.manifest_subject_rules.result ∷ c.manifest_subject_annotations_rules.result ∷ [])
     (manifest_rules ∷ manifest_annotations_rules ∷ manifest_config_rules ∷ manifest_config_annotations_rules ∷ manifest_layers_rules ∷ manifest_layers_annotations_rules ∷ manifest_subject_rules ∷ manifest_subject_annotations_rules ∷ [])
     c.collected.ensures
     (c.manifest_rules.ensures, (c.manifest_annotations_rules.ensures, (c.manifest_config_rules.ensures, (c.manifest_config_annotations_rules.ensures, (c.manifest_layers_rules.ensures, (c.manifest_layers_annotations_rules.ensures, (c.manifest_subject_rules.ensures, (c.manifest_subject_annotations_rules.ensures, tt))))))))

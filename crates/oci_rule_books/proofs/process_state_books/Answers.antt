@@ -6,7 +6,8 @@ use Rattle.oci_rule_books.proofs.process_state_books.Goals as goal
 
 pub returns : goal.returns
 returns c =
-    collects c.collected.result (λ v. v.items) _
+    collects c.collected.result (λ v. v.items)
+    (c.process_state_rules.result ∷ [])
     (process_state_rules ∷ [])
     c.collected.ensures
     (c.process_state_rules.ensures, tt)

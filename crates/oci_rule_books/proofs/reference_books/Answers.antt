@@ -6,7 +6,8 @@ use Rattle.oci_rule_books.proofs.reference_books.Goals as goal
 
 pub returns : goal.returns
 returns c =
-    collects c.collected.result (λ v. v.items) _
+    collects c.collected.result (λ v. v.items)
+    (c.reference_rules.result ∷ [])
     (reference_rules ∷ [])
     c.collected.ensures
     (c.reference_rules.ensures, tt)

@@ -6,7 +6,8 @@ use Rattle.oci_rule_books.proofs.repositories_books.Goals as goal
 
 pub returns : goal.returns
 returns c =
-    collects c.collected.result (λ v. v.items) _
+    collects c.collected.result (λ v. v.items)
+    (c.repositories_rules.result ∷ [])
     (repositories_rules ∷ [])
     c.collected.ensures
     (c.repositories_rules.ensures, tt)

@@ -9,7 +9,8 @@ use Rattle.oci_rule_books.proofs.spec_books.Goals as goal
 
 pub returns : goal.returns
 returns c =
-    collects c.collected.result (λ v. v.items) _
+    collects c.collected.result (λ v. v.items)
+    (c.spec_rules.result ∷ c.spec_mounts_rules.result ∷ c.spec_hooks_rules.result ∷ c.process_rules.result ∷ c.process_capabilities_rules.result ∷ c.linux_rules.result ∷ c.linux_mappings_rules.result ∷ c.linux_mappings_host_rules.result ∷ c.linux_resources_rules.result ∷ c.linux_block_rules.result ∷ c.linux_seccomp_rules.result ∷ c.linux_sysctl_rules.result ∷ c.platforms_rules.result ∷ [])
     (spec_rules ∷ spec_mounts_rules ∷ spec_hooks_rules ∷ process_rules ∷ process_capabilities_rules ∷ linux_rules ∷ linux_mappings_rules ∷ linux_mappings_host_rules ∷ linux_resources_rules ∷ linux_block_rules ∷ linux_seccomp_rules ∷ linux_sysctl_rules ∷ platforms_rules ∷ [])
     c.collected.ensures
     (c.spec_rules.ensures, (c.spec_mounts_rules.ensures, (c.spec_hooks_rules.ensures, (c.process_rules.ensures, (c.process_capabilities_rules.ensures, (c.linux_rules.ensures, (c.linux_mappings_rules.ensures, (c.linux_mappings_host_rules.ensures, (c.linux_resources_rules.ensures, (c.linux_block_rules.ensures, (c.linux_seccomp_rules.ensures, (c.linux_sysctl_rules.ensures, (c.platforms_rules.ensures, tt)))))))))))))

@@ -6,7 +6,8 @@ use Rattle.oci_rule_books.proofs.state_books.Goals as goal
 
 pub returns : goal.returns
 returns c =
-    collects c.collected.result (λ v. v.items) _
+    collects c.collected.result (λ v. v.items)
+    (c.state_rules.result ∷ [])
     (state_rules ∷ [])
     c.collected.ensures
     (c.state_rules.ensures, tt)

@@ -6,7 +6,8 @@ use Rattle.oci_rule_books.proofs.tags_books.Goals as goal
 
 pub returns : goal.returns
 returns c =
-    collects c.collected.result (λ v. v.items) _
+    collects c.collected.result (λ v. v.items)
+    (c.tags_rules.result ∷ [])
     (tags_rules ∷ [])
     c.collected.ensures
     (c.tags_rules.ensures, tt)
