@@ -44,10 +44,10 @@ pub enum Reason {
     #[error("unknown member `{0}`")]
     Unknown(String),
     /// The table has no test.
-    #[error("a test is missing, as `one_of`")]
+    #[error("it tests nothing: a member as `one_of` is missing")]
     NoTest,
     /// The table has two members of which one is a test, or none.
-    #[error("`{0}` beside a test: a rule has one test")]
+    #[error("`{0}` beside another: a rule tests one thing")]
     SecondTest(String),
 }
 
