@@ -3,6 +3,7 @@
 #![tactic(auto)]
 
 mod absent;
+mod by_value;
 mod calls;
 mod fields;
 mod lane;

@@ -12,6 +12,7 @@ ghost use Rattle.oci_schema_bytes.specs.Fields.{FieldMeans, EachField, FieldIsAc
 ghost use Rattle.oci_schema_bytes.specs.Walks.{IfDone, WritesNormal, IsAfter};
 
 use crate::absent::write_absent;
+use crate::by_value::{is_by_value, write_by_value};
 use crate::fields::{Field, fields_of};
 use crate::scalar::write_scalar;
 use json::Element;
@@ -57,7 +58,12 @@ fn write_part<T: Records>(
     ensures { IfDone result (WritesNormal (part_shape (T.shape_at records.now) part.now) element.now out.old out.new) }
 {
     match part {
-        Part::Scalar(scalar) => write_scalar(scalar, element, out),
+        Part::Scalar(scalar) => {
+            if is_by_value(scalar) {
+                return write_by_value(records, scalar, element, alloc, out);
+            }
+            write_scalar(scalar, element, out)
+        }
         Part::Record(place) => write_record(records, *place, element, depth, alloc, out),
     }
 }
