@@ -190,16 +190,26 @@ def heading_of(function, item):
     return f"`{function}`"
 
 
+def default_of(item):
+    """The variant that an enum's own `Default` impl returns, if it has one."""
+    for impl in sources.impls_by_type().get(item, ()):
+        found = re.search(rf"fn default\(\) -> {item.name} \{{\s*{item.name}::(\w+)\s*\}}", "\n".join(impl.lines))
+        if found and "Default for" in impl.head():
+            return found[1]
+    return None
+
+
 def variants_of(item):
     """A table of an enum's variants, with their texts and numbers."""
-    known = equations(item)
+    known, default = equations(item), default_of(item)
     titles = ["variant", *(heading_of(function, item) for function in known), "displayed", "what it is"]
     rows = []
     for variant in item.inner():
         text = re.sub(r",$", "", " ".join(line.strip() for line in variant.lines))
         name = re.match(r"\w+", text)[0]
         shown = re.search(r'#\[error\("(.*)"\)\]', " ".join(variant.attributes))
-        doc = variant.doc + (" (default)" if "#[default]" in variant.attributes else "")
+        is_default = "#[default]" in variant.attributes or name == default
+        doc = f"{variant.doc} (default)".strip() if is_default else variant.doc
         values = [code(values.get(name, "")) for values in known.values()]
         rows.append((code(text), *values, code(shown[1]) if shown else "", cell(doc)))
     return table(titles, rows)

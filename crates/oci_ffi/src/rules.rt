@@ -14,7 +14,7 @@ ghost use Rattle.oci_ffi.specs.Kinds.{kind_numbered};
 ghost use Rattle.oci_ffi.specs.Rules.{Counts, level_numbered, platform_numbered, rules_up_to};
 
 use crate::buffer::put;
-use crate::input::{status_of, value_of};
+use crate::input::status_of;
 use crate::kind::kind_of;
 use crate::level::{is_within, level_of};
 use crate::platform::{FREEBSD, platform_of};
@@ -22,6 +22,7 @@ use crate::status::{
     BUFFER_TOO_SMALL, DONE, INVALID_JSON, OUT_OF_MEMORY, UNKNOWN_KIND, UNKNOWN_LEVEL,
     UNKNOWN_PLATFORM,
 };
+use oci_json_io::value_from_slice;
 use oci_kinds::Kind;
 use oci_rule_books::rules_of;
 use oci_rules::{Broken, Level, Platform, Rule, broken};
@@ -145,7 +146,7 @@ fn report(
 {
     *output_len = 0;
     *count = 0;
-    let value = match value_of(alloc, document) {
+    let value = match value_from_slice(alloc, document) {
         Ok(value) => value,
         Err(error) => return status_of(&error),
     };

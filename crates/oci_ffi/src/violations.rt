@@ -9,9 +9,10 @@ ghost use Rattle.oci_schema_walks.specs.Violations.{violations as all_violations
 ghost use Rattle.oci_ffi.specs.Kinds.{shape_of, shape_numbered};
 
 use crate::buffer::put;
-use crate::input::{status_of, value_of};
+use crate::input::status_of;
 use crate::kind::schema_of;
 use crate::status::{BUFFER_TOO_SMALL, DONE, INVALID_JSON, UNKNOWN_KIND};
+use oci_json_io::value_from_slice;
 use oci_schema::{Violation, violations};
 use oci_schema_types::Schema;
 use oci_schemas::OciRecords;
@@ -47,7 +48,7 @@ fn found_in(schema: &Schema, alloc: Global, document: &[u8]) -> Result<Findings>
     ensures json { IfErr result (λ e. IsJson e → IsNoJson document.now) }
     ensures no_schema { IfErr result (λ e. ¬ IsSchema e) }
 {
-    let value = value_of(alloc, document)?;
+    let value = value_from_slice(alloc, document)?;
     let found = violations(&OciRecords, schema, &value, alloc)?;
     let lines = lines_of(&found, alloc)?;
     let count = found.len();

@@ -4,22 +4,22 @@ use Rattle.std.specs.Prelude.{List, [], ◌++◌}
 use Rattle.oci_kinds.specs.declared.kind.Kind.{Kind}
 use Rattle.oci_kinds.specs.declared.kind.Kind.TheVariants.{Manifest, Index, Config, Artifact, Layout, Descriptor, Error, Repositories, Tags, Reference, Spec, State, ProcessState, Features}
 use Rattle.oci_rules.specs.Rules.{Rule}
-use Rattle.oci_rules_image.specs.Config.{config_rules, config_2_rules, config_combinations_rules, config_combinations_2_rules, config_labels_rules}
+use Rattle.oci_rules_image.specs.Config.{config_rules, config_combinations_rules, config_labels_rules}
 use Rattle.oci_rules_image.specs.Descriptor.{descriptor_rules, descriptor_annotations_rules}
-use Rattle.oci_rules_image.specs.Index.{index_rules, index_2_rules, index_combinations_rules, index_combinations_2_rules, index_annotations_rules, index_manifests_rules, index_manifests_annotations_rules, index_subject_rules, index_subject_annotations_rules}
-use Rattle.oci_rules_image.specs.Manifest.{manifest_rules, manifest_2_rules, manifest_annotations_rules, manifest_config_rules, manifest_config_annotations_rules, manifest_layers_rules, manifest_layers_annotations_rules, manifest_subject_rules, manifest_subject_annotations_rules}
+use Rattle.oci_rules_image.specs.Index.{index_rules, index_combinations_rules, index_annotations_rules, index_manifests_rules, index_manifests_annotations_rules, index_subject_rules, index_subject_annotations_rules}
+use Rattle.oci_rules_image.specs.Manifest.{manifest_rules, manifest_annotations_rules, manifest_config_rules, manifest_config_annotations_rules, manifest_layers_rules, manifest_layers_annotations_rules, manifest_subject_rules, manifest_subject_annotations_rules}
 use Rattle.oci_rules_image.specs.Others.{artifact_rules, artifact_annotations_rules, artifact_blobs_rules, artifact_blobs_annotations_rules, artifact_subject_rules, artifact_subject_annotations_rules, layout_rules, error_rules, repositories_rules, tags_rules, reference_rules}
-use Rattle.oci_rules_runtime.specs.Features.{features_rules, features_2_rules, features_3_rules}
-use Rattle.oci_rules_runtime.specs.Linux.{linux_rules, linux_2_rules, linux_3_rules, linux_mappings_rules, linux_mappings_2_rules, linux_mappings_host_rules, linux_mappings_host_2_rules, linux_resources_rules, linux_resources_2_rules, linux_resources_3_rules, linux_block_rules, linux_block_2_rules, linux_seccomp_rules, linux_seccomp_2_rules, linux_sysctl_rules}
-use Rattle.oci_rules_runtime.specs.Platforms.{platforms_rules, platforms_2_rules}
-use Rattle.oci_rules_runtime.specs.Process.{process_rules, process_2_rules, process_3_rules, process_capabilities_rules, process_capabilities_2_rules}
-use Rattle.oci_rules_runtime.specs.Spec.{spec_rules, spec_2_rules, spec_3_rules, spec_4_rules, spec_mounts_rules, spec_mounts_2_rules, spec_mounts_3_rules, spec_hooks_rules, spec_hooks_2_rules, spec_hooks_3_rules}
-use Rattle.oci_rules_runtime.specs.State.{state_rules, process_state_rules, process_state_2_rules}
+use Rattle.oci_rules_runtime.specs.Features.{features_rules}
+use Rattle.oci_rules_runtime.specs.Linux.{linux_rules, linux_mappings_rules, linux_mappings_host_rules, linux_resources_rules, linux_block_rules, linux_seccomp_rules, linux_sysctl_rules}
+use Rattle.oci_rules_runtime.specs.Platforms.{platforms_rules}
+use Rattle.oci_rules_runtime.specs.Process.{process_rules, process_capabilities_rules}
+use Rattle.oci_rules_runtime.specs.Spec.{spec_rules, spec_mounts_rules, spec_hooks_rules}
+use Rattle.oci_rules_runtime.specs.State.{state_rules, process_state_rules}
 
 abbrev pub rules_of : Kind → List Rule
-rules_of Manifest = manifest_rules ++ (manifest_2_rules ++ (manifest_annotations_rules ++ (manifest_config_rules ++ (manifest_config_annotations_rules ++ (manifest_layers_rules ++ (manifest_layers_annotations_rules ++ (manifest_subject_rules ++ (manifest_subject_annotations_rules ++ []))))))))
-rules_of Index = index_rules ++ (index_2_rules ++ (index_combinations_rules ++ (index_combinations_2_rules ++ (index_annotations_rules ++ (index_manifests_rules ++ (index_manifests_annotations_rules ++ (index_subject_rules ++ (index_subject_annotations_rules ++ []))))))))
-rules_of Config = config_rules ++ (config_2_rules ++ (config_combinations_rules ++ (config_combinations_2_rules ++ (config_labels_rules ++ []))))
+rules_of Manifest = manifest_rules ++ (manifest_annotations_rules ++ (manifest_config_rules ++ (manifest_config_annotations_rules ++ (manifest_layers_rules ++ (manifest_layers_annotations_rules ++ (manifest_subject_rules ++ (manifest_subject_annotations_rules ++ [])))))))
+rules_of Index = index_rules ++ (index_combinations_rules ++ (index_annotations_rules ++ (index_manifests_rules ++ (index_manifests_annotations_rules ++ (index_subject_rules ++ (index_subject_annotations_rules ++ []))))))
+rules_of Config = config_rules ++ (config_combinations_rules ++ (config_labels_rules ++ []))
 rules_of Artifact = artifact_rules ++ (artifact_annotations_rules ++ (artifact_blobs_rules ++ (artifact_blobs_annotations_rules ++ (artifact_subject_rules ++ (artifact_subject_annotations_rules ++ [])))))
 rules_of Layout = layout_rules ++ []
 rules_of Descriptor = descriptor_rules ++ (descriptor_annotations_rules ++ [])
@@ -27,7 +27,7 @@ rules_of Error = error_rules ++ []
 rules_of Repositories = repositories_rules ++ []
 rules_of Tags = tags_rules ++ []
 rules_of Reference = reference_rules ++ []
-rules_of Spec = spec_rules ++ (spec_2_rules ++ (spec_3_rules ++ (spec_4_rules ++ (spec_mounts_rules ++ (spec_mounts_2_rules ++ (spec_mounts_3_rules ++ (spec_hooks_rules ++ (spec_hooks_2_rules ++ (spec_hooks_3_rules ++ (process_rules ++ (process_2_rules ++ (process_3_rules ++ (process_capabilities_rules ++ (process_capabilities_2_rules ++ (linux_rules ++ (linux_2_rules ++ (linux_3_rules ++ (linux_mappings_rules ++ (linux_mappings_2_rules ++ (linux_mappings_host_rules ++ (linux_mappings_host_2_rules ++ (linux_resources_rules ++ (linux_resources_2_rules ++ (linux_resources_3_rules ++ (linux_block_rules ++ (linux_block_2_rules ++ (linux_seccomp_rules ++ (linux_seccomp_2_rules ++ (linux_sysctl_rules ++ (platforms_rules ++ (platforms_2_rules ++ [])))))))))))))))))))))))))))))))
+rules_of Spec = spec_rules ++ (spec_mounts_rules ++ (spec_hooks_rules ++ (process_rules ++ (process_capabilities_rules ++ (linux_rules ++ (linux_mappings_rules ++ (linux_mappings_host_rules ++ (linux_resources_rules ++ (linux_block_rules ++ (linux_seccomp_rules ++ (linux_sysctl_rules ++ (platforms_rules ++ []))))))))))))
 rules_of State = state_rules ++ []
-rules_of ProcessState = process_state_rules ++ (process_state_2_rules ++ [])
-rules_of Features = features_rules ++ (features_2_rules ++ (features_3_rules ++ []))
+rules_of ProcessState = process_state_rules ++ []
+rules_of Features = features_rules ++ []

@@ -11,6 +11,7 @@ pub use oci_schema::{
     Violation, is_valid, normal_value_from_reader, normalize, normalize_pretty, normalize_value,
     violation_lines, violations,
 };
+pub use oci_schema_bytes::{Workspace, is_valid_bytes, normalize_bytes, violations_in_bytes};
 pub use oci_schemas::{OciRecords, oci_records};
 pub use typed::{
     HasSchema, is_valid_as, normalize_as, normalize_pretty_as, normalize_value_as, violations_as,

@@ -1,28 +1,16 @@
 // Command bench makes a call so often as is asked: bench CALL FILE COUNT. The calls manifest, spec, reference and digest are those of
-// the package ciderglen; manifest_json and spec_json read and print a document by encoding/json and the types of image-spec and
-// runtime-spec; digest_go is that of the package go-digest.
+// the package ciderglen; digest_go is that of the package go-digest.
 package main
 
 import (
 	_ "crypto/sha256"
-	"encoding/json"
 	"fmt"
 	"os"
 	"strconv"
 
 	"github.com/ciderglen/ciderglen-go"
 	"github.com/opencontainers/go-digest"
-	image "github.com/opencontainers/image-spec/specs-go/v1"
-	runtime "github.com/opencontainers/runtime-spec/specs-go"
 )
-
-func printed(document any, input []byte) error {
-	if err := json.Unmarshal(input, document); err != nil {
-		return err
-	}
-	_, err := json.Marshal(document)
-	return err
-}
 
 func call(name string, input []byte, text string) (err error) {
 	switch name {
@@ -34,10 +22,6 @@ func call(name string, input []byte, text string) (err error) {
 		_, err = ciderglen.ParseReference(text)
 	case "digest":
 		err = ciderglen.CheckDigest(text)
-	case "manifest_json":
-		err = printed(new(image.Manifest), input)
-	case "spec_json":
-		err = printed(new(runtime.Spec), input)
 	default:
 		_, err = digest.Parse(text)
 	}

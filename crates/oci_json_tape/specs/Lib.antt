@@ -1,0 +1,4 @@
+pub mod Elements
+pub mod Fits
+pub mod Numbers
+pub mod Walked

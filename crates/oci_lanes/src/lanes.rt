@@ -1,0 +1,75 @@
+//! Both lanes on one document.
+use crate::cases::Case;
+use oci_schema::{is_valid, normalize};
+use oci_schema_bytes::{Workspace, is_valid_bytes, normalize_bytes};
+use oci_schemas::OciRecords;
+use oci_text_base::{OciSpecError, Result, SerDeError};
+use serde_json::Value;
+use std::alloc::Global;
+
+/// What both lanes did.
+#[derive(Clone, Copy)]
+pub enum Verdict {
+    /// The same: the document was accepted, or rejected.
+    Same(bool),
+    /// Not the same.
+    Different,
+}
+
+/// What a call did.
+#[derive(Clone, Copy, PartialEq, Eq)]
+enum Outcome {
+    Done,
+    NoJson,
+    Invalid,
+    Memory,
+    Other,
+}
+
+fn outcome_of<T: Drop>(answer: &Result<T>) -> Outcome {
+    match answer {
+        Ok(_) => Outcome::Done,
+        Err(OciSpecError::SerDe(SerDeError::Json(_))) => Outcome::NoJson,
+        Err(OciSpecError::SerDe(SerDeError::Schema(_))) => Outcome::Invalid,
+        Err(OciSpecError::Memory) => Outcome::Memory,
+        Err(_) => Outcome::Other,
+    }
+}
+
+/// Normalizes and checks a document in both ways, and compares what was written and reported. Fails if out of memory.
+pub fn compare(alloc: Global, case: Case<'_>, workspace: &mut Workspace) -> Result<Verdict> {
+    let schema = case.kind.schema();
+    let mut by_value = Vec::new(alloc);
+    let slow = normalize(&OciRecords, schema, alloc, case.bytes, &mut by_value);
+    let mut by_bytes = Vec::new(alloc);
+    let fast = normalize_bytes(
+        &OciRecords,
+        schema,
+        alloc,
+        case.bytes,
+        workspace,
+        &mut by_bytes,
+    );
+    let outcome = outcome_of(&slow);
+    let same = outcome == outcome_of(&fast) && by_value.as_slice() == by_bytes.as_slice();
+    if same && same_validity(alloc, case, workspace)? {
+        Ok(Verdict::Same(outcome == Outcome::Done))
+    } else {
+        Ok(Verdict::Different)
+    }
+}
+
+/// Whether both ways find the document valid, or neither does.
+fn same_validity(alloc: Global, case: Case<'_>, workspace: &mut Workspace) -> Result<bool> {
+    let schema = case.kind.schema();
+    let fast = match is_valid_bytes(&OciRecords, schema, alloc, case.bytes, workspace) {
+        Ok(valid) => valid,
+        Err(OciSpecError::Memory) => return Err(OciSpecError::Memory),
+        Err(_) => false,
+    };
+    let slow = match Value::from_slice(alloc, case.bytes) {
+        Ok(value) => is_valid(&OciRecords, schema, &value),
+        Err(_) => false,
+    };
+    Ok(fast == slow)
+}

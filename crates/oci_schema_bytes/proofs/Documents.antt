@@ -1,0 +1,99 @@
+-- What bytes mean by a schema, of which it was found out what they are read as.
+use Rattle.std.proofs.Common.{◌≡◌, ℕ, List, [], true, true≢false, Option, Some, None, Result, Ok, Err, sym, ap, ◌∙◌, subst}
+use Rattle.std.specs.Prelude.{◌↔◌, IsUtf8, is_some, IfSome, IfErr}
+use Rattle.json.specs.Token.{Token}
+use Rattle.serde_json.specs.Data.{Data}
+use Rattle.serde_json.specs.Read.{read}
+use Rattle.serde_json.specs.Written.{compact_text}
+use Rattle.oci_json_tape.specs.Elements.{BeginsWithData}
+use Rattle.oci_text_base.specs.Refused.{IsMemory, IsSchema, IsJson, IsMemoryOrSerDe}
+use Rattle.oci_text_base.specs.declared.error.OciSpecError.{OciSpecError}
+use Rattle.oci_text_base.specs.declared.error.OciSpecError.TheVariants.{Other, Io, SerDe, Builder, Memory}
+use Rattle.oci_json_model.specs.Plain.{Plain}
+use Rattle.oci_json_model.specs.Shape.{Shape}
+use Rattle.oci_json_model.specs.Means.{Means}
+use Rattle.oci_json_model.specs.Value.{value}
+use Rattle.oci_json_model.specs.WellFormed.{WellFormed}
+use Rattle.oci_json_model.specs.Writable.{Writable}
+use Rattle.oci_json_io.specs.Engines.{ReadsAs, MeansBytes}
+use Rattle.oci_json.proofs.OneMeaning.{one_meaning}
+use Rattle.oci_schema_walks.specs.Normalized.{accepts, normalized}
+use Rattle.oci_schema_walks.specs.Violations.{violations}
+use Rattle.oci_schema_walks.proofs.Empty.{none_is_meant}
+use Rattle.oci_schema_walks.proofs.Accepted.{sound, accepted}
+use Rattle.oci_schema_walks.proofs.NormalForms.{told}
+
+-- bytes are read as one value
+one_value : (bytes : List ℕ) (d e : Data) → ReadsAs bytes d → ReadsAs bytes e → d ≡ e
+one_value bytes d e a b = let same : Some d ≡ Some e = sym a.1 ∙ b.1 in cc
+
+-- what is accepted is a document, which is written as the normal form
+pub accepted_document : (s : Shape) (bytes : List ℕ) (d : Data) → WellFormed s → ReadsAs bytes d → accepts s d ≡ true
+    → (p : Plain) × MeansBytes s bytes p × Writable s p × (normalized s d ≡ value s p)
+accepted_document s bytes d well read h =
+    let m = accepted s (sound s well) d h in
+    (m.0, (d, read, m.1), m.2, (told s d m.0 m.1 m.2).1)
+
+-- whatever the same bytes mean is written as one text
+pub same_text : (s : Shape) (bytes : List ℕ) (p q : Plain) → MeansBytes s bytes p → MeansBytes s bytes q → compact_text (value s p) ≡ compact_text (value s q)
+same_text s bytes p q a b =
+    let same = one_value bytes a.0 b.0 a.1 b.1 in
+    ap (λ x. compact_text (value s x)) (one_meaning s a.0 p q a.2 (subst (λ d. Means s d q) (sym same) b.2))
+
+-- what the value means, the bytes mean
+pub valid_bytes : (s : Shape) (bytes : List ℕ) (d : Data) (P : Type 0) → ReadsAs bytes d → P ↔ ((p : Plain) × Means s d p) → P ↔ ((p : Plain) × MeansBytes s bytes p)
+valid_bytes s bytes d P read told = (
+  (λ h. let m = told.0 h in (m.0, (d, read, m.1))),
+  (λ m. told.1 (m.0, subst (λ x. Means s x m.0) (one_value bytes m.1.0 d m.1.1 read) m.1.2)),
+)
+
+-- ---- what was written for a tape, for a text and for bytes
+
+module _ {A : Type 0} (items : A → List ℕ) (s : Shape) where
+  abbrev pub IsNormalText : A → Data → Type 0
+  IsNormalText w d = items w ≡ compact_text (normalized s d)
+
+  pub written_of_tape : (text : List ℕ) (ts : List Token) (o : Option A) → (d : Data) × (read text ≡ Some d) × BeginsWithData ts d
+      → IfSome o (λ w. (d : Data) → BeginsWithData ts d → (accepts s d ≡ true) × IsNormalText w d) → IfSome o (λ w. (d : Data) × (read text ≡ Some d) × (accepts s d ≡ true) × IsNormalText w d)
+  written_of_tape text ts None m h = tt
+  written_of_tape text ts (Some w) m h = let k = h m.0 m.2 in (m.0, m.1, k.0, k.1)
+
+  pub written_of_text : (bytes text : List ℕ) (o : Option A) → (text ≡ bytes) × IsUtf8 bytes
+      → IfSome o (λ w. (d : Data) × (read text ≡ Some d) × (accepts s d ≡ true) × IsNormalText w d) → IfSome o (λ w. (d : Data) × ReadsAs bytes d × (accepts s d ≡ true) × IsNormalText w d)
+  written_of_text bytes text None u h = tt
+  written_of_text bytes text (Some w) u h = (h.0, (u.1, subst (λ t. read t ≡ Some h.0) u.0 h.1), h.2, h.3)
+
+  pub of_some : (bytes : List ℕ) (o : Option A) → IfSome o (λ w. (d : Data) × ReadsAs bytes d × (accepts s d ≡ true) × IsNormalText w d) → is_some o ≡ true
+      → (d : Data) × ReadsAs bytes d × (accepts s d ≡ true)
+  of_some bytes None h e = absurd (true≢false (sym e))
+  of_some bytes (Some w) h e = (h.0, h.1, h.2)
+
+-- what is accepted has no violations
+pub none_listed : (s : Shape) (d : Data) → WellFormed s → accepts s d ≡ true → violations s [] d ≡ []
+none_listed s d well h = let m = accepted s (sound s well) d h in (none_is_meant s [] d).1 (m.0, m.1)
+
+-- ---- where memory was wanted
+
+pub memory_no_json : {A : Type 0} (r : Result A OciSpecError) (P : Type 0) → IfErr r IsMemory → IfErr r (λ e. IsJson e → P)
+memory_no_json (Ok x) P h = tt
+memory_no_json (Err Memory) P h = λ is. absurd is
+memory_no_json (Err (Other t)) P h = absurd h
+memory_no_json (Err (Io e)) P h = absurd h
+memory_no_json (Err (SerDe e)) P h = absurd h
+memory_no_json (Err (Builder e)) P h = absurd h
+
+pub memory_no_schema : {A : Type 0} (r : Result A OciSpecError) (P : Type 0) → IfErr r IsMemory → IfErr r (λ e. IsSchema e → P)
+memory_no_schema (Ok x) P h = tt
+memory_no_schema (Err Memory) P h = λ is. absurd is
+memory_no_schema (Err (Other t)) P h = absurd h
+memory_no_schema (Err (Io e)) P h = absurd h
+memory_no_schema (Err (SerDe e)) P h = absurd h
+memory_no_schema (Err (Builder e)) P h = absurd h
+
+pub memory_kind : {A : Type 0} (r : Result A OciSpecError) → IfErr r IsMemory → IfErr r IsMemoryOrSerDe
+memory_kind (Ok x) h = tt
+memory_kind (Err Memory) h = tt
+memory_kind (Err (Other t)) h = absurd h
+memory_kind (Err (Io e)) h = absurd h
+memory_kind (Err (SerDe e)) h = absurd h
+memory_kind (Err (Builder e)) h = absurd h

@@ -1,0 +1,44 @@
+-- What a walk over a tape writes: the tokens of normal forms.
+use Rattle.std.specs.Prelude.{◌≡◌, ℕ, ℤ, Bool, Result, IfOk, IsTrue, List, ◌++◌, true, Option, Some, None, ⊤}
+use Rattle.std.specs.Borrow.{Bor}
+use Rattle.std.specs.Ordering.{nat_cmp}
+use Rattle.std.specs.declared.cmp.Ordering.TheVariants.{Greater}
+use Rattle.std.specs.Cmp.Lexicographic.{slice_cmp}
+use Rattle.json.specs.Token.{Token}
+use Rattle.json.specs.Tree.{json_tokens}
+use Rattle.serde_json.specs.Data.{Num, Data, number}
+use Rattle.serde_json.specs.Find.{as_integer, of_integer}
+use Rattle.serde_json.specs.Written.{outline}
+use Rattle.oci_text_base.specs.Names.{is_listed}
+use Rattle.oci_json_model.specs.Shape.{Shape, text, named, open_name, digest_text, cpu_text}
+use Rattle.oci_json_tape.specs.Elements.{BeginsWithData}
+use Rattle.oci_process_names.specs.CpuScan.{is_cpu_text}
+use Rattle.oci_schema_walks.specs.Allows.{is_digest_text, is_in_range}
+use Rattle.oci_schema_walks.specs.Normalized.{accepts, normalized}
+
+-- what was done, if it was done
+abbrev pub IfDone : {E : Type 0} → Result Bool E → Type 0 → Type 0
+IfDone r P = IfOk r (λ done. IsTrue done → P)
+
+-- the value with which `ts` begins is accepted, and its normal form was written
+abbrev pub WritesNormal : Shape → List Token → List Token → List Token → Type 0
+WritesNormal s ts old new = (d : Data) → BeginsWithData ts d → (accepts s d ≡ true) × (new ≡ old ++ json_tokens (outline (normalized s d)))
+
+-- the name comes after the last one, by bytes
+abbrev pub IsAfter : List ℕ → Option (Bor (List ℕ)) → Type 0
+IsAfter name None = ⊤
+IsAfter name (Some last) = slice_cmp nat_cmp name last.now ≡ Greater
+
+-- the shape is one of strings, which has this one
+abbrev pub IsTextOf : Shape → List ℕ → Type 0
+IsTextOf text t = ⊤
+IsTextOf (named table) t = is_listed table t ≡ true
+IsTextOf (open_name table) t = ⊤
+IsTextOf digest_text t = is_digest_text t ≡ true
+IsTextOf cpu_text t = is_cpu_text t ≡ true
+IsTextOf s t = ⊥
+
+-- the number is an integer within the bounds, and was written
+abbrev pub WritesWhole : ℤ → ℤ → Num → List Token → List Token → Type 0
+WritesWhole low high n old new =
+    (z : ℤ) × (as_integer n ≡ Some z) × (is_in_range low high (Some z) ≡ true) × (new ≡ old ++ json_tokens (outline (number (of_integer z))))

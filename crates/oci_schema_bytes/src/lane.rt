@@ -1,0 +1,106 @@
+//! The normal form of a document straight from its bytes, where it can be had so.
+ghost use Rattle.std.specs.Prelude.{◌≡◌, true, Some, IfOk, IfSome, IsTrue};
+ghost use Rattle.serde_json.specs.Data.{Data};
+ghost use Rattle.serde_json.specs.Read.{read};
+ghost use Rattle.serde_json.specs.Written.{compact_text};
+ghost use Rattle.oci_json_tape.specs.Elements.{BeginsWithData};
+ghost use Rattle.oci_json_io.specs.Engines.{ReadsAs};
+ghost use Rattle.oci_schema_types.specs.Shapes.{schema_shape};
+ghost use Rattle.oci_schema_walks.specs.Normalized.{accepts, normalized};
+
+use crate::walk::write_value;
+use json::{Scratch, Tape};
+use oci_json_tape::open;
+use oci_json_text::CompactWriter;
+use oci_schema_types::{Records, Schema};
+use std::alloc::{AllocError, Global};
+
+/// How deep arrays, maps and records nest at most: no deeper than a text may.
+const DEPTH: usize = 127;
+
+/// The memory that reading needs. Keep one from call to call.
+#[derive(Drop)]
+pub struct Workspace {
+    scratch: Scratch,
+}
+
+impl Workspace {
+    /// A workspace without any memory for texts yet.
+    pub fn new(alloc: Global) -> Workspace {
+        Workspace {
+            scratch: Scratch::new(alloc),
+        }
+    }
+}
+
+/// The normal form of a document as compact text; `None` if that was not found out, or if out of memory.
+pub fn normal_text<T: Records>(
+    records: &T,
+    schema: &Schema,
+    alloc: Global,
+    bytes: &[u8],
+    workspace: &mut Workspace,
+) -> Option<Vec<u8>>
+    ensures { IfSome result (λ text. (d : Data) × ReadsAs bytes.now d × (accepts (schema_shape (T.shape_at records.now) schema.now) d ≡ true)
+        × (text.items ≡ compact_text (normalized (schema_shape (T.shape_at records.now) schema.now) d))) }
+{
+    match simdutf8::compat::from_utf8(bytes) {
+        Ok(text) => normal_text_of(records, schema, alloc, text, &mut workspace.scratch),
+        Err(_) => None,
+    }
+}
+
+/// Whether the bytes are a document that has a normal form; `false` if that was not found out.
+pub fn is_accepted<T: Records>(
+    records: &T,
+    schema: &Schema,
+    alloc: Global,
+    bytes: &[u8],
+    workspace: &mut Workspace,
+) -> bool
+    ensures { IsTrue result → (d : Data) × ReadsAs bytes.now d × (accepts (schema_shape (T.shape_at records.now) schema.now) d ≡ true) }
+{
+    normal_text(records, schema, alloc, bytes, workspace).is_some()
+}
+
+/// The same of a text.
+fn normal_text_of<T: Records>(
+    records: &T,
+    schema: &Schema,
+    alloc: Global,
+    text: &str,
+    scratch: &mut Scratch,
+) -> Option<Vec<u8>>
+    ensures { IfSome result (λ written. (d : Data) × (read text.now ≡ Some d) × (accepts (schema_shape (T.shape_at records.now) schema.now) d ≡ true)
+        × (written.items ≡ compact_text (normalized (schema_shape (T.shape_at records.now) schema.now) d))) }
+{
+    match open(alloc, text, scratch) {
+        Ok(found) => match found {
+            Some(tape) => match write_tape(records, schema, alloc, &tape, text.len()) {
+                Ok(written) => written,
+                Err(_) => None,
+            },
+            None => None,
+        },
+        Err(_) => None,
+    }
+}
+
+/// The same of a tape, into a buffer of this capacity.
+fn write_tape<T: Records>(
+    records: &T,
+    schema: &Schema,
+    alloc: Global,
+    tape: &Tape<'_>,
+    capacity: usize,
+) -> Result<Option<Vec<u8>>, AllocError>
+    ensures { IfOk result (λ o. IfSome o (λ written. (d : Data) → BeginsWithData tape.now d → (accepts (schema_shape (T.shape_at records.now) schema.now) d ≡ true)
+        × (written.items ≡ compact_text (normalized (schema_shape (T.shape_at records.now) schema.now) d)))) }
+{
+    let mut out = CompactWriter::with_capacity(alloc, capacity)?;
+    let done = write_value(records, schema, &tape.root(), DEPTH, alloc, &mut out)?;
+    if !done {
+        return Ok(None);
+    }
+    Ok(Some(out.into_bytes()))
+}

@@ -1,0 +1,14 @@
+//! A JSON document by a schema straight from its bytes: whether it is valid, and its normal form, without a value in between where
+//! the schema allows that.
+#![tactic(auto)]
+
+mod absent;
+mod calls;
+mod fields;
+mod lane;
+pub mod laws;
+mod scalar;
+mod walk;
+
+pub use calls::{is_valid_bytes, normalize_bytes, violations_in_bytes};
+pub use lane::Workspace;

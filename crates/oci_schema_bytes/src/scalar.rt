@@ -1,0 +1,137 @@
+//! Scalars.
+ghost use Rattle.std.specs.Prelude.{◌≡◌, ◌++◌, Some, IsTrue};
+ghost use Rattle.json.specs.Tree.{json_tokens};
+ghost use Rattle.serde_json.specs.Data.{string, boolean as boolean_data};
+ghost use Rattle.serde_json.specs.Written.{outline};
+ghost use Rattle.oci_text_base.specs.Names.{is_listed};
+ghost use Rattle.oci_process_names.specs.CpuScan.{is_cpu_text};
+ghost use Rattle.oci_schema_types.specs.Shapes.{scalar_shape, names_of};
+ghost use Rattle.oci_schema_walks.specs.Allows.{is_digest_text, is_in_range};
+ghost use Rattle.oci_json_tape.specs.Numbers.{num_of};
+ghost use Rattle.oci_schema_bytes.specs.Walks.{IfDone, WritesNormal, IsTextOf, WritesWhole};
+
+use json::Element;
+use oci_json_tape::{Number, boolean, number, text};
+use oci_json_text::CompactWriter;
+use oci_process_names::is_cpu_list;
+use oci_schema_types::Scalar;
+use oci_text::is_digest;
+use std::alloc::AllocError;
+
+/// Writes a scalar.
+pub fn write_scalar(
+    scalar: &Scalar,
+    element: &Element<'_, '_>,
+    out: &mut CompactWriter,
+) -> Result<bool, AllocError>
+    ensures { IfDone result (WritesNormal (scalar_shape scalar.now) element.now out.old out.new) }
+{
+    match scalar {
+        Scalar::Boolean => match boolean(element) {
+            Some(truth) => write_boolean(truth, out),
+            None => Ok(false),
+        },
+        Scalar::Integer(low, high) => match number(element) {
+            Some(found) => write_number(low, high, found, out),
+            None => Ok(false),
+        },
+        _ => match text(element) {
+            Some(content) => {
+                if !is_text_of(scalar, content) {
+                    return Ok(false);
+                }
+                write_string(content, out)
+            }
+            None => Ok(false),
+        },
+    }
+}
+
+/// Writes a string.
+pub fn write_string(text: &str, out: &mut CompactWriter) -> Result<bool, AllocError>
+    ensures { IfDone result (out.new ≡ out.old ++ json_tokens (outline (string text.now))) }
+{
+    out.string(text)?;
+    Ok(true)
+}
+
+/// Writes a boolean.
+pub fn write_boolean(truth: bool, out: &mut CompactWriter) -> Result<bool, AllocError>
+    ensures { IfDone result (out.new ≡ out.old ++ json_tokens (outline (boolean_data truth))) }
+{
+    out.boolean(truth)?;
+    Ok(true)
+}
+
+/// Whether the string is one of the scalar's.
+fn is_text_of(scalar: &Scalar, text: &str) -> bool
+    ensures { IsTrue result → IsTextOf (scalar_shape scalar.now) text.now }
+{
+    match scalar {
+        Scalar::String => true,
+        Scalar::MediaType => true,
+        Scalar::Os => true,
+        Scalar::Arch => true,
+        Scalar::Enum(table) => is_among(table, text),
+        Scalar::Digest => is_digest_value(text),
+        Scalar::CpuList => is_cpu_list_value(text),
+        _ => false,
+    }
+}
+
+/// Writes an integer within these bounds.
+fn write_number(
+    low: &i128,
+    high: &i128,
+    number: Number,
+    out: &mut CompactWriter,
+) -> Result<bool, AllocError>
+    ensures { IfDone result (WritesWhole low.now high.now (num_of number) out.old out.new) }
+{
+    match number {
+        Number::Unsigned(n) => {
+            if !is_within(low, high, n as i128) {
+                return Ok(false);
+            }
+            out.unsigned(n)?;
+            Ok(true)
+        }
+        Number::Negative(n) => {
+            if !is_within(low, high, n as i128) {
+                return Ok(false);
+            }
+            out.signed(n)?;
+            Ok(true)
+        }
+        Number::Float(_) => Ok(false),
+    }
+}
+
+fn is_within(low: &i128, high: &i128, whole: i128) -> bool
+    ensures { result ≡ is_in_range low.now high.now (Some whole) }
+{
+    *low <= whole && whole <= *high
+}
+
+fn is_among(table: &[&'static str], text: &str) -> bool
+    ensures { result ≡ is_listed (names_of table.now) text.now }
+{
+    for name in table {
+        if text == *name {
+            return true;
+        }
+    }
+    false
+}
+
+fn is_digest_value(text: &str) -> bool
+    ensures { result ≡ is_digest_text text.now }
+{
+    is_digest(text)
+}
+
+fn is_cpu_list_value(text: &str) -> bool
+    ensures { result ≡ is_cpu_text text.now }
+{
+    is_cpu_list(text)
+}

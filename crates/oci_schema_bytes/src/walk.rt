@@ -1,0 +1,210 @@
+//! The walk over a tape by a schema, which writes the normal form of what it finds.
+ghost use Rattle.std.specs.Prelude.{◌≡◌, ◌∷◌, ◌++◌, IsTrue};
+ghost use Rattle.json.specs.Token.{begin_object};
+ghost use Rattle.json.specs.Tree.{json_tokens, members_tokens};
+ghost use Rattle.serde_json.specs.Data.{Data, Members};
+ghost use Rattle.serde_json.specs.Written.{outline, members_outline};
+ghost use Rattle.oci_json_model.specs.Shape.{list, map};
+ghost use Rattle.oci_json_model.specs.Means.{is_object as holds_members};
+ghost use Rattle.oci_json_tape.specs.Elements.{BeginsWithData};
+ghost use Rattle.oci_schema_types.specs.Shapes.{part_shape, schema_shape};
+ghost use Rattle.oci_schema_bytes.specs.Fields.{FieldMeans, EachField, FieldIsAccepted, AreAccepted};
+ghost use Rattle.oci_schema_bytes.specs.Walks.{IfDone, WritesNormal, IsAfter};
+
+use crate::absent::write_absent;
+use crate::fields::{Field, fields_of};
+use crate::scalar::write_scalar;
+use json::Element;
+use oci_json_tape::{items, members, next_item, next_member};
+use oci_json_text::CompactWriter;
+use oci_schema_types::{Part, Records, Schema};
+use std::alloc::{AllocError, Global};
+use std::cmp::Ordering;
+
+/// Writes the normal form of what begins at the element; `false` if that was not found out, or if out of memory. What was written
+/// then is of no use. Arrays, maps and records nest no deeper than `depth`.
+#[cycle(writes)]
+pub fn write_value<T: Records>(
+    records: &T,
+    schema: &Schema,
+    element: &Element<'_, '_>,
+    depth: usize,
+    alloc: Global,
+    out: &mut CompactWriter,
+) -> Result<bool, AllocError>
+    ensures { IfDone result (WritesNormal (schema_shape (T.shape_at records.now) schema.now) element.now out.old out.new) }
+{
+    if depth == 0 {
+        return Ok(false);
+    }
+    match schema {
+        Schema::One(part) => write_part(records, part, element, depth - 1, alloc, out),
+        Schema::List(part) => write_items(records, part, element, depth - 1, alloc, out),
+        Schema::Map(part) => write_map(records, part, element, depth - 1, alloc, out),
+    }
+}
+
+/// Writes a value alone.
+#[cycle(writes)]
+fn write_part<T: Records>(
+    records: &T,
+    part: &Part,
+    element: &Element<'_, '_>,
+    depth: usize,
+    alloc: Global,
+    out: &mut CompactWriter,
+) -> Result<bool, AllocError>
+    ensures { IfDone result (WritesNormal (part_shape (T.shape_at records.now) part.now) element.now out.old out.new) }
+{
+    match part {
+        Part::Scalar(scalar) => write_scalar(scalar, element, out),
+        Part::Record(place) => write_record(records, *place, element, depth, alloc, out),
+    }
+}
+
+/// Writes an array, item by item.
+#[cycle(writes)]
+fn write_items<T: Records>(
+    records: &T,
+    part: &Part,
+    element: &Element<'_, '_>,
+    depth: usize,
+    alloc: Global,
+    out: &mut CompactWriter,
+) -> Result<bool, AllocError>
+    ensures { IfDone result (WritesNormal (list (part_shape (T.shape_at records.now) part.now)) element.now out.old out.new) }
+{
+    let Some(mut rest) = items(element) else {
+        return Ok(false);
+    };
+    out.begin_array()?;
+    'each_item: while let Some(item) = next_item(&mut rest) {
+        let done = write_part(records, part, &item, depth, alloc, out)?;
+        if !done {
+            return Ok(false);
+        }
+    }
+    out.end_array()?;
+    Ok(true)
+}
+
+/// Writes a map whose names are in byte order in the text, member by member.
+#[cycle(writes)]
+fn write_map<T: Records>(
+    records: &T,
+    part: &Part,
+    element: &Element<'_, '_>,
+    depth: usize,
+    alloc: Global,
+    out: &mut CompactWriter,
+) -> Result<bool, AllocError>
+    ensures { IfDone result (WritesNormal (map (part_shape (T.shape_at records.now) part.now)) element.now out.old out.new) }
+{
+    let Some(mut rest) = members(element) else {
+        return Ok(false);
+    };
+    out.begin_object()?;
+    let mut last = None;
+    'each_member: while let Some((name, member)) = next_member(&mut rest) {
+        if !comes_after(name, last) {
+            return Ok(false);
+        }
+        out.key(name)?;
+        let done = write_part(records, part, &member, depth, alloc, out)?;
+        if !done {
+            return Ok(false);
+        }
+        last = Some(name);
+    }
+    out.end_object()?;
+    Ok(true)
+}
+
+/// Whether the name comes after the last one, by bytes.
+fn comes_after(name: &str, last: Option<&str>) -> bool
+    ensures { IsTrue result → IsAfter name.now last.entry }
+{
+    match last {
+        Some(last) => match name.cmp(last) {
+            Ordering::Less => false,
+            Ordering::Equal => false,
+            Ordering::Greater => true,
+        },
+        None => true,
+    }
+}
+
+/// Writes a record.
+#[cycle(writes)]
+fn write_record<T: Records>(
+    records: &T,
+    place: usize,
+    element: &Element<'_, '_>,
+    depth: usize,
+    alloc: Global,
+    out: &mut CompactWriter,
+) -> Result<bool, AllocError>
+    ensures { IfDone result (WritesNormal (T.shape_at records.now place) element.now out.old out.new) }
+{
+    let record = records.record(place);
+    if !is_object(element) {
+        return Ok(false);
+    }
+    match fields_of(record.members, element, alloc) {
+        Some(fields) => write_fields(records, fields.as_slice(), depth, alloc, out),
+        None => Ok(false),
+    }
+}
+
+fn is_object(element: &Element<'_, '_>) -> bool
+    ensures { (d : Data) → BeginsWithData element.now d → result ≡ holds_members d }
+{
+    match members(element) {
+        Some(_) => true,
+        None => false,
+    }
+}
+
+/// Writes an object of these fields.
+#[cycle(writes)]
+fn write_fields<T: Records>(
+    records: &T,
+    fields: &[Field<'_, '_>],
+    depth: usize,
+    alloc: Global,
+    out: &mut CompactWriter,
+) -> Result<bool, AllocError>
+    ensures accepted { IfDone result (AreAccepted (T.shape_at records.now) fields.now) }
+    ensures writes { IfDone result ((ms : Members) → EachField (T.shape_at records.now) fields.now ms
+        → out.new ≡ out.old ++ begin_object ∷ members_tokens (members_outline ms)) }
+{
+    out.begin_object()?;
+    for field in fields {
+        out.key(field.member.name)?;
+        let done = write_field(records, field, depth, alloc, out)?;
+        if !done {
+            return Ok(false);
+        }
+    }
+    out.end_object()?;
+    Ok(true)
+}
+
+/// Writes the value of a field.
+#[cycle(writes)]
+fn write_field<T: Records>(
+    records: &T,
+    field: &Field<'_, '_>,
+    depth: usize,
+    alloc: Global,
+    out: &mut CompactWriter,
+) -> Result<bool, AllocError>
+    ensures accepted { IfDone result (FieldIsAccepted (T.shape_at records.now) field.now) }
+    ensures writes { IfDone result ((n : Data) → FieldMeans (T.shape_at records.now) field.now n
+        → out.new ≡ out.old ++ json_tokens (outline n)) }
+{
+    match &field.value {
+        Some(value) => write_value(records, &field.member.schema, value, depth, alloc, out),
+        None => write_absent(field.member, out),
+    }
+}

@@ -1,0 +1,65 @@
+"""Both lanes of the library on documents that were changed at random: straight from the bytes, and by way of a value.
+
+The program of crates/oci_lanes takes both ways on each document that it reads, and writes a line for it.
+"""
+import multiprocessing
+import os
+import shutil
+import subprocess
+import sys
+import time
+
+TOP = os.path.dirname(os.path.dirname(os.path.dirname(os.path.realpath(__file__))))
+CRATE = f"{TOP}/crates/oci_lanes"
+BATCH = 500
+LINES = {b"same accepted": True, b"same rejected": False}
+
+
+def build(folder):
+    """Builds the program as LLVM builds it, and as Rattle's own compiler does."""
+    built = []
+    for name, flags in (("llvm", []), ("rattle", ["--backend", "rattle"])):
+        made = subprocess.run(["rt", "run", *flags], cwd=CRATE, stdin=subprocess.DEVNULL, capture_output=True, text=True, check=False)
+        if made.returncode:
+            sys.exit(f"rt run {' '.join(flags)}: {made.stdout}{made.stderr}")
+        built.append(shutil.copy(f"{CRATE}/out/oci_lanes", f"{folder}/oci_lanes_{name}"))
+    return built
+
+
+def answers(program, documents):
+    """The lines that the program writes for the documents; those that are missing are empty."""
+    given = b"".join(b"%s %d\n%s" % (kind, len(text), text) for kind, text in documents)
+    done = subprocess.run([program], input=given, capture_output=True, check=False)
+    lines = done.stdout.splitlines()[:len(documents)]
+    if done.returncode not in (0, 1):
+        print(f"{program}: ended with {done.returncode}, reported {done.stderr[-2000:]!r}", flush=True)
+    return lines + [b""] * (len(documents) - len(lines))
+
+
+def work(given):
+    """Runs a share of the cases, and returns how many there were, how many of them were accepted, and what differed."""
+    counts, programs, document = given
+    cases = [(count, found) for count in counts if (found := document(count))]
+    accepted, faults = 0, []
+    for place, program in enumerate(programs):
+        for (count, (kind, text)), line in zip(cases, answers(program, [it[1] for it in cases])):
+            if line not in LINES:
+                faults.append(f"case {count}: {program}: {line.decode() or 'no answer'}: {kind.decode()} over {text!r}")
+            elif place == 0:
+                accepted += LINES[line]
+    return len(cases), accepted, faults
+
+
+def run(options, programs, document):
+    """Takes both ways on the document of each case, and returns how many differed."""
+    counts = options.only or range(options.cases)
+    shares = [(counts[it:it + BATCH], programs, document) for it in range(0, len(counts), BATCH)]
+    begun, ran, accepted, broken = time.time(), 0, 0, 0
+    with multiprocessing.Pool(options.jobs) as pool:
+        for some, good, faults in pool.imap_unordered(work, shares):
+            ran, accepted, broken = ran + some, accepted + good, broken + len(faults)
+            for it in faults:
+                print(it, flush=True)
+    print(f"seed {options.seed}, {len(programs)} programs, {time.time() - begun:.0f} seconds")
+    print(f"{ran} documents, {accepted} accepted, {broken} broken")
+    return broken
