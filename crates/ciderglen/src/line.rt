@@ -164,10 +164,11 @@ fn algorithm_in(given: &ArgMatches<'_>) -> Algorithm {
 
 /// The files that are named, or standard input.
 fn files_in<'m>(given: &'m ArgMatches<'m>) -> &'m [&'m str] {
-    match given.get_strs("FILE") {
-        Some(files) => files,
-        None => &STDIN,
-    }
+    given.get_strs("FILE").unwrap_or(standard_input())
+}
+
+fn standard_input() -> &'static [&'static str] {
+    &STDIN
 }
 
 /// The file that is named, or standard input.

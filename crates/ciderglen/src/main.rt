@@ -7,11 +7,11 @@ mod line;
 mod rules;
 mod watch;
 
-use clap::ArgMatches;
 use files::FileStore;
 use line::{asked, matches_of, policy_file, shown, status_of, verified, words_of};
 use oci_layout::{Folder, Options};
 use oci_policies::{Bump, Policy, PolicyError};
+use oci_rules::Rule;
 use oci_tool::{Asked, Tree};
 use rules::Specifications;
 use std::fs;
@@ -20,6 +20,7 @@ use watch::Started;
 
 fn main(rt: HostRuntime) -> ExitCode {
     let alloc = rt.alloc();
+    let arena = Bump::new(alloc);
     let words = match words_of(&rt) {
         Ok(words) => words,
         Err(fault) => {
@@ -38,51 +39,50 @@ fn main(rt: HostRuntime) -> ExitCode {
             });
         }
     };
-    ExitCode::from(perform(&rt, &matches))
-}
-
-/// Runs the command that the matches ask for.
-fn perform(rt: &HostRuntime, matches: &ArgMatches<'_>) -> u8 {
-    if let Some((options, root)) = verified(matches) {
-        return verify(rt, &options, root);
+    if let Some((options, root)) = verified(&matches) {
+        return ExitCode::from(verify(&rt, &options, root));
     }
-    if let Some(folder) = shown(matches) {
-        if is_folder(rt, folder) {
-            return show(rt, folder);
+    if let Some(folder) = shown(&matches) {
+        if is_folder(&rt, folder) {
+            return ExitCode::from(show(&rt, folder));
         }
     }
-    match policy_file(matches) {
-        Some(file) => check_policy(rt, matches, file),
-        None => run_asked(rt, asked(matches, &[])),
-    }
-}
-
-fn run_asked(rt: &HostRuntime, asked: Option<Asked<'_>>) -> u8 {
-    match asked {
-        Some(asked) => run(rt, &asked),
+    let rules = match policy_of(&rt, policy_file(&matches), &arena) {
+        Ok(rules) => rules,
+        Err(status) => return ExitCode::from(status),
+    };
+    ExitCode::from(match asked(&matches, rules) {
+        Some(asked) => run(&rt, &asked),
         None => 2,
-    }
+    })
 }
 
-/// Runs `check` with the policy in a file. Returns 2 if the file holds no policy, and 3 if it cannot be read.
-fn check_policy(rt: &HostRuntime, matches: &ArgMatches<'_>, file: &str) -> u8 {
+/// The rules of the policy in a file, if one is named. The error is the exit status: 2 if the file holds no policy, and 3 if it cannot
+/// be read, or if out of memory.
+fn policy_of<'a>(
+    rt: &HostRuntime,
+    file: Option<&str>,
+    arena: &'a Bump,
+) -> Result<&'a [Rule<'a>], u8> {
+    let Some(file) = file else {
+        return Ok(&[]);
+    };
     let text = match fs::read_to_string(rt, file) {
         Ok(text) => text,
         Err(fault) => {
             let _ = eprintln!(rt; "ciderglen: {file}: {fault}");
-            return 3;
+            return Err(3);
         }
     };
-    let arena = Bump::new(rt.alloc());
-    match Policy::from_toml(text.as_str(), &arena, rt.alloc()) {
-        Ok(policy) => run_asked(rt, asked(matches, policy.rules())),
+    match Policy::from_toml(text.as_str(), arena, rt.alloc()) {
+        Ok(policy) => Ok(policy.rules()),
         Err(PolicyError::Memory) => {
             let _ = eprintln!(rt; "ciderglen: out of memory");
-            3
+            Err(3)
         }
         Err(error) => {
             let _ = eprintln!(rt; "ciderglen: {file}: {error}");
-            2
+            Err(2)
         }
     }
 }
