@@ -51,6 +51,16 @@ enum ciderglen_status {
     CIDERGLEN_INVALID_UTF8 = 6,
     /* The text is not a digest. */
     CIDERGLEN_INVALID_DIGEST = 7,
+    /* The content has another size. */
+    CIDERGLEN_OTHER_SIZE = 8,
+    /* The content has another digest. */
+    CIDERGLEN_OTHER_DIGEST = 9,
+    /* The digest is by another algorithm than `sha256`, `sha384` and `sha512`. */
+    CIDERGLEN_UNKNOWN_ALGORITHM = 10,
+    /* The number is that of no level of rules. */
+    CIDERGLEN_UNKNOWN_LEVEL = 11,
+    /* The number is that of no platform. */
+    CIDERGLEN_UNKNOWN_PLATFORM = 12,
     /* The text is not a reference: it is empty. */
     CIDERGLEN_NAME_EMPTY = 16,
     /* The text is not a reference: the repository has an uppercase letter. */
@@ -101,6 +111,36 @@ enum ciderglen_kind {
     CIDERGLEN_KIND_FEATURES = 13
 };
 
+/* Levels of rules, each with those above it. */
+enum ciderglen_level {
+    /* MUST, MUST NOT, REQUIRED. */
+    CIDERGLEN_LEVEL_MUST = 0,
+    /* And formats, ranges and lists of values, without such a word. */
+    CIDERGLEN_LEVEL_STATED = 1,
+    /* And SHOULD, SHOULD NOT, RECOMMENDED, DEPRECATED. */
+    CIDERGLEN_LEVEL_SHOULD = 2,
+    /* And what no sentence of a specification asks: a manual page, the kernel or every runtime refuses it. */
+    CIDERGLEN_LEVEL_HOST = 3
+};
+
+/* Platforms. */
+enum ciderglen_platform {
+    /* The platform that the parts of the document say. */
+    CIDERGLEN_PLATFORM_OF_DOCUMENT = 0,
+    /* Linux. */
+    CIDERGLEN_PLATFORM_LINUX = 1,
+    /* Windows. */
+    CIDERGLEN_PLATFORM_WINDOWS = 2,
+    /* Solaris. */
+    CIDERGLEN_PLATFORM_SOLARIS = 3,
+    /* A virtual machine. */
+    CIDERGLEN_PLATFORM_VM = 4,
+    /* z/OS. */
+    CIDERGLEN_PLATFORM_ZOS = 5,
+    /* FreeBSD. */
+    CIDERGLEN_PLATFORM_FREEBSD = 6
+};
+
 /* Returns the number of the interface that the library was built with. Compare it with CIDERGLEN_INTERFACE of the header. */
 uint32_t ciderglen_interface(void);
 
@@ -125,6 +165,17 @@ uint32_t ciderglen_pretty(uint32_t kind, const uint8_t *document, size_t documen
  * CIDERGLEN_DONE and CIDERGLEN_BUFFER_TOO_SMALL `*count` is 0. */
 uint32_t ciderglen_violations(uint32_t kind, const uint8_t *document, size_t document_len, uint8_t *buffer,
                               size_t buffer_capacity, size_t *output_len, size_t *count);
+
+/* Writes a line for each part of a document that breaks a rule of its kind, of the levels up to `level` and for the platform: its
+ * place as a JSON pointer (RFC 6901), a colon, a space, the name of the rule, in parentheses its level and where it is stated, a
+ * colon, a space, what is wanted and a newline. Sets `*count` to their number, which is 0 exactly if every such rule is kept. That a
+ * document is valid is not asked here.
+ *
+ * Returns CIDERGLEN_INVALID_JSON, CIDERGLEN_UNKNOWN_KIND, CIDERGLEN_UNKNOWN_LEVEL or CIDERGLEN_UNKNOWN_PLATFORM if there is nothing
+ * to list. After any status but CIDERGLEN_DONE and CIDERGLEN_BUFFER_TOO_SMALL `*count` is 0. */
+uint32_t ciderglen_broken_rules(uint32_t kind, uint32_t level, uint32_t platform, const uint8_t *document,
+                                size_t document_len, uint8_t *buffer, size_t buffer_capacity, size_t *output_len,
+                                size_t *count);
 
 /* Returns CIDERGLEN_DONE if the text is a digest (image specification, "Descriptor", "Digests"), else CIDERGLEN_INVALID_DIGEST, or
  * CIDERGLEN_INVALID_UTF8 if it is not UTF-8. Allocates nothing. */
@@ -160,6 +211,13 @@ uint32_t ciderglen_resolve_registry(const uint8_t *text, size_t text_len, uint8_
  * not read. Returns CIDERGLEN_INVALID_JSON or CIDERGLEN_INVALID_DOCUMENT if there is no descriptor. */
 uint32_t ciderglen_pin(const uint8_t *text, size_t text_len, const uint8_t *json, size_t json_len, uint8_t *buffer,
                        size_t buffer_capacity, size_t *output_len);
+
+/* Compares a content with the digest and the size that a descriptor says of it (image specification, "Content Descriptors",
+ * "Verification"). Returns CIDERGLEN_DONE if it has both, CIDERGLEN_OTHER_SIZE or CIDERGLEN_OTHER_DIGEST if it has another, and
+ * CIDERGLEN_UNKNOWN_ALGORITHM if the digest is by none of sha256, sha384 and sha512. Returns CIDERGLEN_INVALID_DIGEST if the text is
+ * not a digest, or CIDERGLEN_INVALID_UTF8 if it is not UTF-8. Allocates nothing. */
+uint32_t ciderglen_verify(const uint8_t *digest, size_t digest_len, uint64_t size, const uint8_t *content,
+                          size_t content_len);
 
 #ifdef __cplusplus
 }

@@ -45,6 +45,31 @@ const (
 	Features     Kind = C.CIDERGLEN_KIND_FEATURES      // the features of a runtime
 )
 
+// Level is a level of rules, which stands for those above it, too.
+type Level uint32
+
+// The levels of rules.
+const (
+	Must   Level = C.CIDERGLEN_LEVEL_MUST   // MUST, MUST NOT, REQUIRED
+	Stated Level = C.CIDERGLEN_LEVEL_STATED // and formats, ranges and lists of values, without such a word
+	Should Level = C.CIDERGLEN_LEVEL_SHOULD // and SHOULD, SHOULD NOT, RECOMMENDED, DEPRECATED
+	Host   Level = C.CIDERGLEN_LEVEL_HOST   // and what no specification asks, but the kernel or every runtime refuses
+)
+
+// Platform is a platform that a document is for.
+type Platform uint32
+
+// The platforms.
+const (
+	OfDocument Platform = C.CIDERGLEN_PLATFORM_OF_DOCUMENT // the platform that the parts of the document say
+	Linux      Platform = C.CIDERGLEN_PLATFORM_LINUX
+	Windows    Platform = C.CIDERGLEN_PLATFORM_WINDOWS
+	Solaris    Platform = C.CIDERGLEN_PLATFORM_SOLARIS
+	VM         Platform = C.CIDERGLEN_PLATFORM_VM
+	ZOS        Platform = C.CIDERGLEN_PLATFORM_ZOS
+	FreeBSD    Platform = C.CIDERGLEN_PLATFORM_FREEBSD
+)
+
 // Error is why a call failed. Errors are compared with ==, or with errors.Is.
 type Error uint32
 
@@ -56,6 +81,11 @@ const (
 	ErrInvalidDocument        Error = C.CIDERGLEN_INVALID_DOCUMENT
 	ErrInvalidUTF8            Error = C.CIDERGLEN_INVALID_UTF8
 	ErrInvalidDigest          Error = C.CIDERGLEN_INVALID_DIGEST
+	ErrOtherSize              Error = C.CIDERGLEN_OTHER_SIZE
+	ErrOtherDigest            Error = C.CIDERGLEN_OTHER_DIGEST
+	ErrUnknownAlgorithm       Error = C.CIDERGLEN_UNKNOWN_ALGORITHM
+	ErrUnknownLevel           Error = C.CIDERGLEN_UNKNOWN_LEVEL
+	ErrUnknownPlatform        Error = C.CIDERGLEN_UNKNOWN_PLATFORM
 	ErrNameEmpty              Error = C.CIDERGLEN_NAME_EMPTY
 	ErrNameContainsUppercase  Error = C.CIDERGLEN_NAME_CONTAINS_UPPERCASE
 	ErrNameTooLong            Error = C.CIDERGLEN_NAME_TOO_LONG
@@ -71,6 +101,11 @@ var messages = map[Error]string{
 	ErrInvalidDocument:        "document not allowed by its schema",
 	ErrInvalidUTF8:            "invalid UTF-8",
 	ErrInvalidDigest:          "invalid digest",
+	ErrOtherSize:              "content of another size",
+	ErrOtherDigest:            "content of another digest",
+	ErrUnknownAlgorithm:       "unknown digest algorithm",
+	ErrUnknownLevel:           "unknown level of rules",
+	ErrUnknownPlatform:        "unknown platform",
 	ErrNameEmpty:              "repository name must have at least one component",
 	ErrNameContainsUppercase:  "repository name must be lowercase",
 	ErrNameTooLong:            "repository name must not be more than 255 characters",
@@ -139,6 +174,18 @@ func Violations(kind Kind, document []byte) (count int, lines []byte, err error)
 	return int(found), lines, err
 }
 
+// BrokenRules returns how many parts of a document break rules of its kind, of the levels up to the one and for the platform, and a
+// line for each: its place as a JSON pointer, a colon, a space, the name of the rule, in parentheses its level and where it is
+// stated, a colon, a space, what is wanted and a newline. There are none exactly if every such rule is kept. The error is
+// ErrInvalidJSON, ErrUnknownKind, ErrUnknownLevel, ErrUnknownPlatform or ErrOutOfMemory.
+func BrokenRules(kind Kind, level Level, platform Platform, document []byte) (count int, lines []byte, err error) {
+	var found C.size_t
+	lines, err = output(1024, func(buffer *C.uint8_t, capacity C.size_t, length *C.size_t) C.uint32_t {
+		return C.ciderglen_broken_rules(C.uint32_t(kind), C.uint32_t(level), C.uint32_t(platform), pointer(document), C.size_t(len(document)), buffer, capacity, length, &found)
+	})
+	return int(found), lines, err
+}
+
 // Reference is a reference to an image. A missing part is empty.
 type Reference struct {
 	Registry, Repository, Tag, Digest string
@@ -195,6 +242,17 @@ func Pin(text string, descriptor []byte) (string, error) {
 func CheckDigest(text string) error {
 	bytes := []byte(text)
 	if status := C.ciderglen_digest_check(pointer(bytes), C.size_t(len(bytes))); status != C.CIDERGLEN_DONE {
+		return Error(status)
+	}
+	return nil
+}
+
+// Verify returns nil if the content has the digest and the size that a descriptor says of it. The error is ErrOtherSize or
+// ErrOtherDigest if it has another, ErrUnknownAlgorithm if the digest is by none of sha256, sha384 and sha512, and ErrInvalidDigest
+// or ErrInvalidUTF8 if the text is not a digest.
+func Verify(digest string, size uint64, content []byte) error {
+	bytes := []byte(digest)
+	if status := C.ciderglen_verify(pointer(bytes), C.size_t(len(bytes)), C.uint64_t(size), pointer(content), C.size_t(len(content))); status != C.CIDERGLEN_DONE {
 		return Error(status)
 	}
 	return nil

@@ -94,6 +94,57 @@ func TestErrors(t *testing.T) {
 	}
 }
 
+func TestBrokenRules(t *testing.T) {
+	document := []byte(`{"imageLayoutVersion":"1.0.1"}`)
+	expected := "/imageLayoutVersion: layout-version (stated, image image-layout.md#oci-layout-file): 1.0.0\n"
+	if count, lines, err := BrokenRules(Layout, Stated, OfDocument, document); count != 1 || string(lines) != expected || err != nil {
+		t.Errorf("%d, %q, %v", count, lines, err)
+	}
+	if count, lines, err := BrokenRules(Layout, Must, Linux, document); count != 0 || len(lines) != 0 || err != nil {
+		t.Errorf("%d, %q, %v", count, lines, err)
+	}
+	for _, it := range []struct {
+		kind     Kind
+		level    Level
+		platform Platform
+		document string
+		expected Error
+	}{
+		{Layout, Host, OfDocument, "{", ErrInvalidJSON},
+		{14, Must, OfDocument, "{}", ErrUnknownKind},
+		{Layout, 4, OfDocument, "{}", ErrUnknownLevel},
+		{Layout, Must, 7, "{}", ErrUnknownPlatform},
+	} {
+		if count, _, err := BrokenRules(it.kind, it.level, it.platform, []byte(it.document)); count != 0 || err != it.expected {
+			t.Errorf("BrokenRules(%d, %d, %d, %q): %d, %v", it.kind, it.level, it.platform, it.document, count, err)
+		}
+	}
+}
+
+// The digest of FIPS 180-4's example abc.
+func TestVerify(t *testing.T) {
+	digest := "sha256:ba7816bf8f01cfea414140de5dae2223b00361a396177a9cb410ff61f20015ad"
+	if err := Verify(digest, 3, []byte("abc")); err != nil {
+		t.Error(err)
+	}
+	for _, it := range []struct {
+		digest   string
+		size     uint64
+		content  string
+		expected Error
+	}{
+		{digest, 4, "abc", ErrOtherSize},
+		{digest, 3, "abd", ErrOtherDigest},
+		{"md5:900150983cd24fb0", 3, "abc", ErrUnknownAlgorithm},
+		{"sha256:abc", 3, "abc", ErrInvalidDigest},
+		{"\xff", 3, "abc", ErrInvalidUTF8},
+	} {
+		if err := Verify(it.digest, it.size, []byte(it.content)); err != it.expected {
+			t.Errorf("Verify(%q, %d, %q): %v", it.digest, it.size, it.content, err)
+		}
+	}
+}
+
 func TestReferences(t *testing.T) {
 	digest := "sha256:" + strings.Repeat("0", 64)
 	reference, err := ParseReference("test:5000/team/app:v1@" + digest)

@@ -1,6 +1,6 @@
 """The books of each kind of documents, in a crate above those of the books; that each place stands in its documents' shape."""
 from generator.records import snake
-from rule_books.specs import pascal
+from rule_books.tree import pascal
 
 CRATE = "oci_rule_books"
 BOOKS = "Result<Vec<&'static [Rule<'static>]>, AllocError>"
@@ -11,19 +11,22 @@ def variant(kind):
     return pascal(kind)
 
 
+def defined(model, kinds):
+    """The imports of the definitions of the books of these kinds."""
+    words = {}
+    for it in (book for kind in kinds for book in model.books_of(kind)):
+        words.setdefault((model.crate[it.file], pascal(it.file)), []).append(f"{it.word}_rules")
+    return "".join(f"use Rattle.{crate}.specs.{file}.{{{', '.join(dict.fromkeys(it))}}}\n" for (crate, file), it in sorted(words.items()))
+
+
 def kinds_specs(model):
     """The rules of each kind: those of its books."""
-    imports = {}
-    for kind in model.kinds:
-        for it in model.books_of(kind):
-            imports.setdefault((model.crate[it.file], pascal(it.file)), []).append(f"{it.word}_rules")
     out = "-- The rules of each kind of documents: those of its books.\n"
     out += "use Rattle.std.specs.Prelude.{List, [], ◌++◌}\n"
-    out += "use Rattle.oci_doc_run.specs.declared.kind.Kind.{Kind}\n"
-    out += f"use Rattle.oci_doc_run.specs.declared.kind.Kind.TheVariants.{{{', '.join(variant(it) for it in model.kinds)}}}\n"
+    out += "use Rattle.oci_kinds.specs.declared.kind.Kind.{Kind}\n"
+    out += f"use Rattle.oci_kinds.specs.declared.kind.Kind.TheVariants.{{{', '.join(variant(it) for it in model.kinds)}}}\n"
     out += "use Rattle.oci_rules.specs.Rules.{Rule}\n"
-    for (crate, file), words in sorted(imports.items()):
-        out += f"use Rattle.{crate}.specs.{file}.{{{', '.join(dict.fromkeys(words))}}}\n"
+    out += defined(model, model.kinds)
     out += "\nabbrev pub rules_of : Kind → List Rule\n"
     for kind in model.kinds:
         books = model.books_of(kind)
@@ -40,24 +43,24 @@ def kinds_source(model):
     out = "//! The books of rules of each kind of documents.\n#![tactic(auto)]\n"
     out += "ghost use Rattle.std.specs.Prelude.{◌≡◌, map, IfOk};\nghost use Rattle.std.specs.List.{flat_map};\n"
     out += "ghost use Rattle.oci_rules.specs.Tables.{rule_of};\n"
-    out += f"ghost use Rattle.{CRATE}.specs.Kinds as kinds;\nghost use Rattle.oci_doc_run.specs.declared.kind.Kind.TheVariants as kind;\n\n"
-    out += "use oci_doc_run::Kind;\nuse oci_rules::Rule;\n"
+    out += f"ghost use Rattle.{CRATE}.specs.Kinds as kinds;\nghost use Rattle.oci_kinds.specs.declared.kind.Kind.TheVariants as kind;\n\n"
+    out += "use oci_kinds::Kind;\nuse oci_rules::Rule;\n"
     for crate, words in sorted(used.items()):
         out += f"use {crate}::{{{', '.join(sorted(set(words)))}}};\n"
     out += "use std::alloc::{AllocError, Global};\n"
-    out += "\n/// Returns the books of a kind of documents, in their order. Fails if out of memory.\n"
+    out += "\n/// Returns the rules of a kind of documents, in the order of its books, a few in each slice. Fails if out of memory.\n"
     out += f"pub fn rules_of(kind: Kind, alloc: Global) -> {BOOKS}\n"
     out += f"    ensures {{ IfOk result (λ v. {RULES} v.items ≡ kinds.rules_of kind) }}\n{{\n    match kind {{\n"
     for kind in model.kinds:
         out += f"        Kind::{variant(kind)} => {snake_of(kind)}_books(alloc),\n"
     out += "    }\n}\n"
     for kind in model.kinds:
-        calls = ", ".join(f"{it.word}_rules()" for it in model.books_of(kind))
+        calls = ", ".join(f"&{it.word}_rules()" for it in model.books_of(kind))
         out += f"\nfn {snake_of(kind)}_books(alloc: Global) -> {BOOKS}\n"
         out += f"    ensures {{ IfOk result (λ v. {RULES} v.items ≡ kinds.rules_of kind.{variant(kind)}) }}\n{{\n    collected(&[{calls}], alloc)\n}}\n"
-    out += f"\nfn collected(books: &[&'static [Rule<'static>]], alloc: Global) -> {BOOKS}\n"
-    out += "    ensures { IfOk result (λ v. v.items ≡ books.now) }\n{\n"
-    return out + "    let mut out = Vec::new(alloc);\n    out.extend_from_slice(books)?;\n    Ok(out)\n}\n"
+    out += f"\nfn collected(books: &[&[&'static [Rule<'static>]]], alloc: Global) -> {BOOKS}\n"
+    out += "    ensures { IfOk result (λ v. v.items ≡ flat_map (λ b. b.now) books.now) }\n{\n"
+    return out + "    let mut out = Vec::new(alloc);\n    for book in books {\n        out.extend_from_slice(book)?;\n    }\n    Ok(out)\n}\n"
 
 
 def snake_of(kind):
@@ -68,38 +71,28 @@ def places(model):
     """That each place of each kind's rules stands in the shape of its documents."""
     out = "-- Each place of the rules of a kind stands in the shape of its documents.\n"
     out += "use Rattle.std.specs.Prelude.{◌≡◌, true, refl}\n"
-    out += "use Rattle.oci_doc_run.specs.declared.kind.Kind.{Kind}\n"
-    out += f"use Rattle.oci_doc_run.specs.declared.kind.Kind.TheVariants.{{{', '.join(variant(it) for it in model.kinds)}}}\n"
-    out += f"use Rattle.oci_doc_run.specs.Kinds.{{shape_of}}\nuse Rattle.{CRATE}.specs.Kinds.{{rules_of}}\nuse Rattle.{CRATE}.specs.Stands.{{stands_in}}\n"
+    out += "use Rattle.oci_kinds.specs.declared.kind.Kind.{Kind}\n"
+    out += f"use Rattle.oci_kinds.specs.declared.kind.Kind.TheVariants.{{{', '.join(variant(it) for it in model.kinds)}}}\n"
+    out += f"use Rattle.oci_kinds.specs.Kinds.{{shape_of}}\nuse Rattle.{CRATE}.specs.Kinds.{{rules_of}}\nuse Rattle.{CRATE}.specs.Stands.{{stands_in}}\n"
     out += "\npub each_stands : (kind : Kind) → stands_in (shape_of kind) (rules_of kind) ≡ true\n"
     return out + "".join(f"each_stands {variant(kind)} = refl\n" for kind in model.kinds)
 
 
 def answers(model, kind):
-    """The proof for a kind of many books, which is one step a book."""
+    """The proof for a kind, which is one step a book."""
     books = model.books_of(kind)
-    calls = [f"c.{it.word}_rules" for it in books]
-    listed = "".join(f"{it}.result ∷ " for it in calls) + "[]"
     rules = "".join(f"{it.word}_rules ∷ " for it in books) + "[]"
-    equal = "".join(f"({it}.ensures, " for it in calls) + "tt" + ")" * len(calls)
-    imports = {}
-    for it in books:
-        imports.setdefault((model.crate[it.file], pascal(it.file)), []).append(f"{it.word}_rules")
+    have = "".join(f"(c.{it.word}_rules.ensures, " for it in books) + "tt" + ")" * len(books)
     out = "use Rattle.std.proofs.Common.{[], ◌∷◌}\n"
-    out += f"use Rattle.{CRATE}.specs.Kinds as kinds\nuse Rattle.{CRATE}.proofs.Chains.{{all_joined, collects}}\n"
-    out += "".join(f"use Rattle.{crate}.specs.{file}.{{{', '.join(words)}}}\n" for (crate, file), words in sorted(imports.items()))
-    out += "use Rattle.oci_doc_run.specs.declared.kind.Kind.TheVariants as kind\n"
+    out += f"use Rattle.{CRATE}.proofs.Chains.{{collects}}\n"
+    out += defined(model, [kind])
     out += f"use Rattle.{CRATE}.proofs.{snake_of(kind)}_books.Goals as goal\n\npub returns : goal.returns\nreturns c =\n"
-    out += f"    collects c.collected.result (λ v. v.items)\n    ({listed})\n    (kinds.rules_of kind.{variant(kind)}) c.collected.ensures\n"
-    return out + f"    (all_joined\n    ({listed})\n    ({rules})\n    {equal})\n"
-
-
-# from so many books on the search does not find the proof
-MANY = 12
+    parts = "".join(f"c.{it.word}_rules.result ∷ " for it in books) + "[]"
+    return out + f"    collects c.collected.result (λ v. v.items)\n    ({parts})\n    ({rules})\n    c.collected.ensures\n    {have}\n"
 
 
 def files(model):
     """All files, by their paths."""
     folder = f"crates/{CRATE}"
-    many = {f"{folder}/proofs/{snake_of(kind)}_books/Answers.antt": answers(model, kind) for kind in model.kinds if len(model.books_of(kind)) > MANY}
-    return many | {f"{folder}/specs/Kinds.antt": kinds_specs(model), f"{folder}/src/lib.rt": kinds_source(model), f"{folder}/proofs/Places.antt": places(model)}
+    proofs = {f"{folder}/proofs/{snake_of(kind)}_books/Answers.antt": answers(model, kind) for kind in model.kinds}
+    return proofs | {f"{folder}/specs/Kinds.antt": kinds_specs(model), f"{folder}/src/lib.rt": kinds_source(model), f"{folder}/proofs/Places.antt": places(model)}

@@ -35,9 +35,14 @@ class Description:
         self.peers = "" if self.peers == "-" else self.peers
         try:
             tests = [reader.test(parts(it)) for it in split(self.asked)]
-            self.lines = [Line(self, (*place, *steps), test) for steps, test in tests for place in places(self.where)]
+            self.lines = [Line(self, once((*place, *steps)), test) for steps, test in tests for place in places(self.where)]
         except (Wrong, IndexError, ValueError) as wrong:
             raise Wrong(f"{self.name}: {wrong}") from wrong
+
+
+def once(steps):
+    """The steps with what is asked of the whole document in front, so that it is not asked again of each part."""
+    return tuple(sorted(steps, key=lambda it: it[:2] != ("when", "document")))
 
 
 def split(text):
@@ -83,41 +88,6 @@ class Group:
                 steps, name = entry
                 for line in groups[name].lines(groups):
                     yield line.beneath(steps)
-
-
-class Piece:
-    """A piece of a book, which is one constant of the code: some of its lines, or a set that it includes."""
-
-    def __init__(self, group, word, entries):
-        self.kind, self.file, self.word, self.entries = "book", group.file, word, entries
-        self.name = word.replace("_", "-")
-
-    def lines(self, groups):
-        for entry in self.entries:
-            yield from [entry] if isinstance(entry, Line) else (it.beneath(entry[0]) for it in groups[entry[1]].lines(groups))
-
-
-# the proof of a constant takes a time that grows with the square of its lines
-MOST = 12
-
-
-def pieces(group):
-    """The pieces of a book, in order: what it includes, and its own lines in as few runs of at most MOST as hold them."""
-    runs = []
-    for entry in group.entries:
-        if isinstance(entry, Description):
-            if not runs or not isinstance(runs[-1], list):
-                runs.append([])
-            runs[-1] += entry.lines
-        else:
-            runs.append(entry)
-    cut = []
-    for run in runs:
-        count = -(-len(run) // MOST) if isinstance(run, list) else 1
-        size = -(-len(run) // count) if isinstance(run, list) else 1
-        cut += [run[at : at + size] for at in range(0, len(run), size)] if isinstance(run, list) else [[run]]
-    words = [group.word] + [f"{group.word}_{number}" for number in range(2, len(cut) + 1)]
-    return [Piece(group, word, entries) for word, entries in zip(words, cut)]
 
 
 class Model:
@@ -198,9 +168,5 @@ class Model:
         return out
 
     def books_of(self, kind):
-        """The pieces of a kind's books."""
-        return [piece for it in self.kinds[kind][1] for piece in pieces(self.groups[it])]
-
-    def constants(self, file):
-        """What a file defines: its sets, and the pieces of its books."""
-        return [it for group in self.files[file] for it in ([group] if group.kind == "set" else pieces(group))]
+        """The books of a kind."""
+        return [self.groups[it] for it in self.kinds[kind][1]]

@@ -22,6 +22,7 @@ import glob
 import json
 import os
 
+PROGRAM = "crates/oci_test_rules"
 MARK = "# Written by tools/gen_rules from tools/rules/rows; do not edit.\n"
 
 
@@ -134,10 +135,16 @@ def lacking(model, rows):
     return out + [f"{name}: rows of no rule" for name in found if name not in rules]
 
 
-def written(rows, model):
+def texts(root):
+    """The rows of texts, which are written by hand."""
+    with open(os.path.join(root, PROGRAM, "data/texts.rows"), encoding="utf-8") as file:
+        return [line for line in file if line.strip() and not line.startswith("#")]
+
+
+def written(root, rows, model):
     """The data of the test program, a file a kind, and what it prints."""
     out = {f"data/{kind}.rows": MARK + "".join("\n" + row.text() for row in of_kind) for kind, of_kind in rows.items()}
-    out["stdout"] = "".join(f"{kind}: {len(rows.get(kind, ()))} rows\n" for kind in model.kinds)
+    out["stdout"] = "".join(f"{kind}: {len(rows.get(kind, ()))} rows\n" for kind in model.kinds) + f"texts: {len(texts(root))} rows\n"
     return out
 
 
@@ -145,11 +152,11 @@ def run(root, model, check):
     """Writes the rows, or says which are not up to date. Returns the exit status."""
     rows = all_rows(root)
     status = 0
-    for name, made in written(rows, model).items():
-        path = os.path.join(root, "crates/oci_test_rules", name)
+    for name, made in written(root, rows, model).items():
+        path = os.path.join(root, PROGRAM, name)
         if os.path.exists(path) and open(path, encoding="utf-8").read() == made:
             continue
-        print(f"{'differs: ' if check else ''}crates/oci_test_rules/{name}")
+        print(f"{'differs: ' if check else ''}{PROGRAM}/{name}")
         status = 1
         if not check:
             os.makedirs(os.path.dirname(path), exist_ok=True)

@@ -1,105 +1,88 @@
-"""The constants of the code: a file for each book, with the rules at their whole places."""
+"""The constants of the code: a file for each book, with the rules at their whole places, a few in each constant.
+
+What a constant means is proved in a time that grows with the square of its strings, and a book's call in one that grows with its constants.
+"""
+import re
+
+from rule_books import tree
 from rule_books.model import PLATFORMS, POSIX
-from rule_books.specs import pascal
+from rule_books.tree import pascal
 
 VARIANTS = {"linux": "Linux", "windows": "Windows", "solaris": "Solaris", "vm": "Vm", "zos": "Zos", "freebsd": "FreeBsd"}
 LEVELS = {"must": "Must", "stated": "Stated", "should": "Should", "host": "Host"}
-TYPES = ("Check", "Condition", "Key", "Level", "Origin", "Rule", "Step", "Test")
-# the number of rules from which on a list of texts or platforms is a constant of its own
-OWN = 2
+TYPES = ("Check", "Condition", "Key", "Level", "Origin", "Step", "Test")
+# the rules of one constant
+MOST = 3
 
 
-def text(it):
-    return f'"{it}"'
+class Code(tree.Printer):
+    """What the code says of places and tests."""
 
+    def text(self, it):
+        return f'"{it}"'
 
-def array(items):
-    return f"&[{', '.join(items)}]"
+    def integer(self, it):
+        return str(it)
 
+    def list_name(self, name):
+        return name.upper()
 
-def texts(items, names):
-    return names[items].upper() if items in names else array([text(it) for it in items])
+    def listing(self, items):
+        return f"&[{', '.join(items)}]"
 
-
-def check(it, names):
-    word, *rest = it
-    if word == "there":
-        return "Check::There"
-    if word == "one_of":
-        return f"Check::OneOf({texts(rest[0], names)})"
-    if word == "boolean":
-        return f"Check::Boolean({str(rest[0]).lower()})"
-    if word == "within":
-        return f"Check::Within({rest[0]}, {rest[1]})"
-    if word == "lists":
-        return f"Check::Lists({texts(rest[0], names)})"
-    return f"Check::ListsItem({text(rest[0])}, {', '.join(texts(ts, names) for ts in rest[1:])})"
-
-
-def step(it, names):
-    word = it[0]
-    if word == "member":
-        return f"Step::Member({text(it[1])})"
-    if word == "when":
-        origin = {"part": "Part", "document": "Document"}[it[1]]
-        return (f"Step::When(Condition {{ origin: Origin::{origin}, way: {array([text(name) for name in it[2]])}, "
-                f"holds: {str(it[3]).lower()}, check: {check(it[4], names)} }})")
-    return {"item": "Step::EachItem", "each": "Step::EachMember", "name": "Step::EachName"}[word]
-
-
-def key(it):
-    if it[0] == "members":
-        return f"Key::Members({array([array([text(name) for name in way]) for way in it[1]])})"
-    return {"itself": "Key::Itself", "entry_name": "Key::EntryName"}[it[0]]
-
-
-def test(it, names):
-    word, *rest = it
-    name = pascal(word)
-    if word == "text":
-        return f"Test::Text(Grammar::{rest[0]})"
-    if word in ("one_of", "none_of", "lists"):
-        return f"Test::{name}({texts(rest[0], names)})"
-    if word == "either":
-        return f"Test::Either({array([text(t) for t in rest[0]])})"
-    if word == "reserved":
-        return f"Test::Reserved({text(rest[0])}, {texts(rest[1], names)})"
-    if word == "boolean":
-        return f"Test::Boolean({str(rest[0]).lower()})"
-    if word == "distinct":
-        return f"Test::Distinct({key(rest[0])})"
-    return f"Test::{name}" + (f"({', '.join(str(it) if isinstance(it, int) else text(it) for it in rest)})" if rest else "")
+    def call(self, it, arguments):
+        if it.fields:
+            return f"{it.code} {{ {', '.join(f'{name}: {each}' for name, each in zip(it.fields, arguments))} }}"
+        return f"{it.type}::{it.code}" + (f"({', '.join(arguments)})" if arguments else "")
 
 
 def platforms(items):
     return {PLATFORMS: "EVERY", POSIX: "POSIX"}.get(items) or array([f"Platform::{VARIANTS[it]}" for it in items])
 
 
-def rule(line, names):
+def array(items):
+    return f"&[{', '.join(items)}]"
+
+
+def rule(line, code):
     it = line.description
-    return (f"    Rule {{ name: {text(it.name)}, level: Level::{LEVELS[it.level]}, section: {text(it.section)}, wanted: {text(it.wanted)}, "
-            f"platforms: {platforms(it.platforms)}, place: {array([step(s, names) for s in line.steps])}, test: {test(line.test, names)} }},\n")
+    return (f"    Rule {{ name: {code.text(it.name)}, level: Level::{LEVELS[it.level]}, section: {code.text(it.section)}, wanted: {code.text(it.wanted)}, "
+            f"platforms: {platforms(it.platforms)}, place: {code.listing([code.shown(tree.step(s)) for s in line.steps])}, test: {code.shown(tree.test(line.test))} }},\n")
+
+
+def parts(group, model):
+    """The lines of a book as runs of about the same length, of at most MOST."""
+    lines = list(group.lines(model.groups))
+    count = -(-len(lines) // MOST)
+    size = -(-len(lines) // count)
+    return [lines[at : at + size] for at in range(0, len(lines), size)]
+
+
+def imports(rules, group, model):
+    """The imports of a book's file, by the words that its rules have."""
+    crate = model.crate[group.file]
+    words = set(re.findall(r"\w+", re.sub(r'"[^"]*"', "", rules)))
+    shared = [it for it in ("EVERY", "POSIX", *(it.upper() for it in model.lists_of(crate))) if it in words]
+    types = sorted(it for it in ("Rule", "Platform", *TYPES) if it in words)
+    out = "ghost use Rattle.std.specs.Prelude.{◌≡◌, map};\nghost use Rattle.std.specs.List.{flat_map};\nghost use Rattle.oci_rules.specs.Tables.{rule_of};\n"
+    out += f"ghost use Rattle.{crate}.specs.{pascal(group.file)} as defined;\n\n"
+    out += f"use crate::lists::{{{', '.join(sorted(shared))}}};\n" if shared else ""
+    out += "use oci_rule_texts::Grammar;\n" if "Grammar" in words else ""
+    return out + f"use oci_rules::{{{', '.join(types)}}};\n\n"
 
 
 def book(group, model):
     """The file of a book."""
-    crate = model.crate[group.file]
-    names = {texts: name for name, texts in model.lists.items()}
-    lines = list(group.lines(model.groups))
-    rules = "".join(rule(it, names) for it in lines)
-    shared = [it for it in ("EVERY", "POSIX") if it in rules] + [it.upper() for it in model.lists_of(crate) if it.upper() in rules.split('"')[0] or f"({it.upper()})" in rules or f", {it.upper()})" in rules]
-    types = [it for it in TYPES if f"{it}::" in rules or f"{it} {{" in rules]
-    types += ["Platform"] if "Platform::" in rules else []
-    out = f"//! The book of {group.name.replace('-', ' ')}.\n"
-    out += "ghost use Rattle.std.specs.Prelude.{◌≡◌, map};\nghost use Rattle.oci_rules.specs.Tables.{rule_of};\n"
-    out += f"ghost use Rattle.{crate}.specs.{pascal(group.file)}.{{{group.word}_rules}} as defined;\n\n" if False else f"ghost use Rattle.{crate}.specs.{pascal(group.file)} as defined;\n\n"
-    out += f"use crate::lists::{{{', '.join(sorted(shared))}}};\n" if shared else ""
-    out += "use oci_rule_texts::Grammar;\n" if "Grammar::" in rules else ""
-    out += f"use oci_rules::{{{', '.join(sorted(types))}}};\n\n"
-    out += f"static RULES: [Rule<'static>; {len(lines)}] = [\n{rules}];\n\n"
-    out += f"/// Returns the book of {group.name.replace('-', ' ')}.\npub fn {group.word}_rules() -> &'static [Rule<'static>]\n"
-    out += f"    ensures {{ map rule_of result.now ≡ defined.{group.word}_rules }}\n{{\n    &RULES\n}}\n"
-    return out
+    code = Code({texts: name for name, texts in model.lists.items()})
+    runs = parts(group, model)
+    rules = ["".join(rule(it, code) for it in run) for run in runs]
+    names = [f"RULES_{number}" for number in range(1, len(runs) + 1)] if len(runs) > 1 else ["RULES"]
+    title = group.name.replace("-", " ")
+    out = f"//! The book of {title}.\n" + imports("".join(rules), group, model)
+    out += "".join(f"static {name}: [Rule<'static>; {len(run)}] = [\n{text}];\n\n" for name, run, text in zip(names, runs, rules))
+    out += f"/// Returns the book of {title}, a few rules in each slice.\npub fn {group.word}_rules() -> [&'static [Rule<'static>]; {len(runs)}]\n"
+    out += f"    ensures {{ flat_map (λ b. map rule_of b.now) result ≡ defined.{group.word}_rules }}\n{{\n"
+    return out + f"    [{', '.join(f'&{name}' for name in names)}]\n}}\n"
 
 
 def lists(model, crate):
@@ -108,20 +91,20 @@ def lists(model, crate):
     if any(it.platforms == POSIX for it in model.descriptions_of(crate)):
         out += f"\n/// All but Windows.\npub(crate) const POSIX: &[Platform] = {array([f'Platform::{VARIANTS[it]}' for it in POSIX])};\n"
     for name in model.lists_of(crate):
-        out += f"\n/// {model.list_about[name]}\npub(crate) const {name.upper()}: &[&str] = {array([text(it) for it in model.lists[name]])};\n"
+        items = array([f'"{it}"' for it in model.lists[name]])
+        out += f"\n/// {model.list_about[name]}\npub(crate) const {name.upper()}: &[&str] = {items};\n"
     return out
 
 
 ABOUT = {
     "oci_rules_image": "The books of rules of image and distribution documents.",
     "oci_rules_runtime": "The books of rules of containers' configurations, states and features.",
-    "oci_policies": "Policies: rules of one's own, as books that are proved to be their descriptions in `policies/`.",
 }
 
 
 def books(model):
-    """The pieces of all books."""
-    return [it for file in model.files for it in model.constants(file) if it.kind == "book"]
+    """All books."""
+    return [it for groups in model.files.values() for it in groups if it.kind == "book"]
 
 
 def root(model, crate):

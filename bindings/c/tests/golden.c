@@ -165,11 +165,34 @@ static void others(void) {
     CHECK(ciderglen_digest_check(TEXT("foo:bar")) == CIDERGLEN_DONE);
     CHECK(ciderglen_digest_check(TEXT("sha256:abc")) == CIDERGLEN_INVALID_DIGEST);
     CHECK(ciderglen_digest_check(TEXT("\xff")) == CIDERGLEN_INVALID_UTF8);
+    CHECK(ciderglen_verify(TEXT("sha256:ba7816bf8f01cfea414140de5dae2223b00361a396177a9cb410ff61f20015ad"), 3, TEXT("abc")) == CIDERGLEN_DONE);
+    CHECK(ciderglen_verify(TEXT("sha256:ba7816bf8f01cfea414140de5dae2223b00361a396177a9cb410ff61f20015ad"), 3, TEXT("abd")) == CIDERGLEN_OTHER_DIGEST);
+    CHECK(ciderglen_verify(TEXT("sha256:abc"), 3, TEXT("abc")) == CIDERGLEN_INVALID_DIGEST);
+    CHECK(ciderglen_verify(TEXT("sha256:ba7816bf8f01cfea414140de5dae2223b00361a396177a9cb410ff61f20015ad"), 4, TEXT("abc")) == CIDERGLEN_OTHER_SIZE);
+    CHECK(ciderglen_verify(TEXT("md5:900150983cd24fb0"), 3, TEXT("abc")) == CIDERGLEN_UNKNOWN_ALGORITHM);
+    CHECK(ciderglen_verify(TEXT("\xff"), 3, TEXT("abc")) == CIDERGLEN_INVALID_UTF8);
+    CHECK(ciderglen_verify(TEXT("sha256:e3b0c44298fc1c149afbf4c8996fb92427ae41e4649b934ca495991b7852b855"), 0, none, 0) == CIDERGLEN_DONE);
     CHECK(ciderglen_pin(TEXT("busybox:1"), TEXT("{\"mediaType\":\"a/b\",\"size\":1,\"digest\":\"x:y\"}"), buffer, sizeof buffer, &output_len) == CIDERGLEN_DONE);
     CHECK(output_len == 29 && !memcmp(buffer, "docker.io/library/busybox@x:y", 29));
     CHECK(ciderglen_pin(TEXT("busybox:1"), TEXT("{}"), buffer, sizeof buffer, &output_len) == CIDERGLEN_INVALID_DOCUMENT);
     CHECK(ciderglen_pin(TEXT("busybox:1"), TEXT("{"), buffer, sizeof buffer, &output_len) == CIDERGLEN_INVALID_JSON);
     CHECK(ciderglen_pin(TEXT("busybox:"), TEXT("{"), buffer, sizeof buffer, &output_len) == CIDERGLEN_REFERENCE_INVALID_FORMAT);
+}
+
+static void rules(void) {
+    static const char line[] = "/imageLayoutVersion: layout-version (stated, image image-layout.md#oci-layout-file): 1.0.0\n";
+    uint8_t buffer[256];
+    size_t output_len, count;
+    CHECK(ciderglen_broken_rules(CIDERGLEN_KIND_LAYOUT, CIDERGLEN_LEVEL_STATED, CIDERGLEN_PLATFORM_OF_DOCUMENT, TEXT("{\"imageLayoutVersion\":\"1.0.1\"}"), buffer, sizeof buffer, &output_len, &count) == CIDERGLEN_DONE);
+    CHECK(count == 1 && output_len == sizeof line - 1 && !memcmp(buffer, line, sizeof line - 1));
+    CHECK(ciderglen_broken_rules(CIDERGLEN_KIND_LAYOUT, CIDERGLEN_LEVEL_HOST, CIDERGLEN_PLATFORM_FREEBSD, TEXT("{\"imageLayoutVersion\":\"1.0.1\"}"), buffer, 1, &output_len, &count) == CIDERGLEN_BUFFER_TOO_SMALL);
+    CHECK(count == 1 && output_len == sizeof line - 1);
+    CHECK(ciderglen_broken_rules(CIDERGLEN_KIND_LAYOUT, CIDERGLEN_LEVEL_MUST, CIDERGLEN_PLATFORM_LINUX, TEXT("{\"imageLayoutVersion\":\"1.0.1\"}"), buffer, sizeof buffer, &output_len, &count) == CIDERGLEN_DONE);
+    CHECK(count == 0 && output_len == 0);
+    CHECK(ciderglen_broken_rules(14, CIDERGLEN_LEVEL_MUST, CIDERGLEN_PLATFORM_LINUX, TEXT("{}"), buffer, sizeof buffer, &output_len, &count) == CIDERGLEN_UNKNOWN_KIND && count == 0);
+    CHECK(ciderglen_broken_rules(CIDERGLEN_KIND_LAYOUT, 4, CIDERGLEN_PLATFORM_LINUX, TEXT("{}"), buffer, sizeof buffer, &output_len, &count) == CIDERGLEN_UNKNOWN_LEVEL && count == 0);
+    CHECK(ciderglen_broken_rules(CIDERGLEN_KIND_LAYOUT, CIDERGLEN_LEVEL_MUST, 7, TEXT("{}"), buffer, sizeof buffer, &output_len, &count) == CIDERGLEN_UNKNOWN_PLATFORM && output_len == 0);
+    CHECK(ciderglen_broken_rules(CIDERGLEN_KIND_LAYOUT, CIDERGLEN_LEVEL_MUST, CIDERGLEN_PLATFORM_LINUX, TEXT("{"), buffer, sizeof buffer, &output_len, &count) == CIDERGLEN_INVALID_JSON && output_len == 0);
 }
 
 /* Documents that nest as deep as the parser allows. */
@@ -205,6 +228,7 @@ static void deep(void) {
 static void *in_thread(void *unused) {
     (void)unused;
     others();
+    rules();
     deep();
     return 0;
 }

@@ -1,5 +1,6 @@
 /* Lets each allocation of each function fail in turn: out_of_memory MANIFEST. Linked with --wrap for malloc, realloc and free. The
- * status has to be CIDERGLEN_OUT_OF_MEMORY, the buffer unchanged and all memory freed. */
+ * status has to be CIDERGLEN_OUT_OF_MEMORY, the buffer unchanged and all memory freed. ciderglen_normalize, which begins anew another way
+ * if its first one finds nothing out, may return its text after all. */
 #include <ciderglen.h>
 
 #include <stdio.h>
@@ -29,25 +30,32 @@ void __wrap_free(void *block) {
     __real_free(block);
 }
 
-static uint8_t document[1 << 20], buffer[1 << 20];
-static size_t document_len, output_len;
+static uint8_t document[1 << 20], buffer[1 << 20], text[1 << 20];
+static size_t document_len, output_len, text_len;
 
-enum { CALLS = 7 };
+enum { CALLS = 8 };
 
 static uint32_t call(int which) {
-    static const uint8_t text[] = "registry.example.com:5000/team/app:v1.2";
+    static const uint8_t name[] = "registry.example.com:5000/team/app:v1.2";
     static const uint8_t json[] = "{\"mediaType\":\"a/b\",\"size\":1,\"digest\":\"x:y\",\"annotations\":{\"a\":\"b\"}}";
-    size_t count, len = sizeof text - 1;
+    size_t count, len = sizeof name - 1;
     struct ciderglen_reference parts;
     switch (which) {
     case 0: return ciderglen_normalize(CIDERGLEN_KIND_MANIFEST, document, document_len, buffer, sizeof buffer, &output_len);
     case 1: return ciderglen_pretty(CIDERGLEN_KIND_MANIFEST, document, document_len, buffer, sizeof buffer, &output_len);
     case 2: return ciderglen_violations(CIDERGLEN_KIND_INDEX, document, document_len, buffer, sizeof buffer, &output_len, &count);
-    case 3: return ciderglen_reference(text, len, buffer, sizeof buffer, &output_len, &parts);
-    case 4: return ciderglen_resolve_registry(text, len, buffer, sizeof buffer, &output_len);
-    case 5: return ciderglen_pin(text, len, json, sizeof json - 1, buffer, sizeof buffer, &output_len);
+    case 3: return ciderglen_reference(name, len, buffer, sizeof buffer, &output_len, &parts);
+    case 4: return ciderglen_resolve_registry(name, len, buffer, sizeof buffer, &output_len);
+    case 5: return ciderglen_pin(name, len, json, sizeof json - 1, buffer, sizeof buffer, &output_len);
+    case 6: return ciderglen_broken_rules(CIDERGLEN_KIND_MANIFEST, CIDERGLEN_LEVEL_HOST, CIDERGLEN_PLATFORM_LINUX, document, document_len, buffer, sizeof buffer, &output_len, &count);
     default: return ciderglen_digest_check((const uint8_t *)"foo:bar", 7);
     }
+}
+
+/* Whether the answer to a call in which an allocation failed is as it has to be. */
+static int is_right(int which, uint32_t status) {
+    if (status == CIDERGLEN_OUT_OF_MEMORY) return buffer[0] == '.' && !output_len;
+    return which == 0 && status == CIDERGLEN_DONE && output_len == text_len && !memcmp(buffer, text, text_len);
 }
 
 int main(int argc, char **argv) {
@@ -60,13 +68,14 @@ int main(int argc, char **argv) {
         failing = allocations = live = 0;
         uint32_t status = call(which);
         long all = allocations;
+        memcpy(text, buffer, text_len = output_len);
         failures += live != 0 || status != CIDERGLEN_DONE;
         for (failing = 1; failing <= all; failing++) {
             allocations = live = 0;
             memset(buffer, '.', 64);
             output_len = 7;
             uint32_t failed = call(which);
-            if (failed != CIDERGLEN_OUT_OF_MEMORY || live || buffer[0] != '.' || output_len) {
+            if (live || !is_right(which, failed)) {
                 failures++;
                 printf("call %d, allocation %ld: status %u, %ld blocks live, output_len %zu\n", which, failing, failed, live, output_len);
             }

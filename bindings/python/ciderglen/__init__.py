@@ -24,14 +24,18 @@ __all__ = [
     "InvalidJSON",
     "InvalidReference",
     "Kind",
+    "Level",
+    "Platform",
     "Reference",
     "Status",
+    "broken_rules",
     "is_digest",
     "normalize",
     "normalize_pretty",
     "parse_reference",
     "pin",
     "resolve_registry",
+    "verify",
     "violations",
 ]
 
@@ -57,6 +61,27 @@ class Kind(enum.IntEnum):
     FEATURES = 13
 
 
+class Level(enum.IntEnum):
+    """A level of rules, which stands for those above it, too."""
+
+    MUST = 0
+    STATED = 1
+    SHOULD = 2
+    HOST = 3
+
+
+class Platform(enum.IntEnum):
+    """A platform that a document is for; OF_DOCUMENT is the one that its parts say."""
+
+    OF_DOCUMENT = 0
+    LINUX = 1
+    WINDOWS = 2
+    SOLARIS = 3
+    VM = 4
+    ZOS = 5
+    FREEBSD = 6
+
+
 class Status(enum.IntEnum):
     """A status of the library."""
 
@@ -68,6 +93,11 @@ class Status(enum.IntEnum):
     INVALID_DOCUMENT = 5
     INVALID_UTF8 = 6
     INVALID_DIGEST = 7
+    OTHER_SIZE = 8
+    OTHER_DIGEST = 9
+    UNKNOWN_ALGORITHM = 10
+    UNKNOWN_LEVEL = 11
+    UNKNOWN_PLATFORM = 12
     NAME_EMPTY = 16
     NAME_CONTAINS_UPPERCASE = 17
     NAME_TOO_LONG = 18
@@ -128,7 +158,9 @@ def _load() -> ctypes.CDLL:
         "normalize": [number, text, size, *output],
         "pretty": [number, text, size, *output],
         "violations": [number, text, size, *output, ctypes.POINTER(size)],
+        "broken_rules": [number, number, number, text, size, *output, ctypes.POINTER(size)],
         "digest_check": [text, size],
+        "verify": [text, size, ctypes.c_uint64, text, size],
         "reference": [text, size, *output, ctypes.POINTER(_Parts)],
         "resolve_registry": [text, size, *output],
         "pin": [text, size, text, size, *output],
@@ -198,6 +230,18 @@ def violations(kind: Kind, document: bytes) -> List[str]:
     return lines.decode().split("\n")[:-1]
 
 
+def broken_rules(kind: Kind, document: bytes, level: Level = Level.STATED, platform: Platform = Platform.OF_DOCUMENT) -> List[str]:
+    """Returns what of a document breaks rules of its kind, of the levels up to the one and for the platform.
+
+    Each is the place as a JSON pointer, a colon, a space, the name of the rule, in parentheses its level and where it is stated, a
+    colon, a space and what is wanted. The list is empty exactly if every such rule is kept. Raises InvalidJSON or MemoryError.
+    """
+    document, count = bytes(document), ctypes.c_size_t()
+    numbers = Kind(kind), Level(level), Platform(platform)
+    lines = _output(1024, _library.ciderglen_broken_rules, *numbers, document, len(document), outputs=(ctypes.byref(count),))
+    return lines.decode().split("\n")[:-1]
+
+
 def parse_reference(text: str) -> Reference:
     """Parses a reference to an image: `busybox` is `docker.io/library/busybox:latest`. Raises InvalidReference or MemoryError."""
     data, parts = text.encode("utf-8", "surrogatepass"), _Parts()
@@ -228,3 +272,15 @@ def is_digest(text: str) -> bool:
     """Returns whether the text is a digest."""
     data = text.encode("utf-8", "surrogatepass")
     return _library.ciderglen_digest_check(data, len(data)) == Status.DONE
+
+
+def verify(digest: str, size: int, content: bytes) -> Status:
+    """Compares a content with the digest and the size, from 0 to 2**64 - 1, that a descriptor says of it.
+
+    Returns DONE if it has both, OTHER_SIZE or OTHER_DIGEST if it has another, UNKNOWN_ALGORITHM if the digest is by none of sha256,
+    sha384 and sha512, and INVALID_DIGEST or INVALID_UTF8 if the text is not a digest. Raises ValueError for another size.
+    """
+    if not 0 <= size < 1 << 64:
+        raise ValueError("a size is from 0 to 2**64 - 1")
+    data, content = digest.encode("utf-8", "surrogatepass"), bytes(content)
+    return Status(_library.ciderglen_verify(data, len(data), size, content, len(content)))

@@ -48,6 +48,16 @@ class Documents(unittest.TestCase):
         self.assertRaises(ValueError, ciderglen.normalize, 14, b"{}")
         self.assertEqual(ciderglen.violations(Kind.LAYOUT, b'{"imageLayoutVersion":1}'), ["/imageLayoutVersion: a string"])
 
+    def test_broken_rules(self):
+        document = b'{"imageLayoutVersion":"1.0.1"}'
+        expected = ["/imageLayoutVersion: layout-version (stated, image image-layout.md#oci-layout-file): 1.0.0"]
+        self.assertEqual(ciderglen.broken_rules(Kind.LAYOUT, document), expected)
+        self.assertEqual(ciderglen.broken_rules(Kind.LAYOUT, document, ciderglen.Level.MUST), [])
+        self.assertEqual(ciderglen.broken_rules(Kind.LAYOUT, document, ciderglen.Level.HOST, ciderglen.Platform.WINDOWS), expected)
+        self.assertRaises(InvalidJSON, ciderglen.broken_rules, Kind.LAYOUT, b"{")
+        self.assertRaises(ValueError, ciderglen.broken_rules, Kind.LAYOUT, b"{}", 4)
+        self.assertRaises(ValueError, ciderglen.broken_rules, Kind.LAYOUT, b"{}", ciderglen.Level.MUST, 7)
+
     def test_threads(self):
         found = []
         threads = [threading.Thread(target=lambda: found.append(ciderglen.normalize(Kind.LAYOUT, LAYOUT))) for _ in range(8)]
@@ -85,6 +95,20 @@ class References(unittest.TestCase):
         self.assertTrue(ciderglen.is_digest("foo:bar"))
         self.assertFalse(ciderglen.is_digest("sha256:abc"))
         self.assertFalse(ciderglen.is_digest(""))
+
+    def test_verify(self):
+        """The digest of FIPS 180-4's example abc."""
+        digest = "sha256:ba7816bf8f01cfea414140de5dae2223b00361a396177a9cb410ff61f20015ad"
+        for text, size, content, status in (
+            (digest, 3, b"abc", Status.DONE),
+            (digest, 4, b"abc", Status.OTHER_SIZE),
+            (digest, 3, b"abd", Status.OTHER_DIGEST),
+            ("md5:900150983cd24fb0", 3, b"abc", Status.UNKNOWN_ALGORITHM),
+            ("sha256:abc", 3, b"abc", Status.INVALID_DIGEST),
+            ("\udc80", 3, b"abc", Status.INVALID_UTF8),
+        ):
+            self.assertEqual(ciderglen.verify(text, size, content), status)
+        self.assertRaises(ValueError, ciderglen.verify, digest, 1 << 64, b"")
 
 
 if __name__ == "__main__":

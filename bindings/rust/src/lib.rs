@@ -73,6 +73,41 @@ impl Kind {
     ];
 }
 
+/// A level of rules, which stands for those above it, too.
+#[derive(Clone, Copy, Debug, PartialEq, Eq, Hash)]
+#[repr(u32)]
+pub enum Level {
+    /// MUST, MUST NOT, REQUIRED.
+    Must = sys::CIDERGLEN_LEVEL_MUST,
+    /// And formats, ranges and lists of values, without such a word.
+    Stated = sys::CIDERGLEN_LEVEL_STATED,
+    /// And SHOULD, SHOULD NOT, RECOMMENDED, DEPRECATED.
+    Should = sys::CIDERGLEN_LEVEL_SHOULD,
+    /// And what no specification asks, but the kernel or every runtime refuses.
+    Host = sys::CIDERGLEN_LEVEL_HOST,
+}
+
+/// A platform that a document is for.
+#[derive(Clone, Copy, Debug, PartialEq, Eq, Hash)]
+#[repr(u32)]
+#[non_exhaustive]
+pub enum Platform {
+    /// The platform that the parts of the document say.
+    OfDocument = sys::CIDERGLEN_PLATFORM_OF_DOCUMENT,
+    /// Linux.
+    Linux = sys::CIDERGLEN_PLATFORM_LINUX,
+    /// Windows.
+    Windows = sys::CIDERGLEN_PLATFORM_WINDOWS,
+    /// Solaris.
+    Solaris = sys::CIDERGLEN_PLATFORM_SOLARIS,
+    /// A virtual machine.
+    Vm = sys::CIDERGLEN_PLATFORM_VM,
+    /// z/OS.
+    Zos = sys::CIDERGLEN_PLATFORM_ZOS,
+    /// FreeBSD.
+    FreeBsd = sys::CIDERGLEN_PLATFORM_FREEBSD,
+}
+
 /// Why a call failed.
 #[derive(Clone, Copy, Debug, PartialEq, Eq, Hash)]
 #[non_exhaustive]
@@ -87,6 +122,12 @@ pub enum Error {
     InvalidUtf8,
     /// The text is not a digest.
     InvalidDigest,
+    /// The content has another size.
+    OtherSize,
+    /// The content has another digest.
+    OtherDigest,
+    /// The digest is by another algorithm than `sha256`, `sha384` and `sha512`.
+    UnknownAlgorithm,
     /// The text is not a reference: it is empty.
     NameEmpty,
     /// The text is not a reference: the repository has an uppercase letter.
@@ -111,6 +152,9 @@ impl Error {
             sys::CIDERGLEN_INVALID_DOCUMENT => Error::InvalidDocument,
             sys::CIDERGLEN_INVALID_UTF8 => Error::InvalidUtf8,
             sys::CIDERGLEN_INVALID_DIGEST => Error::InvalidDigest,
+            sys::CIDERGLEN_OTHER_SIZE => Error::OtherSize,
+            sys::CIDERGLEN_OTHER_DIGEST => Error::OtherDigest,
+            sys::CIDERGLEN_UNKNOWN_ALGORITHM => Error::UnknownAlgorithm,
             sys::CIDERGLEN_NAME_EMPTY => Error::NameEmpty,
             sys::CIDERGLEN_NAME_CONTAINS_UPPERCASE => Error::NameContainsUppercase,
             sys::CIDERGLEN_NAME_TOO_LONG => Error::NameTooLong,
@@ -130,6 +174,9 @@ impl fmt::Display for Error {
             Error::InvalidDocument => "document not allowed by its schema",
             Error::InvalidUtf8 => "invalid UTF-8",
             Error::InvalidDigest => "invalid digest",
+            Error::OtherSize => "content of another size",
+            Error::OtherDigest => "content of another digest",
+            Error::UnknownAlgorithm => "unknown digest algorithm",
             Error::NameEmpty => "repository name must have at least one component",
             Error::NameContainsUppercase => "repository name must be lowercase",
             Error::NameTooLong => "repository name must not be more than 255 characters",
@@ -241,6 +288,48 @@ pub fn violations(kind: Kind, document: &[u8]) -> Result<Violations, Error> {
         )
     })?;
     Ok(Violations {
+        count,
+        lines: text(lines)?,
+    })
+}
+
+/// What of a document breaks rules of its kind.
+#[derive(Clone, Debug, PartialEq, Eq, Hash)]
+pub struct BrokenRules {
+    /// How many parts there are: none exactly if every rule that is asked for is kept.
+    pub count: usize,
+    /// A line for each: its place as a JSON pointer, a colon, a space, the name of the rule, in parentheses its level and where it is
+    /// stated, a colon, a space and what is wanted.
+    pub lines: String,
+}
+
+/// Returns what of a document breaks rules of its kind, of the levels up to the one and for the platform.
+///
+/// # Errors
+///
+/// `InvalidJson` if the document is not JSON, and `OutOfMemory`.
+pub fn broken_rules(
+    kind: Kind,
+    level: Level,
+    platform: Platform,
+    document: &[u8],
+) -> Result<BrokenRules, Error> {
+    let mut count = 0;
+    // SAFETY: as in `normalize`.
+    let lines = output(1024, |buffer, capacity, len| unsafe {
+        sys::ciderglen_broken_rules(
+            kind as u32,
+            level as u32,
+            platform as u32,
+            document.as_ptr(),
+            document.len(),
+            buffer,
+            capacity,
+            len,
+            &mut count,
+        )
+    })?;
+    Ok(BrokenRules {
         count,
         lines: text(lines)?,
     })
@@ -361,4 +450,27 @@ pub fn pin(reference: &str, descriptor: &[u8]) -> Result<String, Error> {
 pub fn is_digest(text: &str) -> bool {
     // SAFETY: the pointer is that of a slice with this length.
     unsafe { sys::ciderglen_digest_check(text.as_ptr(), text.len()) == sys::CIDERGLEN_DONE }
+}
+
+/// Compares a content with the digest and the size that a descriptor says of it.
+///
+/// # Errors
+///
+/// `OtherSize` or `OtherDigest` if it has another, `UnknownAlgorithm` if the digest is by none of `sha256`, `sha384` and `sha512`, and
+/// `InvalidDigest` if the text is not a digest.
+pub fn verify(digest: &str, size: u64, content: &[u8]) -> Result<(), Error> {
+    // SAFETY: the pointers are those of slices with these lengths, not null where they are empty, too.
+    let status = unsafe {
+        sys::ciderglen_verify(
+            digest.as_ptr(),
+            digest.len(),
+            size,
+            content.as_ptr(),
+            content.len(),
+        )
+    };
+    match status {
+        sys::CIDERGLEN_DONE => Ok(()),
+        status => Err(Error::of(status)),
+    }
 }

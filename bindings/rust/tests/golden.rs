@@ -1,7 +1,7 @@
 //! The documents of the folder that CIDERGLEN_GOLDEN names, which tools/test_bindings writes, and a test of each function.
 use ciderglen::{
-    is_digest, normalize, normalize_pretty, pin, resolve_registry, violations, Error, Kind,
-    Reference, Violations,
+    broken_rules, is_digest, normalize, normalize_pretty, pin, resolve_registry, verify,
+    violations, BrokenRules, Error, Kind, Level, Platform, Reference, Violations,
 };
 use std::path::PathBuf;
 use std::{env, fs, thread};
@@ -58,6 +58,36 @@ fn errors() {
     let lines = "/imageLayoutVersion: a string\n".to_string();
     assert_eq!(found, Ok(Violations { count: 1, lines }));
     assert_eq!(violations(Kind::Layout, b""), Err(Error::InvalidJson));
+}
+
+#[test]
+fn rules() {
+    let document = br#"{"imageLayoutVersion":"1.0.1"}"#;
+    let found = broken_rules(Kind::Layout, Level::Stated, Platform::OfDocument, document);
+    let line = "/imageLayoutVersion: layout-version (stated, image image-layout.md#oci-layout-file): 1.0.0\n";
+    let lines = line.to_string();
+    assert_eq!(found, Ok(BrokenRules { count: 1, lines }));
+    let found = broken_rules(Kind::Layout, Level::Must, Platform::Linux, document);
+    let lines = String::new();
+    assert_eq!(found, Ok(BrokenRules { count: 0, lines }));
+    assert_eq!(
+        broken_rules(Kind::Layout, Level::Host, Platform::Zos, b"{"),
+        Err(Error::InvalidJson)
+    );
+}
+
+// the digest of FIPS 180-4's example `abc`
+#[test]
+fn contents() {
+    let digest = "sha256:ba7816bf8f01cfea414140de5dae2223b00361a396177a9cb410ff61f20015ad";
+    assert_eq!(verify(digest, 3, b"abc"), Ok(()));
+    assert_eq!(verify(digest, 4, b"abc"), Err(Error::OtherSize));
+    assert_eq!(verify(digest, 3, b"abd"), Err(Error::OtherDigest));
+    assert_eq!(
+        verify("md5:900150983cd24fb0", 3, b"abc"),
+        Err(Error::UnknownAlgorithm)
+    );
+    assert_eq!(verify("sha256:abc", 3, b"abc"), Err(Error::InvalidDigest));
 }
 
 #[test]

@@ -1,27 +1,38 @@
 -- What is added to a list of differences.
-use Rattle.std.proofs.Common.{◌≡◌, ◌≤◌, ◌<◌, ◌+◌, inl, inr, ℕ, zero, suc, List, [], ◌∷◌, length, drop, get_or, Bool, true, false, true≢false, Option, Some, None, is_some, option_map, refl, sym, ap, ◌∙◌, subst, arith}
+use Rattle.std.proofs.Common.{◌≡◌, ◌≤◌, ◌+◌, inl, inr, ℕ, zero, suc, List, [], length, false, true≢false, Option, Some, None, is_some, option_map, refl, sym, ap, ◌∙◌, subst, arith}
 use Rattle.std.specs.Prelude.{◌↔◌}
 use Rattle.oci_json_model.specs.Sizes.{size, items_size, members_size}
-use Rattle.serde_json.proofs.Views.{get_item_within}
-use Rattle.serde_json.specs.Data.{Data, array, object, Items, Members, member}
-use Rattle.serde_json.specs.Find.{at, get, get_item}
-use Rattle.serde_json.specs.View.{view, items_view}
-use Rattle.serde_json.specs.declared.value.Value.{Value}
+use Rattle.serde_json.specs.Data.{Data, array, object, Items, no_items, item, Members, member}
+use Rattle.serde_json.specs.Find.{get, get_item}
 use Rattle.oci_schema_walks.specs.Places.{under_name, under_index}
 use Rattle.oci_schema_walks.specs.Leads.{Have, LeadsTo}
 use Rattle.oci_diff.specs.declared.changes.Change.{Change}
 use Rattle.oci_diff.specs.declared.changes.Difference.{Difference}
-use Rattle.oci_diff.specs.Differs.{AreSame, IsSo, HoldsAt, StandAt, AddsIf, Lacks}
-use Rattle.oci_diff.proofs.Ways.{AreAmong, to_itself, member_step, item_step, has_member, has_item}
+use Rattle.oci_diff.specs.Best.{IsStepOf}
+use Rattle.oci_diff.specs.Differs.{HoldsAt, StandAt, AddsIf, LacksMember, IsAlone}
+use Rattle.oci_diff.specs.Same.{AreSame}
+use Rattle.oci_diff.specs.declared.aligned.Step.{Step}
+use Rattle.oci_diff.specs.declared.aligned.Step.TheVariants.{First, Second}
+use Rattle.oci_diff.proofs.Ways.{AreAmong, member_step, item_step, has_member}
 
 -- one after the other
 pub in_turn : (F : Data → Data → Type 0) (xs ys zs : List Difference) → AddsIf F xs ys → AddsIf F ys zs → AddsIf F xs zs
 in_turn F xs ys zs f g a b holds so = g a b holds (f a b holds so)
 
 -- the same of equal values
+pub at_both : (d e x y : Data) (place : List ℕ) (xs ys : List Difference) → d ≡ x → e ≡ y → AddsIf (StandAt x y place) xs ys → AddsIf (StandAt d e place) xs ys
+at_both d e x y place xs ys same0 same1 f a b holds so = f a b (subst (λ z. LeadsTo a place z) same0 holds.0, subst (λ z. LeadsTo b place z) same1 holds.1) so
+
 pub both_parts : (d e x y : Data) (place : List ℕ) (xs ys zs : List Difference) → d ≡ x → e ≡ y → AddsIf (StandAt x e place) xs ys → AddsIf (StandAt d y place) ys zs → AddsIf (StandAt d e place) xs zs
 both_parts d e x y place xs ys zs same0 same1 f g a b holds so =
     g a b (holds.0, subst (λ z. LeadsTo b place z) same1 holds.1) (f a b (subst (λ z. LeadsTo a place z) same0 holds.0, holds.1) so)
+
+-- where a part is
+pub leads_member : (root : Data) (ms : Members) (d : Data) (place under name : List ℕ) → under ≡ under_name place name → Have ms name d → LeadsTo root place (object ms) → LeadsTo root under d
+leads_member root ms d place under name is have leads = subst (λ p. LeadsTo root p d) (sym is) (member_step root (object ms) d place name leads (ms, refl, have))
+
+pub leads_item : (root : Data) (ds : Items) (d : Data) (place under : List ℕ) (i : ℕ) → under ≡ under_index place i → get_item i ds ≡ Some d → LeadsTo root place (array ds) → LeadsTo root under d
+leads_item root ds d place under i is have leads = subst (λ p. LeadsTo root p d) (sym is) (item_step root (array ds) d place i leads (ds, refl, have))
 
 -- a part of both
 pub member_adds : (ms : Members) (d e c : Data) (place under name : List ℕ) (xs ys : List Difference) → under ≡ under_name place name → Have ms name d → get name e ≡ Some c
@@ -31,47 +42,40 @@ member_adds ms d e c place under name xs ys is have found f a b holds so =
     (subst (λ p. LeadsTo a p d) (sym is) (member_step a (object ms) d place name holds.0 (ms, refl, have)), subst (λ p. LeadsTo b p c) (sym is) (member_step b e c place name holds.1 (has_member name e c found)))
     so
 
-pub item_adds : (ds : Items) (d e c : Data) (place under : List ℕ) (i : ℕ) (xs ys : List Difference) → under ≡ under_index place i → get_item i ds ≡ Some d → at i e ≡ Some c
-    → AddsIf (StandAt d c under) xs ys → AddsIf (StandAt (array ds) e place) xs ys
-item_adds ds d e c place under i xs ys is have found f a b holds so =
-    f a b
-    (subst (λ p. LeadsTo a p d) (sym is) (item_step a (array ds) d place i holds.0 (ds, refl, have)), subst (λ p. LeadsTo b p c) (sym is) (item_step b e c place i holds.1 (has_item i e c found)))
-    so
+pub item_adds : (ds es : Items) (d c : Data) (place under : List ℕ) (i : ℕ) (xs ys : List Difference) → under ≡ under_index place i → get_item i ds ≡ Some d → get_item i es ≡ Some c
+    → AddsIf (StandAt d c under) xs ys → AddsIf (StandAt (array ds) (array es) place) xs ys
+item_adds ds es d c place under i xs ys is have found f a b holds so =
+    f a b (leads_item a ds d place under i is have holds.0, leads_item b es c place under i is found holds.1) so
 
 -- a part of one alone
-pub lacks_member : (root e : Data) (place under name : List ℕ) → under ≡ under_name place name → get name e ≡ None → LeadsTo root place e → Lacks root under
-lacks_member root e place under name is none leads = (place, e, leads, inl (name, sym is, none))
+pub lacks_member : (root e : Data) (place under name : List ℕ) → under ≡ under_name place name → get name e ≡ None → LeadsTo root place e → LacksMember root under
+lacks_member root e place under name is none leads = (place, name, e, sym is, leads, none)
 
-pub lacks_item : (root e : Data) (place under : List ℕ) (i : ℕ) → under ≡ under_index place i → at i e ≡ None → LeadsTo root place e → Lacks root under
-lacks_item root e place under i is none leads = (place, e, leads, inr (i, sym is, none))
-
-pub leads_member : (root : Data) (ms : Members) (d : Data) (place under name : List ℕ) → under ≡ under_name place name → Have ms name d → LeadsTo root place (object ms) → LeadsTo root under d
-leads_member root ms d place under name is have leads = subst (λ p. LeadsTo root p d) (sym is) (member_step root (object ms) d place name leads (ms, refl, have))
-
-pub leads_item : (root : Data) (ds : Items) (d : Data) (place under : List ℕ) (i : ℕ) → under ≡ under_index place i → get_item i ds ≡ Some d → LeadsTo root place (array ds) → LeadsTo root under d
-leads_item root ds d place under i is have leads = subst (λ p. LeadsTo root p d) (sym is) (item_step root (array ds) d place i leads (ds, refl, have))
+pub is_alone : (alone : ℕ → Step) (a b : Data) (ds es : Items) (place under : List ℕ) (i : ℕ) → under ≡ under_index place i → (AreSame (array ds) (array es) → ⊥) → IsStepOf ds es (alone i)
+    → LeadsTo a place (array ds) → LeadsTo b place (array es) → IsAlone alone a b under
+is_alone alone a b ds es place under i is differ step first second = (place, i, ds, es, sym is, first, second, differ, step)
 
 -- from what is said of two values at a place to what is said of those that hold them
 pub adds_by : (F G : Data → Data → Type 0) (xs ys : List Difference) → ((a b : Data) → G a b → F a b) → AddsIf F xs ys → AddsIf G xs ys
 adds_by F G xs ys h f a b holds so = f a b (h a b holds) so
 
 -- what is said of a part of one alone
-pub new_item : (d : Data) (ds : Items) (c : Data) (change : Change) (place under : List ℕ) (i : ℕ) (xs ys : List Difference) → ((a b : Data) → LeadsTo b under c → Lacks a under → HoldsAt a b under change)
-    → under ≡ under_index place i → get_item i ds ≡ Some c → at i d ≡ None → AddsIf (λ a b. HoldsAt a b under change) xs ys → AddsIf (StandAt d (array ds) place) xs ys
-new_item d ds c change place under i xs ys says is have none f a b holds so =
-    f a b (says a b (leads_item b ds c place under i is have holds.1) (lacks_item a d place under i is none holds.0)) so
+pub new_item : (ds es : Items) (c : Data) (change : Change) (place under : List ℕ) (i : ℕ) (xs ys : List Difference) → ((a b : Data) → LeadsTo b under c → IsAlone Second a b under → HoldsAt a b under change)
+    → under ≡ under_index place i → get_item i es ≡ Some c → (AreSame (array ds) (array es) → ⊥) → IsStepOf ds es (Second i) → AddsIf (λ a b. HoldsAt a b under change) xs ys → AddsIf (StandAt (array ds) (array es) place) xs ys
+new_item ds es c change place under i xs ys says is have differ step f a b holds so =
+    f a b (says a b (leads_item b es c place under i is have holds.1) (is_alone Second a b ds es place under i is differ step holds.0 holds.1)) so
 
-pub old_item : (ds : Items) (e c : Data) (change : Change) (place under : List ℕ) (i : ℕ) (xs ys : List Difference) → ((a b : Data) → LeadsTo a under c → Lacks b under → HoldsAt a b under change)
-    → under ≡ under_index place i → get_item i ds ≡ Some c → at i e ≡ None → AddsIf (λ a b. HoldsAt a b under change) xs ys → AddsIf (StandAt (array ds) e place) xs ys
-old_item ds e c change place under i xs ys says is have none f a b holds so =
-    f a b (says a b (leads_item a ds c place under i is have holds.0) (lacks_item b e place under i is none holds.1)) so
+pub old_item : (ds es : Items) (c : Data) (change : Change) (place under : List ℕ) (i : ℕ) (xs ys : List Difference) → ((a b : Data) → LeadsTo a under c → IsAlone First a b under → HoldsAt a b under change)
+    → under ≡ under_index place i → get_item i ds ≡ Some c → (AreSame (array ds) (array es) → ⊥) → IsStepOf ds es (First i) → AddsIf (λ a b. HoldsAt a b under change) xs ys → AddsIf (StandAt (array ds) (array es) place) xs ys
+old_item ds es c change place under i xs ys says is have differ step f a b holds so =
+    f a b (says a b (leads_item a ds c place under i is have holds.0) (is_alone First a b ds es place under i is differ step holds.0 holds.1)) so
 
-pub new_member : (d : Data) (ms : Members) (c : Data) (change : Change) (place under name : List ℕ) (xs ys : List Difference) → ((a b : Data) → LeadsTo b under c → Lacks a under → HoldsAt a b under change)
+pub new_member : (d : Data) (ms : Members) (c : Data) (change : Change) (place under name : List ℕ) (xs ys : List Difference) → ((a b : Data) → LeadsTo b under c → LacksMember a under → HoldsAt a b under change)
     → under ≡ under_name place name → Have ms name c → get name d ≡ None → AddsIf (λ a b. HoldsAt a b under change) xs ys → AddsIf (StandAt d (object ms) place) xs ys
 new_member d ms c change place under name xs ys says is have none f a b holds so =
     f a b (says a b (leads_member b ms c place under name is have holds.1) (lacks_member a d place under name is none holds.0)) so
 
-pub old_member : (ms : Members) (e c : Data) (change : Change) (place under name : List ℕ) (xs ys : List Difference) → ((a b : Data) → LeadsTo a under c → Lacks b under → HoldsAt a b under change)
+pub old_member : (ms : Members) (e c : Data) (change : Change) (place under name : List ℕ) (xs ys : List Difference) → ((a b : Data) → LeadsTo a under c → LacksMember b under → HoldsAt a b under change)
     → under ≡ under_name place name → Have ms name c → get name e ≡ None → AddsIf (λ a b. HoldsAt a b under change) xs ys → AddsIf (StandAt (object ms) e place) xs ys
 old_member ms e c change place under name xs ys says is have none f a b holds so =
     f a b (says a b (leads_member a ms c place under name is have holds.0) (lacks_member b e place under name is none holds.1)) so
@@ -82,14 +86,10 @@ pub absent_of : {A B : Type 0} (f : A → B) (r : Option A) (o : Option B) → o
 absent_of f None o e n = sym e
 absent_of f (Some x) o e n = absurd (true≢false n)
 
-pub item_at : (vs : List Value) (i : ℕ) (v : Value) → i < length vs → v ≡ get_or vs i v → get_item i (items_view vs) ≡ Some (view v)
-item_at vs i v h e = sym (get_item_within vs i v h) ∙ ap (λ x. Some (view x)) (sym e)
-
-pub dropped_smaller : (vs : List Value) (i : ℕ) → items_size (items_view (drop (suc i) vs)) ≤ items_size (items_view (drop i vs))
-dropped_smaller [] zero = omega arith
-dropped_smaller [] (suc i) = omega arith
-dropped_smaller (v ∷ vs) zero = omega arith
-dropped_smaller (v ∷ vs) (suc i) = dropped_smaller vs i
+pub within_size : (ds : Items) (i : ℕ) (d : Data) → get_item i ds ≡ Some d → size d ≤ items_size ds
+within_size no_items i d e = cc
+within_size (item c ds) zero d e = let same : c ≡ d = cc in omega (arith, ap size same)
+within_size (item c ds) (suc i) d e = omega (arith, within_size ds i d e)
 
 -- none is found exactly if the values are the same
 pub none_found : (P : Type 0) (xs ys : List Difference) → xs ≡ [] → (P → ys ≡ xs) → (length ys ≡ length xs → P) → (ys ≡ []) ↔ P

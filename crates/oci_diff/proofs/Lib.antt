@@ -1,2 +1,4 @@
 pub mod Adds
+pub mod Aligning
+pub mod Bests
 pub mod Ways

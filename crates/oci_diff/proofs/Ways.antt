@@ -1,10 +1,10 @@
 -- Where the parts of a value are.
-use Rattle.std.proofs.Common.{◌≡◌, inl, inr, ℕ, List, [], ◌∷◌, ◌++◌, Option, Some, None, Ordering, Less, Equal, Greater, nat_cmp, refl, sym, ap, ◌∙◌, subst}
+use Rattle.std.proofs.Common.{◌≡◌, inl, inr, ℕ, List, [], ◌∷◌, ◌++◌, Some, Ordering, Less, Equal, Greater, nat_cmp, refl, sym, ap, ◌∙◌, subst}
 use Rattle.std.specs.Ordering.{match_ordering}
 use Rattle.std.specs.Cmp.Lexicographic.{slice_cmp}
 use Rattle.std.proofs.lemmas.Map.Lookups.{exact_bytes}
-use Rattle.serde_json.specs.Data.{Data, null, boolean, number, string, array, object, Items, no_items, item, Members, no_members, member}
-use Rattle.serde_json.specs.Find.{at, get, get_item, get_member}
+use Rattle.serde_json.specs.Data.{Data, null, boolean, number, string, array, object, Members, no_members, member}
+use Rattle.serde_json.specs.Find.{get, get_member}
 use Rattle.oci_schema_walks.specs.Places.{under_name, under_index}
 use Rattle.oci_schema_walks.specs.Leads.{Step, to_member, to_item, spelled, Have, HasMember, HasItem, Goes, LeadsTo}
 
@@ -51,14 +51,6 @@ has_member name (number n) c e = cc
 has_member name (string s) c e = cc
 has_member name (array ds) c e = cc
 has_member name (object ms) c e = (ms, refl, have name ms c e)
-
-pub has_item : (i : ℕ) (d c : Data) → at i d ≡ Some c → HasItem d i c
-has_item i null c e = cc
-has_item i (boolean b) c e = cc
-has_item i (number n) c e = cc
-has_item i (string s) c e = cc
-has_item i (array ds) c e = (ds, refl, e)
-has_item i (object ms) c e = cc
 
 -- ---- members among others
 

@@ -1,30 +1,33 @@
 -- What is said of the places where two values differ.
 use Rattle.std.specs.Prelude.{◌≡◌, ◌⊎◌, ℕ, List, None, string_bytes}
 use Rattle.std.specs.List.{All}
-use Rattle.serde_json.specs.Data.{Data}
-use Rattle.serde_json.specs.Find.{at, get}
+use Rattle.serde_json.specs.Data.{Data, array, Items}
+use Rattle.serde_json.specs.Find.{get}
 use Rattle.serde_json.specs.View.{view}
-use Rattle.oci_json_model.specs.Erased.{erased}
 use Rattle.oci_schema_walks.specs.Leads.{LeadsTo}
 use Rattle.oci_schema_walks.specs.Places.{under_name, under_index}
+use Rattle.oci_diff.specs.Best.{IsStepOf}
+use Rattle.oci_diff.specs.Same.{AreSame}
+use Rattle.oci_diff.specs.declared.aligned.Step.{Step}
+use Rattle.oci_diff.specs.declared.aligned.Step.TheVariants.{First, Second}
 use Rattle.oci_diff.specs.declared.changes.Change.{Change}
 use Rattle.oci_diff.specs.declared.changes.Change.TheVariants.{Added, Removed, Changed}
 use Rattle.oci_diff.specs.declared.changes.Difference.{Difference}
 
--- two values are the same, where all numbers other than 64-bit integers count as one
-abbrev pub AreSame : Data → Data → Type 0
-AreSame d e = erased d ≡ erased e
+-- the place is that of a member that a part of the value has not
+abbrev pub LacksMember : Data → List ℕ → Type 0
+LacksMember d place = (holder : List ℕ) × (name : List ℕ) × (part : Data) × (under_name holder name ≡ place) × LeadsTo d holder part × (get name part ≡ None)
 
--- the place is that of a member or of an item that a part of the value has not
-abbrev pub Lacks : Data → List ℕ → Type 0
-Lacks d place =
-    (holder : List ℕ) × (part : Data) × LeadsTo d holder part
-    × (((name : List ℕ) × (under_name holder name ≡ place) × (get name part ≡ None)) ⊎ ((i : ℕ) × (under_index holder i ≡ place) × (at i part ≡ None)))
+-- the place is that of an item of two arrays, at one place of the two values, that are not the same, and an alignment of them has it alone
+abbrev pub IsAlone : (ℕ → Step) → Data → Data → List ℕ → Type 0
+IsAlone alone before after place =
+    (holder : List ℕ) × (i : ℕ) × (ds : Items) × (es : Items) × (under_index holder i ≡ place)
+    × LeadsTo before holder (array ds) × LeadsTo after holder (array es) × (AreSame (array ds) (array es) → ⊥) × IsStepOf ds es (alone i)
 
 -- what is said of a place is so
 abbrev pub HoldsAt : Data → Data → List ℕ → Change → Type 0
-HoldsAt before after place (Added value) = LeadsTo after place (view value.now) × Lacks before place
-HoldsAt before after place (Removed value) = LeadsTo before place (view value.now) × Lacks after place
+HoldsAt before after place (Added value) = LeadsTo after place (view value.now) × (LacksMember before place ⊎ IsAlone Second before after place)
+HoldsAt before after place (Removed value) = LeadsTo before place (view value.now) × (LacksMember after place ⊎ IsAlone First before after place)
 HoldsAt before after place (Changed old new) =
     LeadsTo before place (view old.now) × LeadsTo after place (view new.now) × (AreSame (view old.now) (view new.now) → ⊥)
 

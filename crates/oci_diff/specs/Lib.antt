@@ -1,1 +1,4 @@
+pub mod Aligned
+pub mod Best
 pub mod Differs
+pub mod Same

@@ -1,12 +1,15 @@
 //! The differences of two values.
 ghost use Rattle.std.specs.Prelude.{◌≡◌, ◌≤◌, ◌<◌, ◌↔◌, [], length, Some, IfOk, OnOk};
 ghost use Rattle.std.specs.List.{All};
-ghost use Rattle.serde_json.specs.Data.{object, array, Items, Members};
-ghost use Rattle.serde_json.specs.Find.{get_item};
+ghost use Rattle.serde_json.specs.Data.{object, array, Members};
 ghost use Rattle.serde_json.specs.View.{view, items_view, members_view};
 ghost use Rattle.oci_schema_walks.specs.Leads.{Have};
-ghost use Rattle.oci_diff.specs.Differs.{AreSame, IsSo, HoldsAt, StandAt, AddsIf};
+ghost use Rattle.oci_diff.specs.Aligned.{IsWithin};
+ghost use Rattle.oci_diff.specs.Best.{IsStepOf};
+ghost use Rattle.oci_diff.specs.Differs.{IsSo, HoldsAt, StandAt, AddsIf};
+ghost use Rattle.oci_diff.specs.Same.{AreSame};
 
+use crate::aligned::{Step, alignment};
 use oci_json_members::alike::equal_trees;
 use oci_schema_walks::place::{under_index, under_name};
 use serde_json::{Map, Value};
@@ -33,8 +36,9 @@ pub struct Difference<'a> {
 }
 
 /// Returns what differs between two values: members and items that only one of them has, and parts that are not the same, each at its
-/// place. Nothing is returned exactly if the values are the same. All numbers other than 64-bit integers count as one. Items of arrays
-/// are compared with those at the same index. Fails if out of memory.
+/// place. Nothing is returned exactly if the values are the same. All numbers other than 64-bit integers count as one. Arrays of at most 64
+/// items are aligned by their longest common part, and others by index: an item that is in no pair is added or removed, and the items of
+/// a pair that are not the same are at one index, and are compared. Fails if out of memory.
 pub fn differences<'a>(
     before: &'a Value,
     after: &'a Value,
@@ -87,7 +91,7 @@ fn add_differences<'a>(
     Ok(())
 }
 
-/// Adds the differences of the parts of the values at a place, where both are objects or both are arrays.
+/// Adds the differences of the parts of the values at a place, which are not the same, where both are objects or both are arrays.
 #[cycle(differences)]
 fn add_parts<'a>(
     before: &'a Value,
@@ -96,6 +100,7 @@ fn add_parts<'a>(
     found: &mut Vec<Difference<'a>>,
     alloc: Global,
 ) -> Result<(), AllocError>
+    requires { AreSame (view before.now) (view after.now) → ⊥ }
     ensures so { OnOk result (AddsIf (StandAt (view before.now) (view after.now) at.now) found.old.items found.new.items) }
     ensures grows { OnOk result (length found.old.items ≤ length found.new.items) }
 {
@@ -105,8 +110,7 @@ fn add_parts<'a>(
             add_new_members(before, others, at, found, alloc)
         }
         (Value::Array(items), Value::Array(others)) => {
-            add_items(items, after, at, found, alloc)?;
-            add_new_items(before, others, at, found, alloc)
+            add_items(items, others, at, found, alloc)
         }
         _ => Ok(()),
     }
@@ -184,74 +188,55 @@ fn add_new_member<'a>(
     push(place.as_str(), Change::Added(other), found, alloc)
 }
 
-/// Adds the differences of the items that an array has, and another value.
+/// Adds the differences of two arrays that are not the same: an item that the alignment of both has alone, and what differs in a pair.
 #[cycle(differences)]
 fn add_items<'a>(
     items: &'a Vec<Value>,
-    after: &'a Value,
-    at: &str,
-    found: &mut Vec<Difference<'a>>,
-    alloc: Global,
-) -> Result<(), AllocError>
-    ensures so { OnOk result (AddsIf (StandAt (array (items_view items.now.items)) (view after.now) at.now) found.old.items found.new.items) }
-    ensures grows { OnOk result (length found.old.items ≤ length found.new.items) }
-{
-    for (index, item) in items.iter().enumerate() {
-        add_item(item, index, after, at, found, alloc)?;
-    }
-    Ok(())
-}
-
-#[cycle(differences)]
-fn add_item<'a>(
-    item: &'a Value,
-    index: usize,
-    after: &'a Value,
-    at: &str,
-    found: &mut Vec<Difference<'a>>,
-    alloc: Global,
-) -> Result<(), AllocError>
-    ensures so { OnOk result ((ds : Items) → get_item index ds ≡ Some (view item.now) → AddsIf (StandAt (array ds) (view after.now) at.now) found.old.items found.new.items) }
-    ensures grows { OnOk result (length found.old.items ≤ length found.new.items) }
-{
-    let place = under_index(alloc, at, index)?;
-    match after.get(index) {
-        Some(other) => add_differences(item, other, place.as_str(), found, alloc),
-        None => push(place.as_str(), Change::Removed(item), found, alloc),
-    }
-}
-
-/// Adds the items of an array that another value has not.
-fn add_new_items<'a>(
-    before: &'a Value,
     others: &'a Vec<Value>,
     at: &str,
     found: &mut Vec<Difference<'a>>,
     alloc: Global,
 ) -> Result<(), AllocError>
-    ensures so { OnOk result (AddsIf (StandAt (view before.now) (array (items_view others.now.items)) at.now) found.old.items found.new.items) }
+    requires { AreSame (array (items_view items.now.items)) (array (items_view others.now.items)) → ⊥ }
+    ensures so { OnOk result (AddsIf (StandAt (array (items_view items.now.items)) (array (items_view others.now.items)) at.now) found.old.items found.new.items) }
     ensures grows { OnOk result (length found.old.items ≤ length found.new.items) }
 {
-    for (index, other) in others.iter().enumerate() {
-        add_new_item(before, index, other, at, found, alloc)?;
+    let steps = alignment(items, others, alloc)?;
+    for step in &steps {
+        add_step(*step, items, others, at, found, alloc)?;
     }
     Ok(())
 }
 
-fn add_new_item<'a>(
-    before: &'a Value,
-    index: usize,
-    other: &'a Value,
+/// Adds the differences of the items of a step.
+#[cycle(differences)]
+fn add_step<'a>(
+    step: Step,
+    items: &'a Vec<Value>,
+    others: &'a Vec<Value>,
     at: &str,
     found: &mut Vec<Difference<'a>>,
     alloc: Global,
 ) -> Result<(), AllocError>
-    ensures so { OnOk result ((ds : Items) → get_item index ds ≡ Some (view other.now) → AddsIf (StandAt (view before.now) (array ds) at.now) found.old.items found.new.items) }
+    requires differ { AreSame (array (items_view items.now.items)) (array (items_view others.now.items)) → ⊥ }
+    requires within { IsWithin (length items.now.items) (length others.now.items) step }
+    requires aligned { IsStepOf (items_view items.now.items) (items_view others.now.items) step }
+    ensures so { OnOk result (AddsIf (StandAt (array (items_view items.now.items)) (array (items_view others.now.items)) at.now) found.old.items found.new.items) }
     ensures grows { OnOk result (length found.old.items ≤ length found.new.items) }
 {
-    if before.get(index).is_some() {
-        return Ok(());
+    match step {
+        Step::Same => Ok(()),
+        Step::Both(index) => {
+            let place = under_index(alloc, at, index)?;
+            add_differences(&items[index], &others[index], place.as_str(), found, alloc)
+        }
+        Step::First(index) => {
+            let place = under_index(alloc, at, index)?;
+            push(place.as_str(), Change::Removed(&items[index]), found, alloc)
+        }
+        Step::Second(index) => {
+            let place = under_index(alloc, at, index)?;
+            push(place.as_str(), Change::Added(&others[index]), found, alloc)
+        }
     }
-    let place = under_index(alloc, at, index)?;
-    push(place.as_str(), Change::Added(other), found, alloc)
 }

@@ -11,7 +11,7 @@ use Rattle.oci_reference.specs.Replaced.{pinned}
 use Rattle.oci_reference.specs.Whole.{whole}
 use Rattle.oci_text_base.specs.Digest.{IsDigest}
 use Rattle.oci_doc_run.specs.Commands.{Asked, norm, pretty, reference, digest, pin}
-use Rattle.oci_doc_run.specs.Kinds.{shape_of}
+use Rattle.oci_kinds.specs.Kinds.{shape_of}
 
 -- a word, a space, the value and a line feed
 abbrev pub line : List ℕ → List ℕ → List ℕ

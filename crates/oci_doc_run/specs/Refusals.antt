@@ -16,7 +16,7 @@ use Rattle.oci_schema.specs.Normalizes.{WritesPretty}
 use Rattle.oci_doc_run.specs.declared.refusal.Refusal.{Refusal}
 use Rattle.oci_doc_run.specs.declared.refusal.Refusal.TheVariants.{Other, Io, Json, Schema, Builder, Memory, Reference}
 use Rattle.oci_doc_run.specs.Commands.{Asked, norm, pretty, reference, digest, pin}
-use Rattle.oci_doc_run.specs.Kinds.{shape_of}
+use Rattle.oci_kinds.specs.Kinds.{shape_of}
 use Rattle.oci_doc_run.specs.Outputs.{WritesReference, WritesDigest, WritesPinned}
 
 -- ---- the line

@@ -6,10 +6,10 @@ ghost use Rattle.oci_doc_run.specs.Outputs.{Writes};
 ghost use Rattle.oci_doc_run.specs.Refusals.{Tells};
 
 use crate::document::{normal_of_kind, pretty_of_kind};
-use crate::kind::Kind;
 use crate::pinning::pinned;
 use crate::refusal::Refusal;
 use crate::text::{digest, reference};
+use oci_kinds::Kind;
 use std::alloc::Global;
 use std::io::{Read, Write};
 

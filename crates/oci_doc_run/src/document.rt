@@ -3,11 +3,11 @@ ghost use Rattle.std.specs.Prelude.{OnOk, IfErr};
 ghost use Rattle.std.specs.Io.KnownBytes.{Appends};
 ghost use Rattle.oci_json_io.specs.Engines.{WritesDocument};
 ghost use Rattle.oci_schema.specs.Normalizes.{WritesPretty};
-ghost use Rattle.oci_doc_run.specs.Kinds.{shape_of};
+ghost use Rattle.oci_kinds.specs.Kinds.{shape_of};
 ghost use Rattle.oci_doc_run.specs.Refusals.{TellsOfNormal, TellsOfPretty};
 
-use crate::kind::Kind;
 use crate::refusal::Refusal;
+use oci_kinds::Kind;
 use oci_schema::{normalize, normalize_pretty};
 use oci_schemas::OciRecords;
 use std::alloc::Global;

@@ -3,7 +3,6 @@
 
 pub mod command;
 pub mod document;
-pub mod kind;
 pub mod pinning;
 pub mod program;
 pub mod refusal;
@@ -11,7 +10,7 @@ pub mod streams;
 pub mod text;
 
 pub use command::Command;
-pub use kind::Kind;
+pub use oci_kinds::Kind;
 pub use program::run;
 pub use refusal::Refusal;
 pub use streams::run_on_streams;

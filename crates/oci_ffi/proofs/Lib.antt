@@ -1,2 +1,3 @@
 mod Accepted
+mod Chosen
 mod Reported

@@ -1,3 +1,4 @@
 pub mod Buffers
 pub mod Kinds
 pub mod References
+pub mod Rules

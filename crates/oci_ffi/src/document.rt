@@ -33,7 +33,7 @@ fn normalize(
 {
     *output_len = 0;
     match compact_text(schema, alloc, document) {
-        Ok(text) => put(text.as_bytes(), buffer, output_len),
+        Ok(text) => put(text.as_slice(), buffer, output_len),
         Err(error) => status_of(&error),
     }
 }

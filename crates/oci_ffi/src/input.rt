@@ -1,32 +1,9 @@
-//! The input as JSON, and the statuses of errors.
-ghost use Rattle.std.specs.Prelude.{◌≡◌, ◌⊎◌, IfOk, IfErr};
-ghost use Rattle.serde_json.specs.View.{view};
-ghost use Rattle.oci_text_base.specs.Refused.{IsJson, IsSchema, IsMemoryOrSerDe};
-ghost use Rattle.oci_json_io.specs.Engines.{ReadsAs, IsNoJson};
+//! The statuses of errors.
+ghost use Rattle.std.specs.Prelude.{◌≡◌, ◌⊎◌};
+ghost use Rattle.oci_text_base.specs.Refused.{IsJson, IsSchema};
 
 use crate::status::{INVALID_DOCUMENT, INVALID_JSON, OUT_OF_MEMORY};
-use oci_text_base::{OciSpecError, Result, SerDeError};
-use serde_json::Value;
-use std::alloc::Global;
-
-/// Parses bytes as JSON. Fails with `SerDe(Json)` if they are not, and with `Memory` if out of memory.
-pub(crate) fn value_of(alloc: Global, bytes: &[u8]) -> Result<Value>
-    ensures ok { IfOk result (λ v. ReadsAs bytes.now (view v)) }
-    ensures json { IfErr result (λ e. IsJson e → IsNoJson bytes.now) }
-    ensures no_schema { IfErr result (λ e. ¬ IsSchema e) }
-    ensures kind { IfErr result IsMemoryOrSerDe }
-{
-    match Value::from_slice(alloc, bytes) {
-        Ok(value) => Ok(value),
-        Err(fault) => {
-            if fault.is_memory() {
-                Err(OciSpecError::Memory)
-            } else {
-                Err(OciSpecError::SerDe(SerDeError::Json(fault)))
-            }
-        }
-    }
-}
+use oci_text_base::{OciSpecError, SerDeError};
 
 /// The status of an error.
 pub(crate) fn status_of(error: &OciSpecError) -> u32

@@ -1,17 +1,10 @@
 //! The kinds of documents, by their numbers.
 ghost use Rattle.std.specs.Prelude.{◌≡◌, IfSome, option_map};
 ghost use Rattle.oci_json_model.specs.WellFormed.{WellFormed};
-ghost use Rattle.oci_ffi.specs.Kinds.{shape_of, shape_numbered};
+ghost use Rattle.oci_ffi.specs.Kinds.{kind_numbered, shape_of, shape_numbered};
 
+use oci_kinds::Kind;
 use oci_schema_types::Schema;
-use oci_schemas::distribution::{error_response, repository_list, tag_list};
-use oci_schemas::features::features;
-use oci_schemas::image::image_configuration;
-use oci_schemas::image_descriptor::descriptor;
-use oci_schemas::image_manifest::{artifact_manifest, image_index, image_manifest, oci_layout};
-use oci_schemas::reference::reference;
-use oci_schemas::runtime_records::{container_process_state, state};
-use oci_schemas::runtime_spec::spec;
 
 /// An image manifest.
 pub const MANIFEST: u32 = 0;
@@ -42,26 +35,36 @@ pub const PROCESS_STATE: u32 = 12;
 /// The features of a runtime.
 pub const FEATURES: u32 = 13;
 
+/// Returns the kind with a number, or `None` if the number is that of no kind.
+pub(crate) fn kind_of(kind: u32) -> Option<Kind>
+    ensures { result ≡ kind_numbered kind }
+{
+    match kind {
+        MANIFEST => Some(Kind::Manifest),
+        INDEX => Some(Kind::Index),
+        CONFIG => Some(Kind::Config),
+        ARTIFACT => Some(Kind::Artifact),
+        LAYOUT => Some(Kind::Layout),
+        DESCRIPTOR => Some(Kind::Descriptor),
+        ERROR => Some(Kind::Error),
+        REPOSITORIES => Some(Kind::Repositories),
+        TAGS => Some(Kind::Tags),
+        REFERENCE => Some(Kind::Reference),
+        SPEC => Some(Kind::Spec),
+        STATE => Some(Kind::State),
+        PROCESS_STATE => Some(Kind::ProcessState),
+        FEATURES => Some(Kind::Features),
+        _ => None,
+    }
+}
+
 /// Returns the schema of a kind's documents, by the records of `OciRecords`, or `None` if the number is that of no kind.
 pub(crate) fn schema_of(kind: u32) -> Option<&'static Schema>
     ensures shape { option_map (λ s. shape_of s.now) result ≡ shape_numbered kind }
     ensures well { IfSome result (λ s. WellFormed (shape_of s.now)) }
 {
-    match kind {
-        MANIFEST => Some(image_manifest()),
-        INDEX => Some(image_index()),
-        CONFIG => Some(image_configuration()),
-        ARTIFACT => Some(artifact_manifest()),
-        LAYOUT => Some(oci_layout()),
-        DESCRIPTOR => Some(descriptor()),
-        ERROR => Some(error_response()),
-        REPOSITORIES => Some(repository_list()),
-        TAGS => Some(tag_list()),
-        REFERENCE => Some(reference()),
-        SPEC => Some(spec()),
-        STATE => Some(state()),
-        PROCESS_STATE => Some(container_process_state()),
-        FEATURES => Some(features()),
-        _ => None,
+    match kind_of(kind) {
+        Some(kind) => Some(kind.schema()),
+        None => None,
     }
 }

@@ -10,8 +10,9 @@ ghost use Rattle.oci_schema.specs.Normalizes.{WritesPretty};
 ghost use Rattle.oci_text_base.specs.Refused.{IsJson, IsSchema, IsMemoryOrSerDe};
 ghost use Rattle.oci_ffi.specs.Kinds.{shape_of};
 
-use crate::input::value_of;
+use oci_json_io::value_from_slice;
 use oci_schema::normalize_value;
+use oci_schema_bytes::{Workspace, normalize_bytes};
 use oci_schema_types::Schema;
 use oci_schemas::OciRecords;
 use oci_text_base::Result;
@@ -27,21 +28,29 @@ fn normal_value(schema: &Schema, alloc: Global, document: &[u8]) -> Result<Value
     ensures schema { IfErr result (λ e. IsSchema e → IsNotNormalized (shape_of schema.now) document.now) }
     ensures kind { IfErr result IsMemoryOrSerDe }
 {
-    let value = value_of(alloc, document)?;
+    let value = value_from_slice(alloc, document)?;
     normalize_value(&OciRecords, schema, value, alloc)
 }
 
 /// The compact text of the canonical form of a document.
-#[tactic(auto, using(oci_json_io::proofs::Texts::none_in))]
-pub(crate) fn compact_text(schema: &Schema, alloc: Global, document: &[u8]) -> Result<String>
+pub(crate) fn compact_text(schema: &Schema, alloc: Global, document: &[u8]) -> Result<Vec<u8>>
     requires { WellFormed (shape_of schema.now) }
-    ensures ok { IfOk result (λ t. WritesDocument (shape_of schema.now) (Some document.now) (λ text. string_bytes t ≡ text)) }
+    ensures ok { IfOk result (λ t. WritesDocument (shape_of schema.now) (Some document.now) (λ text. t.items ≡ text)) }
     ensures json { IfErr result (λ e. IsJson e → IsNoJson document.now) }
     ensures schema { IfErr result (λ e. IsSchema e → IsNotNormalized (shape_of schema.now) document.now) }
     ensures kind { IfErr result IsMemoryOrSerDe }
 {
-    let normal = normal_value(schema, alloc, document)?;
-    Ok(normal.to_string(alloc)?)
+    let mut text = Vec::new(alloc);
+    let mut workspace = Workspace::new(alloc);
+    normalize_bytes(
+        &OciRecords,
+        schema,
+        alloc,
+        document,
+        &mut workspace,
+        &mut text,
+    )?;
+    Ok(text)
 }
 
 /// The pretty text of the canonical form of a document.

@@ -16,6 +16,16 @@ pub const INVALID_DOCUMENT: u32 = 5;
 pub const INVALID_UTF8: u32 = 6;
 /// The text is not a digest.
 pub const INVALID_DIGEST: u32 = 7;
+/// The content has another size.
+pub const OTHER_SIZE: u32 = 8;
+/// The content has another digest.
+pub const OTHER_DIGEST: u32 = 9;
+/// The digest is by another algorithm than `sha256`, `sha384` and `sha512`.
+pub const UNKNOWN_ALGORITHM: u32 = 10;
+/// The number is that of no level of rules.
+pub const UNKNOWN_LEVEL: u32 = 11;
+/// The number is that of no platform.
+pub const UNKNOWN_PLATFORM: u32 = 12;
 /// The text is not a reference: it is empty.
 pub const NAME_EMPTY: u32 = 16;
 /// The text is not a reference: the repository has an uppercase letter.

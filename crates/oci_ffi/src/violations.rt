@@ -9,14 +9,15 @@ ghost use Rattle.oci_schema_walks.specs.Violations.{violations as all_violations
 ghost use Rattle.oci_ffi.specs.Kinds.{shape_of, shape_numbered};
 
 use crate::buffer::put;
-use crate::input::{status_of, value_of};
+use crate::input::status_of;
 use crate::kind::schema_of;
 use crate::status::{BUFFER_TOO_SMALL, DONE, INVALID_JSON, UNKNOWN_KIND};
-use oci_schema::{Violation, violations};
+use oci_json_io::value_from_slice;
+use oci_schema::{violation_lines, violations};
 use oci_schema_types::Schema;
 use oci_schemas::OciRecords;
 use oci_text_base::Result;
-use std::alloc::{AllocError, Global};
+use std::alloc::Global;
 
 /// The violations in a document.
 #[derive(Drop)]
@@ -27,18 +28,6 @@ struct Findings {
     count: usize,
 }
 
-/// A line for each violation.
-fn lines_of(found: &Vec<Violation>, alloc: Global) -> std::result::Result<String, AllocError> {
-    let mut lines = String::new(alloc);
-    for violation in found {
-        let pointer = violation.pointer.as_str();
-        let expected = violation.expected;
-        let line = format!(in alloc; "{pointer}: {expected}\n")?;
-        lines.push_str(line.as_str())?;
-    }
-    Ok(lines)
-}
-
 /// The violations of a schema in a document.
 #[tactic(auto, using(crate::proofs::Reported::none_found, crate::proofs::Reported::all_counted))]
 fn found_in(schema: &Schema, alloc: Global, document: &[u8]) -> Result<Findings>
@@ -47,9 +36,9 @@ fn found_in(schema: &Schema, alloc: Global, document: &[u8]) -> Result<Findings>
     ensures json { IfErr result (λ e. IsJson e → IsNoJson document.now) }
     ensures no_schema { IfErr result (λ e. ¬ IsSchema e) }
 {
-    let value = value_of(alloc, document)?;
+    let value = value_from_slice(alloc, document)?;
     let found = violations(&OciRecords, schema, &value, alloc)?;
-    let lines = lines_of(&found, alloc)?;
+    let lines = violation_lines(&found, alloc)?;
     let count = found.len();
     Ok(Findings { lines, count })
 }

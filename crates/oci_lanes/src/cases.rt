@@ -1,5 +1,5 @@
 //! The documents on standard input.
-use oci_doc_run::Kind;
+use oci_kinds::Kind;
 
 /// A document of a kind.
 #[derive(Clone, Copy)]

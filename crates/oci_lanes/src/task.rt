@@ -1,10 +1,34 @@
 //! One way, taken so often as is asked.
-use oci_doc_run::Kind;
+use crate::tape::copy;
+use anyhow::Result;
+use json::Scratch;
+use oci_kinds::Kind;
 use oci_schema::normalize;
 use oci_schema_bytes::{Workspace, normalize_bytes};
 use oci_schemas::OciRecords;
-use oci_text_base::Result;
 use std::alloc::Global;
+
+/// A way from a document's bytes to its text.
+#[derive(Clone, Copy)]
+enum Way {
+    /// `bytes`: normalized straight from the bytes.
+    Bytes,
+    /// `value`: normalized by way of a value.
+    Value,
+    /// `tape`: read and written again as JSON alone, by no schema.
+    Tape,
+}
+
+impl Way {
+    fn from_word(word: &str) -> Option<Way> {
+        match word {
+            "bytes" => Some(Way::Bytes),
+            "value" => Some(Way::Value),
+            "tape" => Some(Way::Tape),
+            _ => None,
+        }
+    }
+}
 
 /// Which way to take, with which document, and how often.
 #[derive(Clone, Copy)]
@@ -14,7 +38,7 @@ pub struct Task<'a> {
     /// Its file.
     pub path: &'a str,
     count: u32,
-    by_value: bool,
+    way: Way,
 }
 
 impl<'a> Task<'a> {
@@ -25,16 +49,12 @@ impl<'a> Task<'a> {
                 let kind = Kind::from_word(kind.as_str())?;
                 let path = path.as_str();
                 let count = count.as_str().parse::<u32>().ok()?;
-                let by_value = match way.as_str() {
-                    "bytes" => false,
-                    "value" => true,
-                    _ => return None,
-                };
+                let way = Way::from_word(way.as_str())?;
                 Some(Task {
                     kind,
                     path,
                     count,
-                    by_value,
+                    way,
                 })
             }
             _ => None,
@@ -42,23 +62,24 @@ impl<'a> Task<'a> {
     }
 }
 
-/// Normalizes the document. Fails if it is rejected, or if out of memory.
+/// Takes the document that way. Fails if it is rejected, or if out of memory.
 pub fn perform(alloc: Global, task: Task<'_>, bytes: &[u8]) -> Result<()> {
     let schema = task.kind.schema();
     let mut workspace = Workspace::new(alloc);
+    let mut scratch = Scratch::new(alloc);
     for _ in 0..task.count {
         let mut written = Vec::new(alloc);
-        if task.by_value {
-            normalize(&OciRecords, schema, alloc, bytes, &mut written)?;
-        } else {
-            normalize_bytes(
+        match task.way {
+            Way::Bytes => normalize_bytes(
                 &OciRecords,
                 schema,
                 alloc,
                 bytes,
                 &mut workspace,
                 &mut written,
-            )?;
+            )?,
+            Way::Value => normalize(&OciRecords, schema, alloc, bytes, &mut written)?,
+            Way::Tape => written = copy(alloc, bytes, &mut scratch)?,
         }
     }
     Ok(())

@@ -1,3 +1,7 @@
-pub mod Lists
-pub mod PublishedImage
-pub mod RestrictedContainer
+pub mod Conditions
+pub mod Grammars
+pub mod Places
+pub mod Policies
+pub mod Steps
+pub mod Tests
+pub mod Values

@@ -1,9 +1,15 @@
-//! Policies: rules of one's own, as books that are proved to be their descriptions in `policies/`.
+//! Policies: rules of one's own, read from a TOML file.
 #![tactic(auto)]
 
-mod lists;
-mod published_image;
-mod restricted_container;
+mod conditions;
+pub mod error;
+mod grammars;
+mod kinds;
+mod places;
+pub mod policy;
+mod rules;
+mod values;
 
-pub use published_image::published_image_rules;
-pub use restricted_container::restricted_container_rules;
+pub use bumpalo::Bump;
+pub use error::{PolicyError, Reason};
+pub use policy::Policy;

@@ -6,37 +6,30 @@ ghost use Rattle.std.specs.Prelude.{◌≡◌, map, IfOk};
 ghost use Rattle.std.specs.List.{flat_map};
 ghost use Rattle.oci_rules.specs.Tables.{rule_of};
 ghost use Rattle.oci_rule_books.specs.Kinds as kinds;
-ghost use Rattle.oci_doc_run.specs.declared.kind.Kind.TheVariants as kind;
+ghost use Rattle.oci_kinds.specs.declared.kind.Kind.TheVariants as kind;
 
-use oci_doc_run::Kind;
+use oci_kinds::Kind;
 use oci_rules::Rule;
 use oci_rules_image::{
     artifact_annotations_rules, artifact_blobs_annotations_rules, artifact_blobs_rules,
-    artifact_rules, artifact_subject_annotations_rules, artifact_subject_rules, config_2_rules,
-    config_combinations_2_rules, config_combinations_rules, config_labels_rules, config_rules,
-    descriptor_annotations_rules, descriptor_rules, error_rules, index_2_rules,
-    index_annotations_rules, index_combinations_2_rules, index_combinations_rules,
+    artifact_rules, artifact_subject_annotations_rules, artifact_subject_rules,
+    config_combinations_rules, config_labels_rules, config_rules, descriptor_annotations_rules,
+    descriptor_rules, error_rules, index_annotations_rules, index_combinations_rules,
     index_manifests_annotations_rules, index_manifests_rules, index_rules,
-    index_subject_annotations_rules, index_subject_rules, layout_rules, manifest_2_rules,
-    manifest_annotations_rules, manifest_config_annotations_rules, manifest_config_rules,
-    manifest_layers_annotations_rules, manifest_layers_rules, manifest_rules,
-    manifest_subject_annotations_rules, manifest_subject_rules, reference_rules,
-    repositories_rules, tags_rules,
+    index_subject_annotations_rules, index_subject_rules, layout_rules, manifest_annotations_rules,
+    manifest_config_annotations_rules, manifest_config_rules, manifest_layers_annotations_rules,
+    manifest_layers_rules, manifest_rules, manifest_subject_annotations_rules,
+    manifest_subject_rules, reference_rules, repositories_rules, tags_rules,
 };
 use oci_rules_runtime::{
-    features_2_rules, features_3_rules, features_rules, linux_2_rules, linux_3_rules,
-    linux_block_2_rules, linux_block_rules, linux_mappings_2_rules, linux_mappings_host_2_rules,
-    linux_mappings_host_rules, linux_mappings_rules, linux_resources_2_rules,
-    linux_resources_3_rules, linux_resources_rules, linux_rules, linux_seccomp_2_rules,
-    linux_seccomp_rules, linux_sysctl_rules, platforms_2_rules, platforms_rules, process_2_rules,
-    process_3_rules, process_capabilities_2_rules, process_capabilities_rules, process_rules,
-    process_state_2_rules, process_state_rules, spec_2_rules, spec_3_rules, spec_4_rules,
-    spec_hooks_2_rules, spec_hooks_3_rules, spec_hooks_rules, spec_mounts_2_rules,
-    spec_mounts_3_rules, spec_mounts_rules, spec_rules, state_rules,
+    features_rules, linux_block_rules, linux_mappings_host_rules, linux_mappings_rules,
+    linux_resources_rules, linux_rules, linux_seccomp_rules, linux_sysctl_rules, platforms_rules,
+    process_capabilities_rules, process_rules, process_state_rules, spec_hooks_rules,
+    spec_mounts_rules, spec_rules, state_rules,
 };
 use std::alloc::{AllocError, Global};
 
-/// Returns the books of a kind of documents, in their order. Fails if out of memory.
+/// Returns the rules of a kind of documents, in the order of its books, a few in each slice. Fails if out of memory.
 pub fn rules_of(kind: Kind, alloc: Global) -> Result<Vec<&'static [Rule<'static>]>, AllocError>
     ensures { IfOk result (λ v. flat_map (λ b. map rule_of b.now) v.items ≡ kinds.rules_of kind) }
 {
@@ -63,15 +56,14 @@ fn manifest_books(alloc: Global) -> Result<Vec<&'static [Rule<'static>]>, AllocE
 {
     collected(
         &[
-            manifest_rules(),
-            manifest_2_rules(),
-            manifest_annotations_rules(),
-            manifest_config_rules(),
-            manifest_config_annotations_rules(),
-            manifest_layers_rules(),
-            manifest_layers_annotations_rules(),
-            manifest_subject_rules(),
-            manifest_subject_annotations_rules(),
+            &manifest_rules(),
+            &manifest_annotations_rules(),
+            &manifest_config_rules(),
+            &manifest_config_annotations_rules(),
+            &manifest_layers_rules(),
+            &manifest_layers_annotations_rules(),
+            &manifest_subject_rules(),
+            &manifest_subject_annotations_rules(),
         ],
         alloc,
     )
@@ -82,15 +74,13 @@ fn index_books(alloc: Global) -> Result<Vec<&'static [Rule<'static>]>, AllocErro
 {
     collected(
         &[
-            index_rules(),
-            index_2_rules(),
-            index_combinations_rules(),
-            index_combinations_2_rules(),
-            index_annotations_rules(),
-            index_manifests_rules(),
-            index_manifests_annotations_rules(),
-            index_subject_rules(),
-            index_subject_annotations_rules(),
+            &index_rules(),
+            &index_combinations_rules(),
+            &index_annotations_rules(),
+            &index_manifests_rules(),
+            &index_manifests_annotations_rules(),
+            &index_subject_rules(),
+            &index_subject_annotations_rules(),
         ],
         alloc,
     )
@@ -101,11 +91,9 @@ fn config_books(alloc: Global) -> Result<Vec<&'static [Rule<'static>]>, AllocErr
 {
     collected(
         &[
-            config_rules(),
-            config_2_rules(),
-            config_combinations_rules(),
-            config_combinations_2_rules(),
-            config_labels_rules(),
+            &config_rules(),
+            &config_combinations_rules(),
+            &config_labels_rules(),
         ],
         alloc,
     )
@@ -116,12 +104,12 @@ fn artifact_books(alloc: Global) -> Result<Vec<&'static [Rule<'static>]>, AllocE
 {
     collected(
         &[
-            artifact_rules(),
-            artifact_annotations_rules(),
-            artifact_blobs_rules(),
-            artifact_blobs_annotations_rules(),
-            artifact_subject_rules(),
-            artifact_subject_annotations_rules(),
+            &artifact_rules(),
+            &artifact_annotations_rules(),
+            &artifact_blobs_rules(),
+            &artifact_blobs_annotations_rules(),
+            &artifact_subject_rules(),
+            &artifact_subject_annotations_rules(),
         ],
         alloc,
     )
@@ -130,37 +118,40 @@ fn artifact_books(alloc: Global) -> Result<Vec<&'static [Rule<'static>]>, AllocE
 fn layout_books(alloc: Global) -> Result<Vec<&'static [Rule<'static>]>, AllocError>
     ensures { IfOk result (λ v. flat_map (λ b. map rule_of b.now) v.items ≡ kinds.rules_of kind.Layout) }
 {
-    collected(&[layout_rules()], alloc)
+    collected(&[&layout_rules()], alloc)
 }
 
 fn descriptor_books(alloc: Global) -> Result<Vec<&'static [Rule<'static>]>, AllocError>
     ensures { IfOk result (λ v. flat_map (λ b. map rule_of b.now) v.items ≡ kinds.rules_of kind.Descriptor) }
 {
-    collected(&[descriptor_rules(), descriptor_annotations_rules()], alloc)
+    collected(
+        &[&descriptor_rules(), &descriptor_annotations_rules()],
+        alloc,
+    )
 }
 
 fn error_books(alloc: Global) -> Result<Vec<&'static [Rule<'static>]>, AllocError>
     ensures { IfOk result (λ v. flat_map (λ b. map rule_of b.now) v.items ≡ kinds.rules_of kind.Error) }
 {
-    collected(&[error_rules()], alloc)
+    collected(&[&error_rules()], alloc)
 }
 
 fn repositories_books(alloc: Global) -> Result<Vec<&'static [Rule<'static>]>, AllocError>
     ensures { IfOk result (λ v. flat_map (λ b. map rule_of b.now) v.items ≡ kinds.rules_of kind.Repositories) }
 {
-    collected(&[repositories_rules()], alloc)
+    collected(&[&repositories_rules()], alloc)
 }
 
 fn tags_books(alloc: Global) -> Result<Vec<&'static [Rule<'static>]>, AllocError>
     ensures { IfOk result (λ v. flat_map (λ b. map rule_of b.now) v.items ≡ kinds.rules_of kind.Tags) }
 {
-    collected(&[tags_rules()], alloc)
+    collected(&[&tags_rules()], alloc)
 }
 
 fn reference_books(alloc: Global) -> Result<Vec<&'static [Rule<'static>]>, AllocError>
     ensures { IfOk result (λ v. flat_map (λ b. map rule_of b.now) v.items ≡ kinds.rules_of kind.Reference) }
 {
-    collected(&[reference_rules()], alloc)
+    collected(&[&reference_rules()], alloc)
 }
 
 fn spec_books(alloc: Global) -> Result<Vec<&'static [Rule<'static>]>, AllocError>
@@ -168,38 +159,19 @@ fn spec_books(alloc: Global) -> Result<Vec<&'static [Rule<'static>]>, AllocError
 {
     collected(
         &[
-            spec_rules(),
-            spec_2_rules(),
-            spec_3_rules(),
-            spec_4_rules(),
-            spec_mounts_rules(),
-            spec_mounts_2_rules(),
-            spec_mounts_3_rules(),
-            spec_hooks_rules(),
-            spec_hooks_2_rules(),
-            spec_hooks_3_rules(),
-            process_rules(),
-            process_2_rules(),
-            process_3_rules(),
-            process_capabilities_rules(),
-            process_capabilities_2_rules(),
-            linux_rules(),
-            linux_2_rules(),
-            linux_3_rules(),
-            linux_mappings_rules(),
-            linux_mappings_2_rules(),
-            linux_mappings_host_rules(),
-            linux_mappings_host_2_rules(),
-            linux_resources_rules(),
-            linux_resources_2_rules(),
-            linux_resources_3_rules(),
-            linux_block_rules(),
-            linux_block_2_rules(),
-            linux_seccomp_rules(),
-            linux_seccomp_2_rules(),
-            linux_sysctl_rules(),
-            platforms_rules(),
-            platforms_2_rules(),
+            &spec_rules(),
+            &spec_mounts_rules(),
+            &spec_hooks_rules(),
+            &process_rules(),
+            &process_capabilities_rules(),
+            &linux_rules(),
+            &linux_mappings_rules(),
+            &linux_mappings_host_rules(),
+            &linux_resources_rules(),
+            &linux_block_rules(),
+            &linux_seccomp_rules(),
+            &linux_sysctl_rules(),
+            &platforms_rules(),
         ],
         alloc,
     )
@@ -208,31 +180,30 @@ fn spec_books(alloc: Global) -> Result<Vec<&'static [Rule<'static>]>, AllocError
 fn state_books(alloc: Global) -> Result<Vec<&'static [Rule<'static>]>, AllocError>
     ensures { IfOk result (λ v. flat_map (λ b. map rule_of b.now) v.items ≡ kinds.rules_of kind.State) }
 {
-    collected(&[state_rules()], alloc)
+    collected(&[&state_rules()], alloc)
 }
 
 fn process_state_books(alloc: Global) -> Result<Vec<&'static [Rule<'static>]>, AllocError>
     ensures { IfOk result (λ v. flat_map (λ b. map rule_of b.now) v.items ≡ kinds.rules_of kind.ProcessState) }
 {
-    collected(&[process_state_rules(), process_state_2_rules()], alloc)
+    collected(&[&process_state_rules()], alloc)
 }
 
 fn features_books(alloc: Global) -> Result<Vec<&'static [Rule<'static>]>, AllocError>
     ensures { IfOk result (λ v. flat_map (λ b. map rule_of b.now) v.items ≡ kinds.rules_of kind.Features) }
 {
-    collected(
-        &[features_rules(), features_2_rules(), features_3_rules()],
-        alloc,
-    )
+    collected(&[&features_rules()], alloc)
 }
 
 fn collected(
-    books: &[&'static [Rule<'static>]],
+    books: &[&[&'static [Rule<'static>]]],
     alloc: Global,
 ) -> Result<Vec<&'static [Rule<'static>]>, AllocError>
-    ensures { IfOk result (λ v. v.items ≡ books.now) }
+    ensures { IfOk result (λ v. v.items ≡ flat_map (λ b. b.now) books.now) }
 {
     let mut out = Vec::new(alloc);
-    out.extend_from_slice(books)?;
+    for book in books {
+        out.extend_from_slice(book)?;
+    }
     Ok(out)
 }

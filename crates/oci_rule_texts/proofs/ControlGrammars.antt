@@ -6,7 +6,7 @@ use Rattle.std.specs.List.{list_all}
 use Rattle.std.proofs.lemmas.Bool.Decides.{Decides-and, Decides-or, Decides-not}
 use Rattle.std.proofs.lemmas.Slice.Eq.{bytes_eq-Decides}
 use Rattle.oci_text_base.specs.Classes.{dot, colon, until, after, IsIn, IsSomeOf}
-use Rattle.oci_text_base.proofs.Lacks.{both, lacks_some}
+use Rattle.oci_text_base.proofs.Lacks.{both, lacks_in, lacks_some}
 use Rattle.oci_rule_texts.specs.Classes.{is_access_byte, is_capability_byte, is_context_byte, is_file_start, is_interface_byte, is_not_slash, is_positive, is_scale}
 use Rattle.oci_rule_texts.specs.Controls.{IsPageUnit, IsPageSize, IsSelinuxLabel, IsNoDots, IsInterfaceName, IsOneDirectory, IsCgroupFile, IsDeviceAccess, IsCapabilityName, IsScale, IsScaledNumber, IsDecimalNumber}
 use Rattle.oci_rule_texts.specs.Decided.{is_page_size, is_selinux_tail, is_selinux_label, is_no_dots, is_interface_name, is_one_directory, is_cgroup_file, is_once, is_device_access, is_capability_name, is_scaled_number, is_decimal_number, is_some_of, is_headed}
@@ -106,6 +106,7 @@ scaled_number =
     (λ x h. h.1) scale_stops
 
 pub decimal_number : Tells is_decimal_number IsDecimalNumber
-decimal_number =
-    extended_tells dot (is_some_of is_ascii_digit) (is_some_of is_ascii_digit) (IsSomeOf is_ascii_digit) (IsSomeOf is_ascii_digit) (some_tells is_ascii_digit) (some_tells is_ascii_digit)
-    (lacks_some is_ascii_digit dot refl)
+decimal_number t =
+    Decides-or _ _ (some_tells is_ascii_digit t)
+    (pair_tells dot (list_all is_ascii_digit) (is_some_of is_ascii_digit) (IsIn is_ascii_digit) (IsSomeOf is_ascii_digit) (in_tells is_ascii_digit) (some_tells is_ascii_digit)
+    (lacks_in is_ascii_digit dot refl) refl t)

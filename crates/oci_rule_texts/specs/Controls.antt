@@ -55,6 +55,6 @@ IsScale text = IsIn is_scale text × (length text ≤ 1)
 abbrev pub IsScaledNumber : List ℕ → Type 0
 IsScaledNumber text = IsRun (IsSomeOf is_ascii_digit) IsScale text
 
--- digits, and perhaps "." and digits ("cappedCPU", `ncpus`)
+-- a whole number, a fraction (.75) or a mixed number (1.25): digits, or "." and digits with perhaps digits before it ("cappedCPU", `ncpus`)
 abbrev pub IsDecimalNumber : List ℕ → Type 0
-IsDecimalNumber text = IsExtended dot (IsSomeOf is_ascii_digit) (IsSomeOf is_ascii_digit) text
+IsDecimalNumber text = IsSomeOf is_ascii_digit text ⊎ IsPair dot (IsIn is_ascii_digit) (IsSomeOf is_ascii_digit) text

@@ -216,7 +216,7 @@ is_scaled_number text =
     is_some_of is_ascii_digit (front_in is_ascii_digit text) && (list_all is_scale (back_in is_ascii_digit text) && nat_le (length (back_in is_ascii_digit text)) 1)
 
 abbrev pub is_decimal_number : List ℕ → Bool
-is_decimal_number text = is_some_of is_ascii_digit (until dot text) && (not (has dot text) || is_some_of is_ascii_digit (after dot text))
+is_decimal_number text = is_some_of is_ascii_digit text || (list_all is_ascii_digit (until dot text) && is_some_of is_ascii_digit (after dot text))
 
 -- ---- versions
 

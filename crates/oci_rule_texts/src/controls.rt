@@ -85,5 +85,5 @@ pub(crate) fn is_decimal_number(text: &[u8]) -> bool
     ensures { result ≡ decided.is_decimal_number text.now }
 {
     let (whole, fraction) = cut(text, b'.');
-    Class::Digit.has_some(whole) & (!text.contains(&b'.') | Class::Digit.has_some(fraction))
+    Class::Digit.has_some(text) | (Class::Digit.has_all(whole) & Class::Digit.has_some(fraction))
 }

@@ -23,7 +23,7 @@ use oci_reference_scan::parts;
 use oci_text::is_digest;
 
 /// A grammar that a rule asks for.
-#[derive(Clone, Copy, Debug, PartialEq, Eq)]
+#[derive(Clone, Copy)]
 pub enum Grammar {
     /// It begins with `/` (POSIX, XBD 3.2, "Absolute Pathname").
     AbsolutePath,
@@ -37,7 +37,7 @@ pub enum Grammar {
     CpuList,
     /// A date and time (RFC 3339, section 5.6).
     DateTime,
-    /// Digits, and perhaps a dot and digits.
+    /// An integer, a fraction as `.75`, or both, as `1.25`.
     DecimalNumber,
     /// Some of `r`, `w` and `m`, each once at most.
     DeviceAccess,
@@ -151,51 +151,6 @@ impl Grammar {
             Grammar::User => is_user_spec(bytes),
             Grammar::VolumeGuidPath => is_volume_guid_path(bytes),
             Grammar::WindowsPath => is_windows_path(bytes),
-        }
-    }
-
-    /// What is wanted, for messages: "an absolute path".
-    pub fn name(self) -> &'static str {
-        match self {
-            Grammar::AbsolutePath => "an absolute path",
-            Grammar::Base64 => "base64",
-            Grammar::CapabilityName => "the name of a capability",
-            Grammar::CgroupFile => "the name of a file in a cgroup",
-            Grammar::CpuList => "a CPU list",
-            Grammar::DateTime => "an RFC 3339 date and time",
-            Grammar::DecimalNumber => "a decimal number",
-            Grammar::DeviceAccess => "some of r, w and m, each once",
-            Grammar::Digest => "a digest",
-            Grammar::Domain => "a domain",
-            Grammar::EnvironmentEntry => "NAME=value",
-            Grammar::FullReference => "a reference that says its registry",
-            Grammar::Guid => "a GUID",
-            Grammar::HttpUri => "a URI of the scheme http or https",
-            Grammar::InterfaceName => "the name of a network interface",
-            Grammar::LocalDirectory => "a local directory",
-            Grammar::MediaType => "a media type",
-            Grammar::NoNul => "text without NUL",
-            Grammar::NoParent => "a path without ..",
-            Grammar::OneDirectory => "the name of one directory",
-            Grammar::OneLine => "one line",
-            Grammar::PageSize => "a page size such as 2MB",
-            Grammar::Port => "a port such as 8080/tcp",
-            Grammar::PortableEntry => "NAME=value with letters, digits and _ in NAME",
-            Grammar::RefName => "a name of a reference",
-            Grammar::Reference => "a reference to an image",
-            Grammar::Repository => "the name of a repository",
-            Grammar::ReverseDomain => "a reverse domain name",
-            Grammar::RootfsPath => "a path that ends in rootfs",
-            Grammar::ScaledNumber => "a number with a scale such as 512m",
-            Grammar::SelinuxLabel => "an SELinux label",
-            Grammar::SemVer => "a semantic version",
-            Grammar::Signal => "the name of a signal",
-            Grammar::SpdxExpression => "an SPDX licence expression",
-            Grammar::Tag => "a tag",
-            Grammar::Uri => "a URI",
-            Grammar::User => "a user such as user or user:group",
-            Grammar::VolumeGuidPath => "a volume GUID path",
-            Grammar::WindowsPath => "an absolute path of Windows",
         }
     }
 }

@@ -20,11 +20,6 @@ config_rules =
     record { name = codes "config-diff-id"; level = stated; section = codes "image config.md#properties"; platforms = every; place = under (codes "rootfs") (under (codes "diff_ids") (each_item here)); test = text Digest } ∷
     record { name = codes "config-env"; level = stated; section = codes "image config.md#properties"; platforms = every; place = under (codes "config") (under (codes "Env") (each_item here)); test = text EnvironmentEntry } ∷
     record { name = codes "config-port"; level = stated; section = codes "image config.md#properties"; platforms = every; place = under (codes "config") (under (codes "ExposedPorts") (each_name here)); test = text Port } ∷
-    []
-
--- the book of config 2
-abbrev pub config_2_rules : List Rule
-config_2_rules =
     record { name = codes "config-user"; level = stated; section = codes "image config.md#properties"; platforms = every; place = under (codes "config") (under (codes "User") (if_so (asks the_part [] false (is_text (codes "" ∷ []))) here)); test = text User } ∷
     record { name = codes "config-stop-signal"; level = stated; section = codes "image config.md#properties"; platforms = every; place = under (codes "config") (under (codes "StopSignal") here); test = text Signal } ∷
     record { name = codes "config-args-escaped"; level = stated; section = codes "image config.md#properties"; platforms = every; place = under (codes "config") here; test = absent (codes "ArgsEscaped") } ∷
@@ -48,11 +43,6 @@ config_combinations_rules =
     record { name = codes "config-combination"; level = host; section = codes "common practice"; platforms = every; place = if_so (asks the_part (codes "os" ∷ []) true (is_text (codes "illumos" ∷ []))) (under (codes "architecture") here); test = one_of (codes "amd64" ∷ []) } ∷
     record { name = codes "config-combination"; level = host; section = codes "common practice"; platforms = every; place = if_so (asks the_part (codes "os" ∷ []) true (is_text (codes "ios" ∷ []))) (under (codes "architecture") here); test = one_of (codes "arm64" ∷ codes "amd64" ∷ []) } ∷
     record { name = codes "config-combination"; level = host; section = codes "common practice"; platforms = every; place = if_so (asks the_part (codes "os" ∷ []) true (is_text (codes "js" ∷ []))) (under (codes "architecture") here); test = one_of (codes "wasm" ∷ []) } ∷
-    []
-
--- the book of config combinations 2
-abbrev pub config_combinations_2_rules : List Rule
-config_combinations_2_rules =
     record { name = codes "config-combination"; level = host; section = codes "common practice"; platforms = every; place = if_so (asks the_part (codes "os" ∷ []) true (is_text (codes "linux" ∷ []))) (under (codes "architecture") here); test = one_of (codes "386" ∷ codes "amd64" ∷ codes "arm" ∷ codes "arm64" ∷ codes "loong64" ∷ codes "ppc64" ∷ codes "ppc64le" ∷ codes "mips" ∷ codes "mipsle" ∷ codes "mips64" ∷ codes "mips64le" ∷ codes "riscv64" ∷ codes "s390x" ∷ []) } ∷
     record { name = codes "config-combination"; level = host; section = codes "common practice"; platforms = every; place = if_so (asks the_part (codes "os" ∷ []) true (is_text (codes "netbsd" ∷ []))) (under (codes "architecture") here); test = one_of (codes "386" ∷ codes "amd64" ∷ codes "arm" ∷ codes "arm64" ∷ []) } ∷
     record { name = codes "config-combination"; level = host; section = codes "common practice"; platforms = every; place = if_so (asks the_part (codes "os" ∷ []) true (is_text (codes "openbsd" ∷ []))) (under (codes "architecture") here); test = one_of (codes "386" ∷ codes "amd64" ∷ codes "arm" ∷ codes "arm64" ∷ codes "mips64" ∷ codes "ppc64" ∷ codes "riscv64" ∷ []) } ∷

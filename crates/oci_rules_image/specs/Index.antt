@@ -18,11 +18,6 @@ index_rules =
     record { name = codes "descriptor-platform-there"; level = should; section = codes "image descriptor.md#properties"; platforms = every; place = under (codes "manifests") (each_item (if_so (asks the_part (codes "mediaType" ∷ []) true (is_text (codes "application/vnd.oci.image.manifest.v1+json" ∷ []))) here)); test = there (codes "platform") } ∷
     record { name = codes "platform-architecture-known"; level = should; section = codes "image image-index.md#image-index-property-descriptions"; platforms = every; place = under (codes "manifests") (each_item (under (codes "platform") (under (codes "architecture") here))); test = one_of goarch } ∷
     record { name = codes "platform-os-known"; level = should; section = codes "image image-index.md#image-index-property-descriptions"; platforms = every; place = under (codes "manifests") (each_item (under (codes "platform") (under (codes "os") here))); test = one_of goos } ∷
-    []
-
--- the book of index 2
-abbrev pub index_2_rules : List Rule
-index_2_rules =
     record { name = codes "platform-variant-known"; level = should; section = codes "image image-index.md#platform-variants"; platforms = every; place = under (codes "manifests") (each_item (under (codes "platform") (if_so (asks the_part (codes "architecture" ∷ []) true (is_text (codes "arm" ∷ []))) (under (codes "variant") here)))); test = one_of (codes "v6" ∷ codes "v7" ∷ codes "v8" ∷ []) } ∷
     record { name = codes "platform-variant-known"; level = should; section = codes "image image-index.md#platform-variants"; platforms = every; place = under (codes "manifests") (each_item (under (codes "platform") (if_so (asks the_part (codes "architecture" ∷ []) true (is_text (codes "arm64" ∷ []))) (under (codes "variant") here)))); test = one_of (codes "v8" ∷ []) } ∷
     record { name = codes "platform-features-windows"; level = should; section = codes "image image-index.md#image-index-property-descriptions"; platforms = every; place = under (codes "manifests") (each_item (under (codes "platform") (if_so (asks the_part (codes "os" ∷ []) true (is_text (codes "windows" ∷ []))) (under (codes "os.features") (each_item here))))); test = one_of (codes "win32k" ∷ []) } ∷
@@ -44,11 +39,6 @@ index_combinations_rules =
     record { name = codes "platform-combination"; level = host; section = codes "common practice"; platforms = every; place = under (codes "manifests") (each_item (under (codes "platform") (if_so (asks the_part (codes "os" ∷ []) true (is_text (codes "illumos" ∷ []))) (under (codes "architecture") here)))); test = one_of (codes "amd64" ∷ []) } ∷
     record { name = codes "platform-combination"; level = host; section = codes "common practice"; platforms = every; place = under (codes "manifests") (each_item (under (codes "platform") (if_so (asks the_part (codes "os" ∷ []) true (is_text (codes "ios" ∷ []))) (under (codes "architecture") here)))); test = one_of (codes "arm64" ∷ codes "amd64" ∷ []) } ∷
     record { name = codes "platform-combination"; level = host; section = codes "common practice"; platforms = every; place = under (codes "manifests") (each_item (under (codes "platform") (if_so (asks the_part (codes "os" ∷ []) true (is_text (codes "js" ∷ []))) (under (codes "architecture") here)))); test = one_of (codes "wasm" ∷ []) } ∷
-    []
-
--- the book of index combinations 2
-abbrev pub index_combinations_2_rules : List Rule
-index_combinations_2_rules =
     record { name = codes "platform-combination"; level = host; section = codes "common practice"; platforms = every; place = under (codes "manifests") (each_item (under (codes "platform") (if_so (asks the_part (codes "os" ∷ []) true (is_text (codes "linux" ∷ []))) (under (codes "architecture") here)))); test = one_of (codes "386" ∷ codes "amd64" ∷ codes "arm" ∷ codes "arm64" ∷ codes "loong64" ∷ codes "ppc64" ∷ codes "ppc64le" ∷ codes "mips" ∷ codes "mipsle" ∷ codes "mips64" ∷ codes "mips64le" ∷ codes "riscv64" ∷ codes "s390x" ∷ []) } ∷
     record { name = codes "platform-combination"; level = host; section = codes "common practice"; platforms = every; place = under (codes "manifests") (each_item (under (codes "platform") (if_so (asks the_part (codes "os" ∷ []) true (is_text (codes "netbsd" ∷ []))) (under (codes "architecture") here)))); test = one_of (codes "386" ∷ codes "amd64" ∷ codes "arm" ∷ codes "arm64" ∷ []) } ∷
     record { name = codes "platform-combination"; level = host; section = codes "common practice"; platforms = every; place = under (codes "manifests") (each_item (under (codes "platform") (if_so (asks the_part (codes "os" ∷ []) true (is_text (codes "openbsd" ∷ []))) (under (codes "architecture") here)))); test = one_of (codes "386" ∷ codes "amd64" ∷ codes "arm" ∷ codes "arm64" ∷ codes "mips64" ∷ codes "ppc64" ∷ codes "riscv64" ∷ []) } ∷

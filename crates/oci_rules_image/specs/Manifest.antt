@@ -17,11 +17,6 @@ manifest_rules =
     record { name = codes "manifest-artifact-type-there"; level = must; section = codes "image manifest.md#image-manifest-property-descriptions"; platforms = every; place = if_so (asks the_part (codes "config" ∷ codes "mediaType" ∷ []) true (is_text (codes "application/vnd.oci.empty.v1+json" ∷ []))) here; test = there (codes "artifactType") } ∷
     record { name = codes "manifest-config-type-known"; level = should; section = codes "image manifest.md#image-manifest-property-descriptions"; platforms = every; place = if_so (asks the_part (codes "artifactType" ∷ []) false is_there) (under (codes "config") (under (codes "mediaType") here)); test = one_of (codes "application/vnd.oci.image.config.v1+json" ∷ []) } ∷
     record { name = codes "manifest-layers-some"; level = should; section = codes "image manifest.md#image-manifest-property-descriptions"; platforms = every; place = under (codes "layers") here; test = not_empty } ∷
-    []
-
--- the book of manifest 2
-abbrev pub manifest_2_rules : List Rule
-manifest_2_rules =
     record { name = codes "manifest-layer-type-known"; level = should; section = codes "image manifest.md#image-manifest-property-descriptions"; platforms = every; place = if_so (asks the_part (codes "config" ∷ codes "mediaType" ∷ []) true (is_text (codes "application/vnd.oci.image.config.v1+json" ∷ []))) (under (codes "layers") (each_item (under (codes "mediaType") here))); test = one_of layer_types } ∷
     record { name = codes "manifest-layer-distributable"; level = should; section = codes "image layer.md#non-distributable-layers"; platforms = every; place = under (codes "layers") (each_item (under (codes "mediaType") here)); test = none_of nondistributable_types } ∷
     record { name = codes "manifest-artifact-layer-some"; level = should; section = codes "image manifest.md#guidelines-for-artifact-usage"; platforms = every; place = if_so (asks the_part (codes "config" ∷ codes "mediaType" ∷ []) true (is_text (codes "application/vnd.oci.empty.v1+json" ∷ []))) (under (codes "layers") (each_item (under (codes "size") here))); test = within (pos 1) (pos 18446744073709551615) } ∷

@@ -12,17 +12,12 @@ linux_rules =
     record { name = codes "namespace-path-absolute"; level = must; section = codes "runtime config-linux.md#namespaces"; platforms = every; place = under (codes "linux") (under (codes "namespaces") (each_item (under (codes "path") here))); test = text AbsolutePath } ∷
     record { name = codes "time-offset-clock"; level = stated; section = codes "runtime config-linux.md#offset-for-time-namespace"; platforms = every; place = under (codes "linux") (under (codes "timeOffsets") (each_name here)); test = one_of (codes "monotonic" ∷ codes "boottime" ∷ []) } ∷
     record { name = codes "time-offset-nanosecs"; level = host; section = codes "time_namespaces(7)"; platforms = every; place = under (codes "linux") (under (codes "timeOffsets") (each_member (under (codes "nanosecs") here))); test = within (pos 0) (pos 999999999) } ∷
-    record { name = codes "time-offset-needs-time"; level = stated; section = codes "runtime config-linux.md#offset-for-time-namespace"; platforms = every; place = under (codes "linux") (if_so (asks the_document (codes "linux" ∷ codes "namespaces" ∷ []) false (has_item (codes "type") (codes "time" ∷ []) [] (codes "path" ∷ []))) here); test = absent (codes "timeOffsets") } ∷
+    record { name = codes "time-offset-needs-time"; level = stated; section = codes "runtime config-linux.md#offset-for-time-namespace"; platforms = every; place = if_so (asks the_document (codes "linux" ∷ codes "namespaces" ∷ []) false (has_item (codes "type") (codes "time" ∷ []) [] (codes "path" ∷ []))) (under (codes "linux") here); test = absent (codes "timeOffsets") } ∷
     record { name = codes "device-type"; level = stated; section = codes "runtime config-linux.md#devices"; platforms = every; place = under (codes "linux") (under (codes "devices") (each_item (under (codes "type") here))); test = one_of (codes "c" ∷ codes "b" ∷ codes "u" ∷ codes "p" ∷ []) } ∷
     record { name = codes "device-path-there"; level = must; section = codes "runtime config-linux.md#devices"; platforms = every; place = under (codes "linux") (under (codes "devices") (each_item here)); test = there (codes "path") } ∷
     record { name = codes "device-path-there"; level = must; section = codes "runtime config-linux.md#devices"; platforms = every; place = under (codes "linux") (under (codes "devices") (each_item (under (codes "path") here))); test = not_empty } ∷
     record { name = codes "device-path-absolute"; level = stated; section = codes "runtime config-linux.md#devices"; platforms = every; place = under (codes "linux") (under (codes "devices") (each_item (under (codes "path") here))); test = text AbsolutePath } ∷
     record { name = codes "device-numbers-there"; level = must; section = codes "runtime config-linux.md#devices"; platforms = every; place = under (codes "linux") (under (codes "devices") (each_item (if_so (asks the_part (codes "type" ∷ []) false (is_text (codes "p" ∷ []))) here))); test = there (codes "major") } ∷
-    []
-
--- the book of linux 2
-abbrev pub linux_2_rules : List Rule
-linux_2_rules =
     record { name = codes "device-numbers-there"; level = must; section = codes "runtime config-linux.md#devices"; platforms = every; place = under (codes "linux") (under (codes "devices") (each_item (if_so (asks the_part (codes "type" ∷ []) false (is_text (codes "p" ∷ []))) here))); test = there (codes "minor") } ∷
     record { name = codes "device-numbers-range"; level = host; section = codes "mknod(2)"; platforms = every; place = under (codes "linux") (under (codes "devices") (each_item (under (codes "major") here))); test = within (pos 0) (pos 18446744073709551615) } ∷
     record { name = codes "device-numbers-range"; level = host; section = codes "mknod(2)"; platforms = every; place = under (codes "linux") (under (codes "devices") (each_item (under (codes "minor") here))); test = within (pos 0) (pos 18446744073709551615) } ∷
@@ -33,15 +28,10 @@ linux_2_rules =
     record { name = codes "device-file-mode"; level = host; section = codes "runtime config-linux.md#devices"; platforms = every; place = under (codes "linux") (under (codes "devices") (each_item (under (codes "fileMode") here))); test = within (pos 0) (pos 4095) } ∷
     record { name = codes "cgroups-path"; level = host; section = codes "runtime config-linux.md#cgroups-path"; platforms = every; place = under (codes "linux") (under (codes "cgroupsPath") here); test = text NoParent } ∷
     record { name = codes "rootfs-propagation"; level = stated; section = codes "runtime config-linux.md#rootfs-mount-propagation"; platforms = every; place = under (codes "linux") (under (codes "rootfsPropagation") here); test = one_of (codes "shared" ∷ codes "slave" ∷ codes "private" ∷ codes "unbindable" ∷ []) } ∷
-    []
-
--- the book of linux 3
-abbrev pub linux_3_rules : List Rule
-linux_3_rules =
     record { name = codes "masked-path-absolute"; level = must; section = codes "runtime config-linux.md#masked-paths"; platforms = every; place = under (codes "linux") (under (codes "maskedPaths") (each_item here)); test = text AbsolutePath } ∷
     record { name = codes "readonly-path-absolute"; level = must; section = codes "runtime config-linux.md#readonly-paths"; platforms = every; place = under (codes "linux") (under (codes "readonlyPaths") (each_item here)); test = text AbsolutePath } ∷
-    record { name = codes "paths-need-mount"; level = host; section = codes "common practice"; platforms = every; place = under (codes "linux") (if_so (asks the_document (codes "linux" ∷ codes "namespaces" ∷ []) false (has_item (codes "type") (codes "mount" ∷ []) [] (codes "path" ∷ []))) here); test = absent (codes "maskedPaths") } ∷
-    record { name = codes "paths-need-mount"; level = host; section = codes "common practice"; platforms = every; place = under (codes "linux") (if_so (asks the_document (codes "linux" ∷ codes "namespaces" ∷ []) false (has_item (codes "type") (codes "mount" ∷ []) [] (codes "path" ∷ []))) here); test = absent (codes "readonlyPaths") } ∷
+    record { name = codes "paths-need-mount"; level = host; section = codes "common practice"; platforms = every; place = if_so (asks the_document (codes "linux" ∷ codes "namespaces" ∷ []) false (has_item (codes "type") (codes "mount" ∷ []) [] (codes "path" ∷ []))) (under (codes "linux") here); test = absent (codes "maskedPaths") } ∷
+    record { name = codes "paths-need-mount"; level = host; section = codes "common practice"; platforms = every; place = if_so (asks the_document (codes "linux" ∷ codes "namespaces" ∷ []) false (has_item (codes "type") (codes "mount" ∷ []) [] (codes "path" ∷ []))) (under (codes "linux") here); test = absent (codes "readonlyPaths") } ∷
     record { name = codes "personality-flags"; level = stated; section = codes "runtime config-linux.md#personality"; platforms = every; place = under (codes "linux") (under (codes "personality") (under (codes "flags") here)); test = length_at_most 0 } ∷
     record { name = codes "rdt-l3-begins"; level = should; section = codes "runtime config-linux.md#intelrdt"; platforms = every; place = under (codes "linux") (under (codes "intelRdt") (under (codes "l3CacheSchema") here)); test = begins (codes "L3:") } ∷
     record { name = codes "rdt-l3-one-line"; level = should; section = codes "runtime config-linux.md#intelrdt"; platforms = every; place = under (codes "linux") (under (codes "intelRdt") (under (codes "l3CacheSchema") here)); test = text OneLine } ∷
@@ -65,11 +55,6 @@ linux_mappings_rules =
     record { name = codes "mapping-members-there"; level = must; section = codes "runtime config-linux.md#user-namespace-mappings"; platforms = every; place = under (codes "linux") (under (codes "gidMappings") (each_item here)); test = there (codes "hostID") } ∷
     record { name = codes "mapping-members-there"; level = must; section = codes "runtime config-linux.md#user-namespace-mappings"; platforms = every; place = under (codes "mounts") (each_item (under (codes "uidMappings") (each_item here))); test = there (codes "hostID") } ∷
     record { name = codes "mapping-members-there"; level = must; section = codes "runtime config-linux.md#user-namespace-mappings"; platforms = every; place = under (codes "mounts") (each_item (under (codes "gidMappings") (each_item here))); test = there (codes "hostID") } ∷
-    []
-
--- the book of linux mappings 2
-abbrev pub linux_mappings_2_rules : List Rule
-linux_mappings_2_rules =
     record { name = codes "mapping-members-there"; level = must; section = codes "runtime config-linux.md#user-namespace-mappings"; platforms = every; place = under (codes "uidMappings") (each_item here); test = there (codes "size") } ∷
     record { name = codes "mapping-members-there"; level = must; section = codes "runtime config-linux.md#user-namespace-mappings"; platforms = every; place = under (codes "gidMappings") (each_item here); test = there (codes "size") } ∷
     record { name = codes "mapping-members-there"; level = must; section = codes "runtime config-linux.md#user-namespace-mappings"; platforms = every; place = under (codes "linux") (under (codes "uidMappings") (each_item here)); test = there (codes "size") } ∷
@@ -99,23 +84,18 @@ linux_mappings_host_rules =
     record { name = codes "mapping-fits"; level = host; section = codes "user_namespaces(7)"; platforms = every; place = under (codes "linux") (under (codes "gidMappings") (each_item here)); test = sum_at_most (codes "hostID") (codes "size") 4294967296 } ∷
     record { name = codes "mapping-fits"; level = host; section = codes "user_namespaces(7)"; platforms = every; place = under (codes "mounts") (each_item (under (codes "uidMappings") (each_item here))); test = sum_at_most (codes "hostID") (codes "size") 4294967296 } ∷
     record { name = codes "mapping-fits"; level = host; section = codes "user_namespaces(7)"; platforms = every; place = under (codes "mounts") (each_item (under (codes "gidMappings") (each_item here))); test = sum_at_most (codes "hostID") (codes "size") 4294967296 } ∷
-    []
-
--- the book of linux mappings host 2
-abbrev pub linux_mappings_host_2_rules : List Rule
-linux_mappings_host_2_rules =
     record { name = codes "mapping-count"; level = host; section = codes "user_namespaces(7)"; platforms = every; place = under (codes "uidMappings") here; test = length_at_most 340 } ∷
     record { name = codes "mapping-count"; level = host; section = codes "user_namespaces(7)"; platforms = every; place = under (codes "gidMappings") here; test = length_at_most 340 } ∷
     record { name = codes "mapping-count"; level = host; section = codes "user_namespaces(7)"; platforms = every; place = under (codes "linux") (under (codes "uidMappings") here); test = length_at_most 340 } ∷
     record { name = codes "mapping-count"; level = host; section = codes "user_namespaces(7)"; platforms = every; place = under (codes "linux") (under (codes "gidMappings") here); test = length_at_most 340 } ∷
     record { name = codes "mapping-count"; level = host; section = codes "user_namespaces(7)"; platforms = every; place = under (codes "mounts") (each_item (under (codes "uidMappings") here)); test = length_at_most 340 } ∷
     record { name = codes "mapping-count"; level = host; section = codes "user_namespaces(7)"; platforms = every; place = under (codes "mounts") (each_item (under (codes "gidMappings") here)); test = length_at_most 340 } ∷
-    record { name = codes "mapping-needs-user"; level = host; section = codes "runtime config-linux.md#user-namespace-mappings"; platforms = every; place = under (codes "linux") (if_so (asks the_document (codes "linux" ∷ codes "namespaces" ∷ []) false (has_item (codes "type") (codes "user" ∷ []) [] [])) here); test = absent (codes "uidMappings") } ∷
-    record { name = codes "mapping-needs-user"; level = host; section = codes "runtime config-linux.md#user-namespace-mappings"; platforms = every; place = under (codes "linux") (if_so (asks the_document (codes "linux" ∷ codes "namespaces" ∷ []) false (has_item (codes "type") (codes "user" ∷ []) [] [])) here); test = absent (codes "gidMappings") } ∷
-    record { name = codes "user-namespace-mapped"; level = host; section = codes "runtime config-linux.md#user-namespace-mappings"; platforms = every; place = under (codes "linux") (if_so (asks the_document (codes "linux" ∷ codes "namespaces" ∷ []) true (has_item (codes "type") (codes "user" ∷ []) [] (codes "path" ∷ []))) here); test = there (codes "uidMappings") } ∷
-    record { name = codes "user-namespace-mapped"; level = host; section = codes "runtime config-linux.md#user-namespace-mappings"; platforms = every; place = under (codes "linux") (if_so (asks the_document (codes "linux" ∷ codes "namespaces" ∷ []) true (has_item (codes "type") (codes "user" ∷ []) [] (codes "path" ∷ []))) here); test = there (codes "gidMappings") } ∷
-    record { name = codes "user-namespace-one-way"; level = host; section = codes "runtime config-linux.md#user-namespace-mappings"; platforms = every; place = under (codes "linux") (if_so (asks the_document (codes "linux" ∷ codes "namespaces" ∷ []) true (has_item (codes "type") (codes "user" ∷ []) (codes "path" ∷ []) [])) here); test = absent (codes "uidMappings") } ∷
-    record { name = codes "user-namespace-one-way"; level = host; section = codes "runtime config-linux.md#user-namespace-mappings"; platforms = every; place = under (codes "linux") (if_so (asks the_document (codes "linux" ∷ codes "namespaces" ∷ []) true (has_item (codes "type") (codes "user" ∷ []) (codes "path" ∷ []) [])) here); test = absent (codes "gidMappings") } ∷
+    record { name = codes "mapping-needs-user"; level = host; section = codes "runtime config-linux.md#user-namespace-mappings"; platforms = every; place = if_so (asks the_document (codes "linux" ∷ codes "namespaces" ∷ []) false (has_item (codes "type") (codes "user" ∷ []) [] [])) (under (codes "linux") here); test = absent (codes "uidMappings") } ∷
+    record { name = codes "mapping-needs-user"; level = host; section = codes "runtime config-linux.md#user-namespace-mappings"; platforms = every; place = if_so (asks the_document (codes "linux" ∷ codes "namespaces" ∷ []) false (has_item (codes "type") (codes "user" ∷ []) [] [])) (under (codes "linux") here); test = absent (codes "gidMappings") } ∷
+    record { name = codes "user-namespace-mapped"; level = host; section = codes "runtime config-linux.md#user-namespace-mappings"; platforms = every; place = if_so (asks the_document (codes "linux" ∷ codes "namespaces" ∷ []) true (has_item (codes "type") (codes "user" ∷ []) [] (codes "path" ∷ []))) (under (codes "linux") here); test = there (codes "uidMappings") } ∷
+    record { name = codes "user-namespace-mapped"; level = host; section = codes "runtime config-linux.md#user-namespace-mappings"; platforms = every; place = if_so (asks the_document (codes "linux" ∷ codes "namespaces" ∷ []) true (has_item (codes "type") (codes "user" ∷ []) [] (codes "path" ∷ []))) (under (codes "linux") here); test = there (codes "gidMappings") } ∷
+    record { name = codes "user-namespace-one-way"; level = host; section = codes "runtime config-linux.md#user-namespace-mappings"; platforms = every; place = if_so (asks the_document (codes "linux" ∷ codes "namespaces" ∷ []) true (has_item (codes "type") (codes "user" ∷ []) (codes "path" ∷ []) [])) (under (codes "linux") here); test = absent (codes "uidMappings") } ∷
+    record { name = codes "user-namespace-one-way"; level = host; section = codes "runtime config-linux.md#user-namespace-mappings"; platforms = every; place = if_so (asks the_document (codes "linux" ∷ codes "namespaces" ∷ []) true (has_item (codes "type") (codes "user" ∷ []) (codes "path" ∷ []) [])) (under (codes "linux") here); test = absent (codes "gidMappings") } ∷
     []
 
 -- the book of linux resources
@@ -131,11 +111,6 @@ linux_resources_rules =
     record { name = codes "memory-limit-range"; level = stated; section = codes "runtime config-linux.md#memory"; platforms = every; place = under (codes "linux") (under (codes "resources") (under (codes "memory") (under (codes "kernelTCP") here))); test = within (negsuc 0) (pos 18446744073709551615) } ∷
     record { name = codes "memory-kernel-avoided"; level = should; section = codes "runtime config-linux.md#memory"; platforms = every; place = under (codes "linux") (under (codes "resources") (under (codes "memory") here)); test = absent (codes "kernel") } ∷
     record { name = codes "memory-kernel-avoided"; level = should; section = codes "runtime config-linux.md#memory"; platforms = every; place = under (codes "linux") (under (codes "resources") (under (codes "memory") here)); test = absent (codes "kernelTCP") } ∷
-    []
-
--- the book of linux resources 2
-abbrev pub linux_resources_2_rules : List Rule
-linux_resources_2_rules =
     record { name = codes "memory-swappiness"; level = stated; section = codes "runtime config-linux.md#memory"; platforms = every; place = under (codes "linux") (under (codes "resources") (under (codes "memory") (under (codes "swappiness") here))); test = within (pos 0) (pos 100) } ∷
     record { name = codes "memory-limit-at-most-swap"; level = host; section = codes "cgroup v1 memory"; platforms = every; place = under (codes "linux") (under (codes "resources") (under (codes "memory") (if_so (asks the_part (codes "swap" ∷ []) true (is_within (pos 0) (pos 9223372036854775807))) here))); test = at_most (codes "limit") (codes "swap") } ∷
     record { name = codes "memory-reservation-at-most-limit"; level = host; section = codes "cgroup v1 memory"; platforms = every; place = under (codes "linux") (under (codes "resources") (under (codes "memory") (if_so (asks the_part (codes "limit" ∷ []) true (is_within (pos 0) (pos 9223372036854775807))) here))); test = at_most (codes "reservation") (codes "limit") } ∷
@@ -146,11 +121,6 @@ linux_resources_2_rules =
     record { name = codes "cpu-idle"; level = stated; section = codes "runtime config-linux.md#cpu"; platforms = every; place = under (codes "linux") (under (codes "resources") (under (codes "cpu") (under (codes "idle") here))); test = within (pos 0) (pos 1) } ∷
     record { name = codes "cpu-period-range"; level = host; section = codes "cgroup v1 cpu"; platforms = every; place = under (codes "linux") (under (codes "resources") (under (codes "cpu") (under (codes "period") here))); test = within (pos 1000) (pos 1000000) } ∷
     record { name = codes "cpu-realtime"; level = host; section = codes "cgroup v1 cpu"; platforms = every; place = under (codes "linux") (under (codes "resources") (under (codes "cpu") here)); test = at_most (codes "realtimeRuntime") (codes "realtimePeriod") } ∷
-    []
-
--- the book of linux resources 3
-abbrev pub linux_resources_3_rules : List Rule
-linux_resources_3_rules =
     record { name = codes "hugepage-there"; level = must; section = codes "runtime config-linux.md#huge-page-limits"; platforms = every; place = under (codes "linux") (under (codes "resources") (under (codes "hugepageLimits") (each_item here))); test = there (codes "pageSize") } ∷
     record { name = codes "hugepage-there"; level = must; section = codes "runtime config-linux.md#huge-page-limits"; platforms = every; place = under (codes "linux") (under (codes "resources") (under (codes "hugepageLimits") (each_item here))); test = there (codes "limit") } ∷
     record { name = codes "hugepage-size"; level = stated; section = codes "runtime config-linux.md#huge-page-limits"; platforms = every; place = under (codes "linux") (under (codes "resources") (under (codes "hugepageLimits") (each_item (under (codes "pageSize") here)))); test = text PageSize } ∷
@@ -178,11 +148,6 @@ linux_block_rules =
     record { name = codes "block-numbers-there"; level = must; section = codes "runtime config-linux.md#block-io"; platforms = every; place = under (codes "linux") (under (codes "resources") (under (codes "blockIO") (under (codes "throttleWriteIOPSDevice") (each_item here)))); test = there (codes "major") } ∷
     record { name = codes "block-numbers-there"; level = must; section = codes "runtime config-linux.md#block-io"; platforms = every; place = under (codes "linux") (under (codes "resources") (under (codes "blockIO") (under (codes "weightDevice") (each_item here)))); test = there (codes "minor") } ∷
     record { name = codes "block-numbers-there"; level = must; section = codes "runtime config-linux.md#block-io"; platforms = every; place = under (codes "linux") (under (codes "resources") (under (codes "blockIO") (under (codes "throttleReadBpsDevice") (each_item here)))); test = there (codes "minor") } ∷
-    []
-
--- the book of linux block 2
-abbrev pub linux_block_2_rules : List Rule
-linux_block_2_rules =
     record { name = codes "block-numbers-there"; level = must; section = codes "runtime config-linux.md#block-io"; platforms = every; place = under (codes "linux") (under (codes "resources") (under (codes "blockIO") (under (codes "throttleWriteBpsDevice") (each_item here)))); test = there (codes "minor") } ∷
     record { name = codes "block-numbers-there"; level = must; section = codes "runtime config-linux.md#block-io"; platforms = every; place = under (codes "linux") (under (codes "resources") (under (codes "blockIO") (under (codes "throttleReadIOPSDevice") (each_item here)))); test = there (codes "minor") } ∷
     record { name = codes "block-numbers-there"; level = must; section = codes "runtime config-linux.md#block-io"; platforms = every; place = under (codes "linux") (under (codes "resources") (under (codes "blockIO") (under (codes "throttleWriteIOPSDevice") (each_item here)))); test = there (codes "minor") } ∷
@@ -209,11 +174,6 @@ linux_seccomp_rules =
     record { name = codes "seccomp-metadata-needs-path"; level = must; section = codes "runtime config-linux.md#seccomp"; platforms = every; place = under (codes "linux") (under (codes "seccomp") (if_so (asks the_part (codes "listenerMetadata" ∷ []) true is_there) here)); test = there (codes "listenerPath") } ∷
     record { name = codes "seccomp-notify-needs-path"; level = host; section = codes "runtime config-linux.md#seccomp"; platforms = every; place = under (codes "linux") (under (codes "seccomp") (if_so (asks the_part (codes "syscalls" ∷ []) true (has_item (codes "action") (codes "SCMP_ACT_NOTIFY" ∷ []) [] [])) here)); test = there (codes "listenerPath") } ∷
     record { name = codes "seccomp-notify-needs-path"; level = host; section = codes "runtime config-linux.md#seccomp"; platforms = every; place = under (codes "linux") (under (codes "seccomp") (if_so (asks the_part (codes "defaultAction" ∷ []) true (is_text (codes "SCMP_ACT_NOTIFY" ∷ []))) here)); test = there (codes "listenerPath") } ∷
-    []
-
--- the book of linux seccomp 2
-abbrev pub linux_seccomp_2_rules : List Rule
-linux_seccomp_2_rules =
     record { name = codes "seccomp-listener-absolute"; level = host; section = codes "common practice"; platforms = every; place = under (codes "linux") (under (codes "seccomp") (under (codes "listenerPath") here)); test = text AbsolutePath } ∷
     record { name = codes "seccomp-notify-default"; level = host; section = codes "common practice"; platforms = every; place = under (codes "linux") (under (codes "seccomp") (under (codes "defaultAction") here)); test = none_of (codes "SCMP_ACT_NOTIFY" ∷ []) } ∷
     record { name = codes "seccomp-notify-write"; level = host; section = codes "common practice"; platforms = every; place = under (codes "linux") (under (codes "seccomp") (under (codes "syscalls") (each_item (if_so (asks the_part (codes "action" ∷ []) true (is_text (codes "SCMP_ACT_NOTIFY" ∷ []))) (under (codes "names") (each_item here)))))); test = none_of (codes "write" ∷ []) } ∷
@@ -228,10 +188,10 @@ linux_seccomp_2_rules =
 -- the book of linux sysctl
 abbrev pub linux_sysctl_rules : List Rule
 linux_sysctl_rules =
-    record { name = codes "sysctl-network"; level = host; section = codes "runtime config-linux.md#sysctl"; platforms = every; place = under (codes "linux") (under (codes "sysctl") (if_so (asks the_document (codes "linux" ∷ codes "namespaces" ∷ []) false (has_item (codes "type") (codes "network" ∷ []) [] (codes "path" ∷ []))) (each_name here))); test = reserved (codes "net.") [] } ∷
-    record { name = codes "sysctl-network"; level = host; section = codes "runtime config-linux.md#sysctl"; platforms = every; place = under (codes "linux") (under (codes "sysctl") (if_so (asks the_document (codes "linux" ∷ codes "namespaces" ∷ []) false (has_item (codes "type") (codes "network" ∷ []) [] (codes "path" ∷ []))) (each_name here))); test = reserved (codes "net/") [] } ∷
-    record { name = codes "sysctl-ipc"; level = host; section = codes "runtime config-linux.md#sysctl"; platforms = every; place = under (codes "linux") (under (codes "sysctl") (if_so (asks the_document (codes "linux" ∷ codes "namespaces" ∷ []) false (has_item (codes "type") (codes "ipc" ∷ []) [] (codes "path" ∷ []))) (each_name here))); test = reserved (codes "fs.mqueue.") [] } ∷
-    record { name = codes "sysctl-ipc"; level = host; section = codes "runtime config-linux.md#sysctl"; platforms = every; place = under (codes "linux") (under (codes "sysctl") (if_so (asks the_document (codes "linux" ∷ codes "namespaces" ∷ []) false (has_item (codes "type") (codes "ipc" ∷ []) [] (codes "path" ∷ []))) (each_name here))); test = none_of ipc_sysctls } ∷
-    record { name = codes "sysctl-domainname"; level = host; section = codes "runtime config-linux.md#sysctl"; platforms = every; place = under (codes "linux") (under (codes "sysctl") (if_so (asks the_document (codes "linux" ∷ codes "namespaces" ∷ []) false (has_item (codes "type") (codes "uts" ∷ []) [] (codes "path" ∷ []))) here)); test = absent (codes "kernel.domainname") } ∷
+    record { name = codes "sysctl-network"; level = host; section = codes "runtime config-linux.md#sysctl"; platforms = every; place = if_so (asks the_document (codes "linux" ∷ codes "namespaces" ∷ []) false (has_item (codes "type") (codes "network" ∷ []) [] (codes "path" ∷ []))) (under (codes "linux") (under (codes "sysctl") (each_name here))); test = reserved (codes "net.") [] } ∷
+    record { name = codes "sysctl-network"; level = host; section = codes "runtime config-linux.md#sysctl"; platforms = every; place = if_so (asks the_document (codes "linux" ∷ codes "namespaces" ∷ []) false (has_item (codes "type") (codes "network" ∷ []) [] (codes "path" ∷ []))) (under (codes "linux") (under (codes "sysctl") (each_name here))); test = reserved (codes "net/") [] } ∷
+    record { name = codes "sysctl-ipc"; level = host; section = codes "runtime config-linux.md#sysctl"; platforms = every; place = if_so (asks the_document (codes "linux" ∷ codes "namespaces" ∷ []) false (has_item (codes "type") (codes "ipc" ∷ []) [] (codes "path" ∷ []))) (under (codes "linux") (under (codes "sysctl") (each_name here))); test = reserved (codes "fs.mqueue.") [] } ∷
+    record { name = codes "sysctl-ipc"; level = host; section = codes "runtime config-linux.md#sysctl"; platforms = every; place = if_so (asks the_document (codes "linux" ∷ codes "namespaces" ∷ []) false (has_item (codes "type") (codes "ipc" ∷ []) [] (codes "path" ∷ []))) (under (codes "linux") (under (codes "sysctl") (each_name here))); test = none_of ipc_sysctls } ∷
+    record { name = codes "sysctl-domainname"; level = host; section = codes "runtime config-linux.md#sysctl"; platforms = every; place = if_so (asks the_document (codes "linux" ∷ codes "namespaces" ∷ []) false (has_item (codes "type") (codes "uts" ∷ []) [] (codes "path" ∷ []))) (under (codes "linux") (under (codes "sysctl") here)); test = absent (codes "kernel.domainname") } ∷
     record { name = codes "sysctl-hostname"; level = host; section = codes "runtime config-linux.md#sysctl"; platforms = every; place = under (codes "linux") (under (codes "sysctl") here); test = absent (codes "kernel.hostname") } ∷
     []

@@ -17,11 +17,6 @@ process_rules =
     record { name = codes "process-env-name"; level = host; section = codes "XBD 8.1"; platforms = every; place = under (codes "process") (under (codes "env") (each_item here)); test = text PortableEntry } ∷
     record { name = codes "process-env-once"; level = host; section = codes "common practice"; platforms = every; place = under (codes "process") (under (codes "env") here); test = distinct entry_name } ∷
     record { name = codes "console-size-there"; level = must; section = codes "runtime config.md#process"; platforms = every; place = under (codes "process") (under (codes "consoleSize") here); test = there (codes "height") } ∷
-    []
-
--- the book of process 2
-abbrev pub process_2_rules : List Rule
-process_2_rules =
     record { name = codes "console-size-there"; level = must; section = codes "runtime config.md#process"; platforms = every; place = under (codes "process") (under (codes "consoleSize") here); test = there (codes "width") } ∷
     record { name = codes "console-size-terminal"; level = host; section = codes "runtime config.md#process"; platforms = every; place = under (codes "process") (if_so (asks the_part (codes "terminal" ∷ []) false (is_truth true)) here); test = absent (codes "consoleSize") } ∷
     record { name = codes "user-ids-there"; level = must; section = codes "runtime config.md#user"; platforms = posix; place = under (codes "process") (under (codes "user") here); test = there (codes "uid") } ∷
@@ -31,11 +26,6 @@ process_2_rules =
     record { name = codes "user-name-windows"; level = stated; section = codes "runtime config.md#user"; platforms = posix; place = under (codes "process") (under (codes "user") here); test = absent (codes "username") } ∷
     record { name = codes "rlimit-limits-there"; level = must; section = codes "runtime config.md#posix-process"; platforms = every; place = under (codes "process") (under (codes "rlimits") (each_item here)); test = there (codes "soft") } ∷
     record { name = codes "rlimit-limits-there"; level = must; section = codes "runtime config.md#posix-process"; platforms = every; place = under (codes "process") (under (codes "rlimits") (each_item here)); test = there (codes "hard") } ∷
-    []
-
--- the book of process 3
-abbrev pub process_3_rules : List Rule
-process_3_rules =
     record { name = codes "rlimit-once"; level = must; section = codes "runtime config.md#posix-process"; platforms = every; place = under (codes "process") (under (codes "rlimits") here); test = distinct (members ((codes "type" ∷ []) ∷ [])) } ∷
     record { name = codes "rlimit-soft-at-most-hard"; level = host; section = codes "getrlimit(2)"; platforms = every; place = under (codes "process") (under (codes "rlimits") (each_item here)); test = at_most (codes "soft") (codes "hard") } ∷
     record { name = codes "rlimit-type-solaris"; level = must; section = codes "runtime config.md#posix-process"; platforms = solaris ∷ []; place = under (codes "process") (under (codes "rlimits") (each_item (under (codes "type") here))); test = one_of posix_rlimits } ∷
@@ -62,11 +52,6 @@ process_capabilities_rules =
     record { name = codes "capability-spelling"; level = stated; section = codes "runtime config.md#linux-process"; platforms = every; place = under (codes "process") (under (codes "capabilities") (under (codes "ambient") (each_item here))); test = one_of capabilities } ∷
     record { name = codes "capability-once"; level = host; section = codes "common practice"; platforms = every; place = under (codes "process") (under (codes "capabilities") (under (codes "bounding") here)); test = distinct itself } ∷
     record { name = codes "capability-once"; level = host; section = codes "common practice"; platforms = every; place = under (codes "process") (under (codes "capabilities") (under (codes "effective") here)); test = distinct itself } ∷
-    []
-
--- the book of process capabilities 2
-abbrev pub process_capabilities_2_rules : List Rule
-process_capabilities_2_rules =
     record { name = codes "capability-once"; level = host; section = codes "common practice"; platforms = every; place = under (codes "process") (under (codes "capabilities") (under (codes "inheritable") here)); test = distinct itself } ∷
     record { name = codes "capability-once"; level = host; section = codes "common practice"; platforms = every; place = under (codes "process") (under (codes "capabilities") (under (codes "permitted") here)); test = distinct itself } ∷
     record { name = codes "capability-once"; level = host; section = codes "common practice"; platforms = every; place = under (codes "process") (under (codes "capabilities") (under (codes "ambient") here)); test = distinct itself } ∷

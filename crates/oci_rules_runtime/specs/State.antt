@@ -31,16 +31,13 @@ state_rules =
 -- the book of process state
 abbrev pub process_state_rules : List Rule
 process_state_rules =
-    record { name = codes "process-state-members-there"; level = must; section = codes "runtime config-linux.md#the-container-process-state"; platforms = every; place = here; test = there (codes "ociVersion") } ∷
+    (record { name = codes "process-state-members-there"; level = must; section = codes "runtime config-linux.md#the-container-process-state"; platforms = every; place = here; test = there (codes "ociVersion") } ∷
     record { name = codes "process-state-members-there"; level = must; section = codes "runtime config-linux.md#the-container-process-state"; platforms = every; place = here; test = there (codes "pid") } ∷
     record { name = codes "process-state-members-there"; level = must; section = codes "runtime config-linux.md#the-container-process-state"; platforms = every; place = here; test = there (codes "state") } ∷
     record { name = codes "process-state-version"; level = stated; section = codes "runtime config-linux.md#the-container-process-state"; platforms = every; place = under (codes "ociVersion") here; test = text SemVer } ∷
     record { name = codes "process-state-fds-once"; level = host; section = codes "common practice"; platforms = every; place = under (codes "fds") here; test = distinct itself } ∷
     record { name = codes "process-state-seccomp-fd"; level = must; section = codes "runtime config-linux.md#seccomp"; platforms = every; place = here; test = there (codes "fds") } ∷
     record { name = codes "process-state-seccomp-fd"; level = must; section = codes "runtime config-linux.md#seccomp"; platforms = every; place = under (codes "fds") here; test = lists (codes "seccompFd" ∷ []) } ∷
-    []
-
--- the book of process state 2
-abbrev pub process_state_2_rules : List Rule
-process_state_2_rules =
+    [])
+    ++
     map (beneath (λ p. under (codes "state") p)) any_state_rules

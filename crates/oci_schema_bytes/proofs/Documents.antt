@@ -1,6 +1,7 @@
 -- What bytes mean by a schema, of which it was found out what they are read as.
 use Rattle.std.proofs.Common.{◌≡◌, ℕ, List, [], true, true≢false, Option, Some, None, Result, Ok, Err, sym, ap, ◌∙◌, subst}
-use Rattle.std.specs.Prelude.{◌↔◌, IsUtf8, is_some, IfSome, IfErr}
+use Rattle.std.specs.Prelude.{◌↔◌, IsUtf8, is_some, IfSome, IfErr, Vec}
+use Rattle.std.specs.declared.alloc.Global.{Global}
 use Rattle.json.specs.Token.{Token}
 use Rattle.serde_json.specs.Data.{Data}
 use Rattle.serde_json.specs.Read.{read}
@@ -16,12 +17,16 @@ use Rattle.oci_json_model.specs.Value.{value}
 use Rattle.oci_json_model.specs.WellFormed.{WellFormed}
 use Rattle.oci_json_model.specs.Writable.{Writable}
 use Rattle.oci_json_io.specs.Engines.{ReadsAs, MeansBytes}
+use Rattle.oci_json.specs.Readable.{IsReadable}
 use Rattle.oci_json.proofs.OneMeaning.{one_meaning}
+use Rattle.oci_json.proofs.ReadAgain.{compact_read}
+use Rattle.oci_json_model.proofs.NoFloat.{none_written}
 use Rattle.oci_schema_walks.specs.Normalized.{accepts, normalized}
 use Rattle.oci_schema_walks.specs.Violations.{violations}
 use Rattle.oci_schema_walks.proofs.Empty.{none_is_meant}
 use Rattle.oci_schema_walks.proofs.Accepted.{sound, accepted}
 use Rattle.oci_schema_walks.proofs.NormalForms.{told}
+use Rattle.oci_schema_bytes.specs.Texts.{IsNormalText, IsDocumentText, MakesText}
 
 -- bytes are read as one value
 one_value : (bytes : List ℕ) (d e : Data) → ReadsAs bytes d → ReadsAs bytes e → d ≡ e
@@ -33,6 +38,12 @@ pub accepted_document : (s : Shape) (bytes : List ℕ) (d : Data) → WellFormed
 accepted_document s bytes d well read h =
     let m = accepted s (sound s well) d h in
     (m.0, (d, read, m.1), m.2, (told s d m.0 m.1 m.2).1)
+
+-- the text of its normal form is that of the document, and is read as its value again
+pub document_text : (s : Shape) (bytes : List ℕ) (d : Data) (text : List ℕ) → WellFormed s → ReadsAs bytes d → IsNormalText s d text → IsDocumentText s (Some bytes) text
+document_text s bytes d text well read (accepts_it, is, readable) =
+    let m = accepted_document s bytes d well read accepts_it in
+    (m.0, m.1, is ∙ ap compact_text m.3, λ shallow. compact_read (value s m.0) (subst IsReadable m.3 readable) shallow (none_written s m.0 m.2))
 
 -- whatever the same bytes mean is written as one text
 pub same_text : (s : Shape) (bytes : List ℕ) (p q : Plain) → MeansBytes s bytes p → MeansBytes s bytes q → compact_text (value s p) ≡ compact_text (value s q)
@@ -50,27 +61,30 @@ valid_bytes s bytes d P read told = (
 -- ---- what was written for a tape, for a text and for bytes
 
 module _ {A : Type 0} (items : A → List ℕ) (s : Shape) where
-  abbrev pub IsNormalText : A → Data → Type 0
-  IsNormalText w d = items w ≡ compact_text (normalized s d)
-
   pub written_of_tape : (text : List ℕ) (ts : List Token) (o : Option A) → (d : Data) × (read text ≡ Some d) × BeginsWithData ts d
-      → IfSome o (λ w. (d : Data) → BeginsWithData ts d → (accepts s d ≡ true) × IsNormalText w d) → IfSome o (λ w. (d : Data) × (read text ≡ Some d) × (accepts s d ≡ true) × IsNormalText w d)
+      → IfSome o (λ w. (d : Data) → BeginsWithData ts d → IsNormalText s d (items w)) → IfSome o (λ w. (d : Data) × (read text ≡ Some d) × IsNormalText s d (items w))
   written_of_tape text ts None m h = tt
-  written_of_tape text ts (Some w) m h = let k = h m.0 m.2 in (m.0, m.1, k.0, k.1)
+  written_of_tape text ts (Some w) m h = (m.0, m.1, h m.0 m.2)
 
   pub written_of_text : (bytes text : List ℕ) (o : Option A) → (text ≡ bytes) × IsUtf8 bytes
-      → IfSome o (λ w. (d : Data) × (read text ≡ Some d) × (accepts s d ≡ true) × IsNormalText w d) → IfSome o (λ w. (d : Data) × ReadsAs bytes d × (accepts s d ≡ true) × IsNormalText w d)
+      → IfSome o (λ w. (d : Data) × (read text ≡ Some d) × IsNormalText s d (items w)) → IfSome o (λ w. (d : Data) × ReadsAs bytes d × IsNormalText s d (items w))
   written_of_text bytes text None u h = tt
-  written_of_text bytes text (Some w) u h = (h.0, (u.1, subst (λ t. read t ≡ Some h.0) u.0 h.1), h.2, h.3)
+  written_of_text bytes text (Some w) u h = (h.0, (u.1, subst (λ t. read t ≡ Some h.0) u.0 h.1), h.2)
 
-  pub of_some : (bytes : List ℕ) (o : Option A) → IfSome o (λ w. (d : Data) × ReadsAs bytes d × (accepts s d ≡ true) × IsNormalText w d) → is_some o ≡ true
+  pub of_some : (bytes : List ℕ) (o : Option A) → IfSome o (λ w. (d : Data) × ReadsAs bytes d × IsNormalText s d (items w)) → is_some o ≡ true
       → (d : Data) × ReadsAs bytes d × (accepts s d ≡ true)
   of_some bytes None h e = absurd (true≢false (sym e))
-  of_some bytes (Some w) h e = (h.0, h.1, h.2)
+  of_some bytes (Some w) h e = (h.0, h.1, h.2.0)
 
 -- what is accepted has no violations
 pub none_listed : (s : Shape) (d : Data) → WellFormed s → accepts s d ≡ true → violations s [] d ≡ []
 none_listed s d well h = let m = accepted s (sound s well) d h in (none_is_meant s [] d).1 (m.0, m.1)
+
+-- what was made of the bytes that were read was made of the input, where that is known
+pub where_known : (s : Shape) (input : Option (List ℕ)) (bytes : List ℕ) (r : Result (Vec ℕ Global) OciSpecError) → IfSome input (λ all. bytes ≡ all) → MakesText s (Some bytes) r → MakesText s input r
+where_known s None bytes (Ok text) is made = record { ok = (made.ok.0, tt, made.ok.2, made.ok.3); json = tt; schema = tt }
+where_known s None bytes (Err e) is made = record { ok = tt; json = λ h. tt; schema = λ h. tt }
+where_known s (Some all) bytes r is made = subst (λ b. MakesText s (Some b) r) is made
 
 -- ---- where memory was wanted
 

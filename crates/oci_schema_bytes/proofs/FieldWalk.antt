@@ -1,21 +1,24 @@
 -- The fields of a record as they are found, member by member, and as they are written.
-use Rattle.std.proofs.Common.{◌≡◌, ℕ, ◌+◌, ◌<◌, List, length, drop, slice_index_or, [], ◌∷◌, ◌++◌, Bool, true, Some, None, Result, Ok, Err, refl, sym, ap, ◌∙◌, subst, append_assoc}
+use Rattle.std.proofs.Common.{◌≡◌, ℕ, ◌+◌, ◌<◌, List, length, drop, slice_index_or, [], ◌∷◌, ◌++◌, Bool, true, Option, Some, None, Result, Ok, Err, refl, sym, ap, ◌∙◌, subst, append_assoc}
 use Rattle.std.specs.Prelude.{MatchOption, ⊤}
 use Rattle.json.specs.Token.{Token, begin_object, end_object, key}
 use Rattle.json.specs.Tree.{json_tokens, members_tokens}
 use Rattle.serde_json.specs.Data.{Data, Members, no_members, member}
+use Rattle.serde_json.specs.Find.{get}
 use Rattle.serde_json.specs.Written.{outline, members_outline}
-use Rattle.oci_json_model.specs.Shape.{Shape, Rows, rows}
-use Rattle.oci_json_model.specs.Value.{with_member}
-use Rattle.oci_json_model.specs.Means.{is_object}
+use Rattle.oci_json.specs.Readable.{IsInOrder, HoldReadable}
+use Rattle.oci_json.proofs.Trees.{put_in_order}
+use Rattle.oci_json_model.specs.Shape.{Shape, Rows, no_rows, row, rows}
+use Rattle.oci_json_model.specs.Value.{value, with_member}
+use Rattle.oci_json_model.specs.Means.{is_object, get_second}
 use Rattle.oci_json_tape.specs.Elements.{BeginsWithData}
 use Rattle.oci_schema_types.specs.Shapes.{members_in, schema_shape}
 use Rattle.oci_schema_types.specs.declared.record.Member.{Member}
-use Rattle.oci_schema_walks.specs.Normalized.{accepts, rows_accept, normalized, normalized_rows, known_accepted, known_normalized}
+use Rattle.oci_schema_walks.specs.Normalized.{accepts, rows_accept, normalized, normalized_member, normalized_rows, chosen, known_accepted, known_normalized}
 use Rattle.oci_schema_walks.proofs.Decides.{both}
 use Rattle.oci_schema_walks.proofs.Listed.{drop_at}
 use Rattle.oci_schema_bytes.specs.Fields.{written_for, FieldMeans, EachField, FieldIsAccepted, AreAccepted, AreFieldsOf}
-use Rattle.oci_schema_bytes.specs.Walks.{IfDone, WritesNormal}
+use Rattle.oci_schema_bytes.specs.Walks.{IfDone, WritesTree, WritesMembers, WritesNormal}
 use Rattle.oci_schema_bytes.specs.declared.fields.Field.{Field}
 
 -- with the rows that are left the fields are those of the object
@@ -50,46 +53,61 @@ module _ (f : ℕ → Shape) (d : Data) (all : Rows) where
 abbrev pub member_tokens : Members → List Token
 member_tokens ms = members_tokens (members_outline ms)
 
--- with the fields that are left the members are written
+-- with the fields that are left the members are written, which are readable if those left are
 abbrev pub FieldsLeft : (ℕ → Shape) → List Field → List Field → List Token → List Token → Type 0
 FieldsLeft f all rest old now =
     (ms : Members) → EachField f all ms → (left : Members) × EachField f rest left × (now ++ member_tokens left ≡ old ++ begin_object ∷ member_tokens ms)
+    × (HoldReadable left → HoldReadable ms)
 
 module _ (f : ℕ → Shape) (all : List Field) (old : List Token) where
   pub left_begin : (now : List Token) → now ≡ old ++ begin_object ∷ [] → FieldsLeft f all all old now
-  left_begin now wrote ms each = (ms, each, ap (λ t. t ++ member_tokens ms) wrote ∙ append_assoc old (begin_object ∷ []) (member_tokens ms))
+  left_begin now wrote ms each = (ms, each, ap (λ t. t ++ member_tokens ms) wrote ∙ append_assoc old (begin_object ∷ []) (member_tokens ms), λ h. h)
 
   pub left_step : (e : Field) (rest : List Field) (now mid next : List Token) → mid ≡ now ++ key e.member.now.name.now ∷ []
-      → ((n : Data) → FieldMeans f e n → next ≡ mid ++ json_tokens (outline n)) → FieldsLeft f all (e ∷ rest) old now → FieldsLeft f all rest old next
+      → ((n : Data) → FieldMeans f e n → WritesTree n mid next) → FieldsLeft f all (e ∷ rest) old now → FieldsLeft f all rest old next
   left_step e rest now mid next named wrote left ms each = here (left ms each)
     where
-      here : (ls : Members) × EachField f (e ∷ rest) ls × (now ++ member_tokens ls ≡ old ++ begin_object ∷ member_tokens ms)
-          → (ls : Members) × EachField f rest ls × (next ++ member_tokens ls ≡ old ++ begin_object ∷ member_tokens ms)
-      here (no_members, h, whole) = absurd h
-      here (member k n ls, h, whole) =
+      here : (ls : Members) × EachField f (e ∷ rest) ls × (now ++ member_tokens ls ≡ old ++ begin_object ∷ member_tokens ms) × (HoldReadable ls → HoldReadable ms)
+          → (ls : Members) × EachField f rest ls × (next ++ member_tokens ls ≡ old ++ begin_object ∷ member_tokens ms) × (HoldReadable ls → HoldReadable ms)
+      here (no_members, h, whole, readable) = absurd h
+      here (member k n ls, h, whole, readable) =
+          let w = wrote n h.1 in
           let name = e.member.now.name.now in
           let t = json_tokens (outline n) in
           let r = member_tokens ls in (
             ls,
             h.2,
-            ap (λ x. x ++ r) (wrote n h.1 ∙ ap (λ x. x ++ t) named) ∙ append_assoc (now ++ key name ∷ []) t r ∙ append_assoc now (key name ∷ []) (t ++ r)
+            ap (λ x. x ++ r) (w.0 ∙ ap (λ x. x ++ t) named) ∙ append_assoc (now ++ key name ∷ []) t r ∙ append_assoc now (key name ∷ []) (t ++ r)
                 ∙ ap (λ x. now ++ key x ∷ (t ++ r)) h.0 ∙ whole,
+            λ left_readable. readable (w.1, left_readable),
           )
 
-  pub left_end : (now next : List Token) → next ≡ now ++ end_object ∷ [] → FieldsLeft f all [] old now → (ms : Members) → EachField f all ms → next ≡ old ++ begin_object ∷ member_tokens ms
+  pub left_end : (now next : List Token) → next ≡ now ++ end_object ∷ [] → FieldsLeft f all [] old now → (ms : Members) → EachField f all ms → WritesMembers ms old next
   left_end now next wrote left ms each = here (left ms each)
     where
-      here : (ls : Members) × EachField f [] ls × (now ++ member_tokens ls ≡ old ++ begin_object ∷ member_tokens ms) → next ≡ old ++ begin_object ∷ member_tokens ms
-      here (no_members, h, whole) = wrote ∙ whole
-      here (member k n ls, h, whole) = absurd h
+      here : (ls : Members) × EachField f [] ls × (now ++ member_tokens ls ≡ old ++ begin_object ∷ member_tokens ms) × (HoldReadable ls → HoldReadable ms) → WritesMembers ms old next
+      here (no_members, h, whole, readable) = (wrote ∙ whole, readable tt)
+      here (member k n ls, h, whole, readable) = absurd h
+
+-- the members of a normal form are in order
+member_in_order : (name : List ℕ) (o : Option Data) (ms : Members) → IsInOrder ms → IsInOrder (with_member name o ms)
+member_in_order name None ms h = h
+member_in_order name (Some n) ms h = put_in_order name n ms h
+
+rows_in_order : (rs : Rows) (d : Data) (ms : Members) → IsInOrder ms → IsInOrder (normalized_rows rs d ms)
+rows_in_order no_rows d ms h = h
+rows_in_order (row name alias presence s rs) d ms h =
+    let o = normalized_member presence (value s) (normalized s) (chosen (get name d) (get_second alias d)) in
+    rows_in_order rs d (with_member name o ms) (member_in_order name o ms h)
 
 -- the record is accepted, and its normal form is that of its fields
 pub record_written : (f : ℕ → Shape) (s : Shape) (rs : Rows) (d : Data) (es : List Field) (old next : List Token) → s ≡ rows rs → is_object d ≡ true → AreFieldsOf f rs d es → AreAccepted f es
-    → ((ms : Members) → EachField f es ms → next ≡ old ++ begin_object ∷ member_tokens ms)
-    → (accepts s d ≡ true) × (next ≡ old ++ json_tokens (outline (normalized s d)))
+    → ((ms : Members) → EachField f es ms → WritesMembers ms old next)
+    → (accepts s d ≡ true) × WritesTree (normalized s d) old next
 record_written f s rs d es old next is object_is fields accepted wrote =
-    subst (λ x. (accepts x d ≡ true) × (next ≡ old ++ json_tokens (outline (normalized x d)))) (sym is)
-    (both _ _ object_is (fields.1 accepted), wrote (normalized_rows rs d no_members) fields.0)
+    let w = wrote (normalized_rows rs d no_members) fields.0 in
+    subst (λ x. (accepts x d ≡ true) × WritesTree (normalized x d) old next) (sym is)
+    (both _ _ object_is (fields.1 accepted), (w.0, (rows_in_order rs d no_members tt, w.1)))
 
 -- ---- the value of one field
 
@@ -98,11 +116,11 @@ value_accepted f e ts old new is w =
     subst (λ o. MatchOption o ⊤ (λ us. (d : Data) → BeginsWithData us d → accepts (schema_shape f e.member.now.schema) d ≡ true)) (sym is) (λ d b. (w d b).0)
 
 pub value_written : (f : ℕ → Shape) (e : Field) (ts old new : List Token) → e.value ≡ Some ts → WritesNormal (schema_shape f e.member.now.schema) ts old new
-    → (n : Data) → FieldMeans f e n → new ≡ old ++ json_tokens (outline n)
+    → (n : Data) → FieldMeans f e n → WritesTree n old new
 value_written f e ts old new is w n m =
     let s = schema_shape f e.member.now.schema in
     let k = subst (λ o. MatchOption o (written_for f e.member.now None ≡ Some n) (λ us. (d : Data) × BeginsWithData us d × (n ≡ normalized s d))) is m in
-    (w k.0 k.1).1 ∙ ap (λ x. old ++ json_tokens (outline x)) (sym k.2)
+    subst (λ x. WritesTree x old new) (sym k.2) (w k.0 k.1).1
 
 pub none_accepted : (f : ℕ → Shape) (e : Field) → e.value ≡ None → FieldIsAccepted f e
 none_accepted f e is = subst (λ o. MatchOption o ⊤ (λ us. (d : Data) → BeginsWithData us d → accepts (schema_shape f e.member.now.schema) d ≡ true)) (sym is) tt

@@ -1,16 +1,14 @@
 //! What is written for absent members.
-ghost use Rattle.std.specs.Prelude.{◌≡◌, ◌++◌, ℕ, None, Some};
-ghost use Rattle.json.specs.Tree.{json_tokens};
+ghost use Rattle.std.specs.Prelude.{◌≡◌, ℕ, None, Some};
 ghost use Rattle.serde_json.specs.Data.{Data, null, number};
 ghost use Rattle.serde_json.specs.Find.{of_integer};
-ghost use Rattle.serde_json.specs.Written.{outline};
 ghost use Rattle.oci_json_model.specs.Shape.{Shape};
 ghost use Rattle.oci_json_model.specs.Value.{value as json_of};
 ghost use Rattle.oci_schema_types.specs.Shapes.{scalar_shape, schema_shape, default_plain};
 ghost use Rattle.oci_schema_bytes.specs.Fields.{written_for};
-ghost use Rattle.oci_schema_bytes.specs.Walks.{IfDone};
+ghost use Rattle.oci_schema_bytes.specs.Walks.{IfDone, WritesTree};
 
-use crate::scalar::{write_boolean, write_string};
+use crate::scalar::{write_boolean, write_signed, write_string, write_unsigned};
 use oci_json_text::CompactWriter;
 use oci_schema_types::{DefaultValue, Member, Part, Presence, Scalar, Schema};
 use std::alloc::AllocError;
@@ -18,7 +16,7 @@ use std::alloc::AllocError;
 /// Writes what is written for the member where it is absent.
 pub fn write_absent(member: &Member, out: &mut CompactWriter) -> Result<bool, AllocError>
     ensures { IfDone result ((f : ℕ → Shape) (n : Data) → written_for f member.now None ≡ Some n
-        → out.new ≡ out.old ++ json_tokens (outline n)) }
+        → WritesTree n out.old out.new) }
 {
     match member.presence {
         Presence::Nullable => write_null(out),
@@ -34,7 +32,7 @@ pub fn write_absent(member: &Member, out: &mut CompactWriter) -> Result<bool, Al
 }
 
 fn write_null(out: &mut CompactWriter) -> Result<bool, AllocError>
-    ensures { IfDone result (out.new ≡ out.old ++ json_tokens (outline null)) }
+    ensures { IfDone result (WritesTree null out.old out.new) }
 {
     out.null()?;
     Ok(true)
@@ -46,7 +44,7 @@ fn write_default(
     default: &DefaultValue,
     out: &mut CompactWriter,
 ) -> Result<bool, AllocError>
-    ensures { IfDone result (out.new ≡ out.old ++ json_tokens (outline (json_of (scalar_shape scalar.now) (default_plain default.now)))) }
+    ensures { IfDone result (WritesTree (json_of (scalar_shape scalar.now) (default_plain default.now)) out.old out.new) }
 {
     match scalar {
         Scalar::String => match default {
@@ -71,18 +69,12 @@ fn write_default(
 
 /// Writes an integer of 64 bits.
 fn write_integer(integer: i128, out: &mut CompactWriter) -> Result<bool, AllocError>
-    ensures { IfDone result (out.new ≡ out.old ++ json_tokens (outline (number (of_integer integer)))) }
+    ensures { IfDone result (WritesTree (number (of_integer integer)) out.old out.new) }
 {
     match u64::try_from(integer) {
-        Ok(n) => {
-            out.unsigned(n)?;
-            Ok(true)
-        }
+        Ok(n) => write_unsigned(n, out),
         Err(_) => match i64::try_from(integer) {
-            Ok(n) => {
-                out.signed(n)?;
-                Ok(true)
-            }
+            Ok(n) => write_signed(n, out),
             Err(_) => Ok(false),
         },
     }

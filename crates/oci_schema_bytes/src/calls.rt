@@ -10,6 +10,7 @@ ghost use Rattle.oci_json_model.specs.Writable.{Writable};
 ghost use Rattle.oci_json_io.specs.Engines.{MeansBytes, ReadsAs, WritesDocument, IsNotNormalized, IsNoJson};
 ghost use Rattle.oci_schema_types.specs.Shapes.{schema_shape};
 ghost use Rattle.oci_schema_walks.specs.Violations.{reported, violations as all_violations};
+ghost use Rattle.oci_schema_bytes.specs.Texts.{MakesText};
 
 use crate::lane::{Workspace, is_accepted, normal_text};
 use oci_json_io::value_from_slice;
@@ -39,14 +40,15 @@ pub fn normalize_bytes<T: Records>(
     ensures unchanged { OnErr result (out.new.items ≡ out.old.items) }
     ensures kind { IfErr result IsMemoryOrSerDe }
 {
-    match normal_text(records, schema, alloc, bytes, workspace) {
+    let found = normal_text(records, schema, alloc, bytes, workspace)?;
+    match found {
         Some(text) => append(text.as_slice(), out),
         None => normalize_by_value(records, schema, alloc, bytes, out),
     }
 }
 
 /// Appends the bytes.
-fn append(bytes: &[u8], out: &mut Vec<u8>) -> Result<()>
+pub fn append(bytes: &[u8], out: &mut Vec<u8>) -> Result<()>
     ensures ok { OnOk result (out.new.items ≡ out.old.items ++ bytes.now) }
     ensures err { OnErr result (out.new.items ≡ out.old.items) }
     ensures kind { IfErr result IsMemory }
@@ -72,13 +74,28 @@ fn normalize_by_value<T: Records>(
     ensures unchanged { OnErr result (out.new.items ≡ out.old.items) }
     ensures kind { IfErr result IsMemoryOrSerDe }
 {
+    let text = text_by_value(records, schema, alloc, bytes)?;
+    append(text.as_slice(), out)
+}
+
+/// Reads a document from bytes and returns the text of its normal form, by a value.
+pub fn text_by_value<T: Records>(
+    records: &T,
+    schema: &Schema,
+    alloc: Global,
+    bytes: &[u8],
+) -> Result<Vec<u8>>
+    requires { WellFormed (schema_shape (T.shape_at records.now) schema.now) }
+    ensures makes { MakesText (schema_shape (T.shape_at records.now) schema.now) (Some bytes.now) result }
+    ensures kind { IfErr result IsMemoryOrSerDe }
+{
     let normal = normal_value_of(records, schema, alloc, bytes)?;
     let text = normal.to_string(alloc)?;
-    append(text.as_bytes(), out)
+    Ok(text.into_bytes())
 }
 
 /// Reads a document from bytes and returns its normal form as a value.
-fn normal_value_of<T: Records>(
+pub fn normal_value_of<T: Records>(
     records: &T,
     schema: &Schema,
     alloc: Global,
@@ -110,7 +127,8 @@ pub fn is_valid_bytes<T: Records>(
     ensures no_schema { IfErr result (λ e. ¬ IsSchema e) }
     ensures kind { IfErr result IsMemoryOrSerDe }
 {
-    if is_accepted(records, schema, alloc, bytes, workspace) {
+    let accepted = is_accepted(records, schema, alloc, bytes, workspace)?;
+    if accepted {
         return Ok(true);
     }
     is_valid_by_value(records, schema, alloc, bytes)
@@ -148,7 +166,8 @@ pub fn violations_in_bytes<T: Records>(
     ensures no_schema { IfErr result (λ e. ¬ IsSchema e) }
     ensures kind { IfErr result IsMemoryOrSerDe }
 {
-    if is_accepted(records, schema, alloc, bytes, workspace) {
+    let accepted = is_accepted(records, schema, alloc, bytes, workspace)?;
+    if accepted {
         return Ok(Vec::new(alloc));
     }
     violations_by_value(records, schema, alloc, bytes)

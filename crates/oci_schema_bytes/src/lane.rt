@@ -2,14 +2,14 @@
 ghost use Rattle.std.specs.Prelude.{◌≡◌, true, Some, IfOk, IfSome, IsTrue};
 ghost use Rattle.serde_json.specs.Data.{Data};
 ghost use Rattle.serde_json.specs.Read.{read};
-ghost use Rattle.serde_json.specs.Written.{compact_text};
 ghost use Rattle.oci_json_tape.specs.Elements.{BeginsWithData};
 ghost use Rattle.oci_json_io.specs.Engines.{ReadsAs};
 ghost use Rattle.oci_schema_types.specs.Shapes.{schema_shape};
-ghost use Rattle.oci_schema_walks.specs.Normalized.{accepts, normalized};
+ghost use Rattle.oci_schema_walks.specs.Normalized.{accepts};
+ghost use Rattle.oci_schema_bytes.specs.Texts.{IsNormalText};
 
 use crate::walk::write_value;
-use json::{Scratch, Tape};
+use json::{Error, Scratch, Tape};
 use oci_json_tape::open;
 use oci_json_text::CompactWriter;
 use oci_schema_types::{Records, Schema};
@@ -33,34 +33,35 @@ impl Workspace {
     }
 }
 
-/// The normal form of a document as compact text; `None` if that was not found out, or if out of memory.
+/// The normal form of a document as compact text; `None` if that was not found out. Fails if out of memory.
 pub fn normal_text<T: Records>(
     records: &T,
     schema: &Schema,
     alloc: Global,
     bytes: &[u8],
     workspace: &mut Workspace,
-) -> Option<Vec<u8>>
-    ensures { IfSome result (λ text. (d : Data) × ReadsAs bytes.now d × (accepts (schema_shape (T.shape_at records.now) schema.now) d ≡ true)
-        × (text.items ≡ compact_text (normalized (schema_shape (T.shape_at records.now) schema.now) d))) }
+) -> Result<Option<Vec<u8>>, AllocError>
+    ensures { IfOk result (λ o. IfSome o (λ text. (d : Data) × ReadsAs bytes.now d
+        × IsNormalText (schema_shape (T.shape_at records.now) schema.now) d text.items)) }
 {
     match simdutf8::compat::from_utf8(bytes) {
         Ok(text) => normal_text_of(records, schema, alloc, text, &mut workspace.scratch),
-        Err(_) => None,
+        Err(_) => Ok(None),
     }
 }
 
-/// Whether the bytes are a document that has a normal form; `false` if that was not found out.
+/// Whether the bytes are a document that has a normal form; `false` if that was not found out. Fails if out of memory.
 pub fn is_accepted<T: Records>(
     records: &T,
     schema: &Schema,
     alloc: Global,
     bytes: &[u8],
     workspace: &mut Workspace,
-) -> bool
-    ensures { IsTrue result → (d : Data) × ReadsAs bytes.now d × (accepts (schema_shape (T.shape_at records.now) schema.now) d ≡ true) }
+) -> Result<bool, AllocError>
+    ensures { IfOk result (λ b. IsTrue b → (d : Data) × ReadsAs bytes.now d × (accepts (schema_shape (T.shape_at records.now) schema.now) d ≡ true)) }
 {
-    normal_text(records, schema, alloc, bytes, workspace).is_some()
+    let text = normal_text(records, schema, alloc, bytes, workspace)?;
+    Ok(text.is_some())
 }
 
 /// The same of a text.
@@ -70,19 +71,17 @@ fn normal_text_of<T: Records>(
     alloc: Global,
     text: &str,
     scratch: &mut Scratch,
-) -> Option<Vec<u8>>
-    ensures { IfSome result (λ written. (d : Data) × (read text.now ≡ Some d) × (accepts (schema_shape (T.shape_at records.now) schema.now) d ≡ true)
-        × (written.items ≡ compact_text (normalized (schema_shape (T.shape_at records.now) schema.now) d))) }
+) -> Result<Option<Vec<u8>>, AllocError>
+    ensures { IfOk result (λ o. IfSome o (λ written. (d : Data) × (read text.now ≡ Some d)
+        × IsNormalText (schema_shape (T.shape_at records.now) schema.now) d written.items)) }
 {
     match open(alloc, text, scratch) {
         Ok(found) => match found {
-            Some(tape) => match write_tape(records, schema, alloc, &tape, text.len()) {
-                Ok(written) => written,
-                Err(_) => None,
-            },
-            None => None,
+            Some(tape) => write_tape(records, schema, alloc, &tape, text.len()),
+            None => Ok(None),
         },
-        Err(_) => None,
+        Err(Error::OutOfMemory) => Err(AllocError),
+        Err(_) => Ok(None),
     }
 }
 
@@ -94,8 +93,8 @@ fn write_tape<T: Records>(
     tape: &Tape<'_>,
     capacity: usize,
 ) -> Result<Option<Vec<u8>>, AllocError>
-    ensures { IfOk result (λ o. IfSome o (λ written. (d : Data) → BeginsWithData tape.now d → (accepts (schema_shape (T.shape_at records.now) schema.now) d ≡ true)
-        × (written.items ≡ compact_text (normalized (schema_shape (T.shape_at records.now) schema.now) d)))) }
+    ensures { IfOk result (λ o. IfSome o (λ written. (d : Data) → BeginsWithData tape.now d
+        → IsNormalText (schema_shape (T.shape_at records.now) schema.now) d written.items)) }
 {
     let mut out = CompactWriter::with_capacity(alloc, capacity)?;
     let done = write_value(records, schema, &tape.root(), DEPTH, alloc, &mut out)?;

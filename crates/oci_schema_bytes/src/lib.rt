@@ -3,12 +3,17 @@
 #![tactic(auto)]
 
 mod absent;
+mod by_value;
 mod calls;
 mod fields;
 mod lane;
 pub mod laws;
+mod pretty;
 mod scalar;
+mod streams;
 mod walk;
 
 pub use calls::{is_valid_bytes, normalize_bytes, violations_in_bytes};
 pub use lane::Workspace;
+pub use pretty::normalize_pretty_bytes;
+pub use streams::normalize;

@@ -1,14 +1,13 @@
 //! Scalars.
-ghost use Rattle.std.specs.Prelude.{◌≡◌, ◌++◌, Some, IsTrue};
-ghost use Rattle.json.specs.Tree.{json_tokens};
-ghost use Rattle.serde_json.specs.Data.{string, boolean as boolean_data};
-ghost use Rattle.serde_json.specs.Written.{outline};
+ghost use Rattle.std.specs.Prelude.{◌≡◌, Some, IsTrue};
+ghost use Rattle.serde_json.specs.Data.{string, boolean as boolean_data, number as number_data, unsigned as unsigned_number};
+ghost use Rattle.serde_json.specs.Find.{of_integer};
 ghost use Rattle.oci_text_base.specs.Names.{is_listed};
 ghost use Rattle.oci_process_names.specs.CpuScan.{is_cpu_text};
 ghost use Rattle.oci_schema_types.specs.Shapes.{scalar_shape, names_of};
 ghost use Rattle.oci_schema_walks.specs.Allows.{is_digest_text, is_in_range};
 ghost use Rattle.oci_json_tape.specs.Numbers.{num_of};
-ghost use Rattle.oci_schema_bytes.specs.Walks.{IfDone, WritesNormal, IsTextOf, WritesWhole};
+ghost use Rattle.oci_schema_bytes.specs.Walks.{IfDone, WritesTree, WritesNormal, IsTextOf, WritesWhole};
 
 use json::Element;
 use oci_json_tape::{Number, boolean, number, text};
@@ -49,7 +48,7 @@ pub fn write_scalar(
 
 /// Writes a string.
 pub fn write_string(text: &str, out: &mut CompactWriter) -> Result<bool, AllocError>
-    ensures { IfDone result (out.new ≡ out.old ++ json_tokens (outline (string text.now))) }
+    ensures { IfDone result (WritesTree (string text.now) out.old out.new) }
 {
     out.string(text)?;
     Ok(true)
@@ -57,9 +56,25 @@ pub fn write_string(text: &str, out: &mut CompactWriter) -> Result<bool, AllocEr
 
 /// Writes a boolean.
 pub fn write_boolean(truth: bool, out: &mut CompactWriter) -> Result<bool, AllocError>
-    ensures { IfDone result (out.new ≡ out.old ++ json_tokens (outline (boolean_data truth))) }
+    ensures { IfDone result (WritesTree (boolean_data truth) out.old out.new) }
 {
     out.boolean(truth)?;
+    Ok(true)
+}
+
+/// Writes an unsigned integer.
+pub fn write_unsigned(integer: u64, out: &mut CompactWriter) -> Result<bool, AllocError>
+    ensures { IfDone result (WritesTree (number_data (unsigned_number integer)) out.old out.new) }
+{
+    out.unsigned(integer)?;
+    Ok(true)
+}
+
+/// Writes a signed integer.
+pub fn write_signed(integer: i64, out: &mut CompactWriter) -> Result<bool, AllocError>
+    ensures { IfDone result (WritesTree (number_data (of_integer integer)) out.old out.new) }
+{
+    out.signed(integer)?;
     Ok(true)
 }
 
@@ -93,15 +108,13 @@ fn write_number(
             if !is_within(low, high, n as i128) {
                 return Ok(false);
             }
-            out.unsigned(n)?;
-            Ok(true)
+            write_unsigned(n, out)
         }
         Number::Negative(n) => {
             if !is_within(low, high, n as i128) {
                 return Ok(false);
             }
-            out.signed(n)?;
-            Ok(true)
+            write_signed(n, out)
         }
         Number::Float(_) => Ok(false),
     }

@@ -1,17 +1,15 @@
 //! The walk over a tape by a schema, which writes the normal form of what it finds.
-ghost use Rattle.std.specs.Prelude.{◌≡◌, ◌∷◌, ◌++◌, IsTrue};
-ghost use Rattle.json.specs.Token.{begin_object};
-ghost use Rattle.json.specs.Tree.{json_tokens, members_tokens};
+ghost use Rattle.std.specs.Prelude.{◌≡◌, IsTrue};
 ghost use Rattle.serde_json.specs.Data.{Data, Members};
-ghost use Rattle.serde_json.specs.Written.{outline, members_outline};
 ghost use Rattle.oci_json_model.specs.Shape.{list, map};
 ghost use Rattle.oci_json_model.specs.Means.{is_object as holds_members};
 ghost use Rattle.oci_json_tape.specs.Elements.{BeginsWithData};
 ghost use Rattle.oci_schema_types.specs.Shapes.{part_shape, schema_shape};
 ghost use Rattle.oci_schema_bytes.specs.Fields.{FieldMeans, EachField, FieldIsAccepted, AreAccepted};
-ghost use Rattle.oci_schema_bytes.specs.Walks.{IfDone, WritesNormal, IsAfter};
+ghost use Rattle.oci_schema_bytes.specs.Walks.{IfDone, WritesTree, WritesMembers, WritesNormal, IsAfter};
 
 use crate::absent::write_absent;
+use crate::by_value::{is_by_value, is_string, write_by_value};
 use crate::fields::{Field, fields_of};
 use crate::scalar::write_scalar;
 use json::Element;
@@ -57,7 +55,13 @@ fn write_part<T: Records>(
     ensures { IfDone result (WritesNormal (part_shape (T.shape_at records.now) part.now) element.now out.old out.new) }
 {
     match part {
-        Part::Scalar(scalar) => write_scalar(scalar, element, out),
+        Part::Scalar(scalar) => {
+            if is_by_value(scalar) {
+                let schema = Schema::One(Part::Scalar(*scalar));
+                return write_by_value(records, &schema, element, alloc, out);
+            }
+            write_scalar(scalar, element, out)
+        }
         Part::Record(place) => write_record(records, *place, element, depth, alloc, out),
     }
 }
@@ -88,7 +92,7 @@ fn write_items<T: Records>(
     Ok(true)
 }
 
-/// Writes a map whose names are in byte order in the text, member by member.
+/// Writes a map member by member, if its names are in byte order in the text, or else by way of a value, if it is one of strings.
 #[cycle(writes)]
 fn write_map<T: Records>(
     records: &T,
@@ -100,6 +104,9 @@ fn write_map<T: Records>(
 ) -> Result<bool, AllocError>
     ensures { IfDone result (WritesNormal (map (part_shape (T.shape_at records.now) part.now)) element.now out.old out.new) }
 {
+    if is_string(part) && !is_in_order(element) {
+        return write_by_value(records, &Schema::Map(*part), element, alloc, out);
+    }
     let Some(mut rest) = members(element) else {
         return Ok(false);
     };
@@ -118,6 +125,21 @@ fn write_map<T: Records>(
     }
     out.end_object()?;
     Ok(true)
+}
+
+/// Whether the element is an object whose names are in byte order, each once.
+fn is_in_order(element: &Element<'_, '_>) -> bool {
+    let Some(mut rest) = members(element) else {
+        return false;
+    };
+    let mut last = None;
+    'each_member: while let Some((name, _)) = next_member(&mut rest) {
+        if !comes_after(name, last) {
+            return false;
+        }
+        last = Some(name);
+    }
+    true
 }
 
 /// Whether the name comes after the last one, by bytes.
@@ -176,7 +198,7 @@ fn write_fields<T: Records>(
 ) -> Result<bool, AllocError>
     ensures accepted { IfDone result (AreAccepted (T.shape_at records.now) fields.now) }
     ensures writes { IfDone result ((ms : Members) → EachField (T.shape_at records.now) fields.now ms
-        → out.new ≡ out.old ++ begin_object ∷ members_tokens (members_outline ms)) }
+        → WritesMembers ms out.old out.new) }
 {
     out.begin_object()?;
     for field in fields {
@@ -201,7 +223,7 @@ fn write_field<T: Records>(
 ) -> Result<bool, AllocError>
     ensures accepted { IfDone result (FieldIsAccepted (T.shape_at records.now) field.now) }
     ensures writes { IfDone result ((n : Data) → FieldMeans (T.shape_at records.now) field.now n
-        → out.new ≡ out.old ++ json_tokens (outline n)) }
+        → WritesTree n out.old out.new) }
 {
     match &field.value {
         Some(value) => write_value(records, &field.member.schema, value, depth, alloc, out),

@@ -62,6 +62,10 @@ pub use Rattle.oci_json_model.specs.Value
 pub use Rattle.oci_json_model.specs.Variants
 pub use Rattle.oci_json_model.specs.WellFormed
 pub use Rattle.oci_json_model.specs.Writable
+pub use Rattle.oci_kinds.specs.Kinds
+pub use Rattle.oci_lint.specs.Reported
+pub use Rattle.oci_lint.specs.Twice
+pub use Rattle.oci_lint.specs.Unknown
 pub use Rattle.oci_linux.specs.DefaultResources
 pub use Rattle.oci_linux.specs.Linux
 pub use Rattle.oci_linux.specs.Rootless
@@ -105,6 +109,8 @@ pub use Rattle.oci_platforms_windows.specs.WindowsMemoryResources
 pub use Rattle.oci_platforms_windows.specs.WindowsNetwork
 pub use Rattle.oci_platforms_windows.specs.WindowsResources
 pub use Rattle.oci_platforms_windows.specs.WindowsStorageResources
+pub use Rattle.oci_policies.specs.Policies
+pub use Rattle.oci_policies.specs.Steps
 pub use Rattle.oci_process.specs.Box
 pub use Rattle.oci_process.specs.ExecCPUAffinity
 pub use Rattle.oci_process.specs.LinuxCapabilities
@@ -135,6 +141,11 @@ pub use Rattle.oci_reference.specs.Written
 pub use Rattle.oci_reference_scan.specs.Pieces
 pub use Rattle.oci_reference_scan.specs.Reference
 pub use Rattle.oci_reference_scan.specs.Scanner
+pub use Rattle.oci_rule_texts.specs.Grammars
+pub use Rattle.oci_rules.specs.Breaks
+pub use Rattle.oci_rules.specs.Documents
+pub use Rattle.oci_rules.specs.Listed
+pub use Rattle.oci_rules.specs.Tables
 pub use Rattle.oci_runtime_defaults.specs.Answers
 pub use Rattle.oci_runtime_defaults.specs.Canonical
 pub use Rattle.oci_runtime_defaults.specs.Defaults
@@ -152,6 +163,7 @@ pub use Rattle.oci_runtime_records.specs.State
 pub use Rattle.oci_runtime_spec.specs.RootlessSpec
 pub use Rattle.oci_runtime_spec.specs.Spec
 pub use Rattle.oci_schema.specs.Normalizes
+pub use Rattle.oci_schema_bytes.specs.Texts
 pub use Rattle.oci_schema_types.specs.Shapes
 pub use Rattle.oci_schema_walks.specs.Allows
 pub use Rattle.oci_schema_walks.specs.Lines

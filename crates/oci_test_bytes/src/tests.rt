@@ -3,8 +3,10 @@ ghost use Rattle.oci_json_model.specs.WellFormed.{WellFormed};
 ghost use Rattle.oci_schema_types.specs.Shapes.{schema_shape, shape_at};
 ghost use Rattle.oci_schemas.specs.Table.{shapes};
 
-use oci_schema::normalize;
-use oci_schema_bytes::{Workspace, is_valid_bytes, normalize_bytes, violations_in_bytes};
+use oci_schema::{normalize, normalize_pretty};
+use oci_schema_bytes::{
+    Workspace, is_valid_bytes, normalize_bytes, normalize_pretty_bytes, violations_in_bytes,
+};
 use oci_schema_types::Schema;
 use oci_schemas::{image_manifest, oci_records, runtime_spec};
 use std::process::Abort;
@@ -119,10 +121,37 @@ static SPECS: [Case; 2] = [
 ];
 
 /// Configurations that one way or the other normalizes alike.
-static OTHERS: [&str; 2] = [
+static OTHERS: [&str; 5] = [
+    "{\"ociVersion\":\"1.2.0\",\"annotations\":{\"b\":\"2\",\"a\":\"1\",\"c\":\"\\u00e9\"}}",
+    "{\"ociVersion\":\"1.2.0\",\"windows\":{\"layerFolders\":[\"a\"],\"credentialSpec\":{\"b\":[1,-2,null],\"a\":{\"d\":true,\"c\":\"\"}}}}",
+    "{\"ociVersion\":\"1.2.0\",\"process\":{\"cwd\":\"/\",\"user\":{\"uid\":0,\"gid\":0},\"capabilities\":{\"bounding\":[\"sys_admin\",\"KILL\",\"CAP_KILL\"],\"ambient\":[]}}}",
     "{\"ociVersion\":\"1.2.0\",\"process\":{\"cwd\":\"/\",\"args\":[\"sh\"],\"user\":{\"uid\":0,\"gid\":0},\"capabilities\":{\"bounding\":[\"CAP_KILL\",\"CAP_CHOWN\"]}}}",
     "{\"ociVersion\":\"1.2.0\",\"process\":{\"cwd\":\"/\",\"oomScoreAdj\":-998,\"user\":{\"uid\":0,\"gid\":0}}}",
 ];
+
+/// Normalizes a text from a reader to a writer and as pretty text, both ways, and compares what is written.
+fn check_streams(rt: &(impl Abort + AllocGlobal), schema: &Schema, name: &str, text: &str)
+    requires { WellFormed (schema_shape (shape_at shapes) schema.now) }
+{
+    let alloc = rt.alloc();
+    let bytes = text.as_bytes();
+    let (mut by_value, mut by_bytes) = (Vec::new(alloc), Vec::new(alloc));
+    let first = normalize(oci_records(), schema, alloc, bytes, &mut by_value).is_ok();
+    let second = oci_schema_bytes::normalize(
+        oci_records(),
+        schema,
+        alloc,
+        bytes,
+        &mut by_bytes,
+    ).is_ok();
+    assert_eq!(rt; first, second, "{name}");
+    assert_eq!(rt; by_value.as_slice(), by_bytes.as_slice(), "{name}");
+    let (mut by_value, mut by_bytes) = (Vec::new(alloc), Vec::new(alloc));
+    let first = normalize_pretty(oci_records(), schema, alloc, bytes, &mut by_value).is_ok();
+    let second = normalize_pretty_bytes(oci_records(), schema, alloc, bytes, &mut by_bytes).is_ok();
+    assert_eq!(rt; first, second, "{name}");
+    assert_eq!(rt; by_value.as_slice(), by_bytes.as_slice(), "{name}");
+}
 
 /// Normalizes a text both ways, and compares what is written; nothing where it has no normal form.
 fn check_alike(
@@ -150,6 +179,7 @@ fn check_alike(
     .is_ok();
     assert_eq!(rt; first, second, "{name}");
     assert_eq!(rt; by_value.as_slice(), by_bytes.as_slice(), "{name}");
+    check_streams(rt, schema, name, text);
     if second { Some(by_bytes) } else { None }
 }
 

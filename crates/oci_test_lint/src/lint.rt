@@ -1,6 +1,6 @@
 //! The rows of unknown members, and of names that stand twice.
 use anyhow::{Context, Result, bail};
-use oci_doc_run::Kind;
+use oci_kinds::Kind;
 use oci_lint::{UnknownMember, repeated_names, suggestion, unknown_members};
 use oci_schemas::oci_records;
 use serde_json::Value;

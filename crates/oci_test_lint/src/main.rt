@@ -1,8 +1,9 @@
 //! The program `oci_test_lint`: checks golden rows, and prints each that differs, and how many there are.
 //!
-//! `data/POLICY.rows` has the rows of a policy: a remark, a document, and what is listed, in order: `RULE POINTER` with two blanks between
-//! entries, or `-`. `data/unknown.rows` has those of unknown members: a kind of documents, a document, and `POINTER SUGGESTION` of each member, with
-//! `-` where none is near. `data/twice.rows` has those of names that stand twice: a remark, a text, and the pointers.
+//! `data/POLICY.rows` has the rows of the policy in `data/POLICY.toml`: a remark, a document, and what is listed, in order: `RULE POINTER` with
+//! two blanks between entries, or `-`. `data/refused.rows` has texts that are no policies: what is said of each, and the text. `data/unknown.rows`
+//! has rows of unknown members: a kind of documents, a document, and `POINTER SUGGESTION` of each member, with `-` where none is near.
+//! `data/twice.rows` has those of names that stand twice: a remark, a text, and the pointers.
 #![tactic(auto)]
 
 mod lint;
@@ -10,21 +11,22 @@ mod policies;
 
 use anyhow::Result;
 use lint::{check_twice, check_unknown};
-use policies::check_policy;
+use policies::{check_policy, check_refused};
 use std::fs;
 use std::process::ExitCode;
 use std::rt::Files;
 
-const FILES: [&str; 4] = [
-    "restricted-container",
-    "published-image",
-    "unknown",
-    "twice",
-];
+const POLICIES: [&str; 3] = ["restricted-container", "published-image", "each-test"];
+
+const FILES: [&str; 3] = ["refused", "unknown", "twice"];
+
+fn rows<R: Files + AllocGlobal>(rt: &R, name: &str) -> Result<String> {
+    let path = format!(in rt.alloc(); "{name}.rows")?;
+    Ok(fs::read_to_string(rt, path.as_str())?)
+}
 
 fn check_rows<R: Files + Print + AllocGlobal>(rt: &R, name: &str) -> Result<()> {
-    let path = format!(in rt.alloc(); "{name}.rows")?;
-    let text = fs::read_to_string(rt, path.as_str())?;
+    let text = rows(rt, name)?;
     let mut count = 0u64;
     for row in text.as_str().trim().split("\n\n") {
         if !row.starts_with('#') {
@@ -40,11 +42,16 @@ fn check_row<R: Print + AllocGlobal>(rt: &R, name: &str, row: &str) -> Result<()
     match name {
         "unknown" => check_unknown(rt, row),
         "twice" => check_twice(rt, row),
-        _ => check_policy(rt, name, row),
+        _ => check_refused(rt, row),
     }
 }
 
 fn run(rt: &HostRuntime) -> Result<()> {
+    for name in &POLICIES {
+        let text = rows(rt, name)?;
+        let count = check_policy(rt, name, text.as_str().trim())?;
+        println!(rt; "{name}: {count} rows")?;
+    }
     for name in &FILES {
         check_rows(rt, name)?;
     }

@@ -1,24 +1,36 @@
 //! The rows of a policy.
 use anyhow::{Context, Result, bail};
-use oci_policies::{published_image_rules, restricted_container_rules};
-use oci_rules::{Broken, Platform, Rule, broken};
+use oci_policies::{Bump, Policy};
+use oci_rules::{Broken, Platform, broken};
 use serde_json::Value;
 use std::alloc::Global;
+use std::fs;
+use std::rt::Files;
 
-fn policy(name: &str) -> Result<&'static [Rule<'static>]> {
-    Ok(match name {
-        "restricted-container" => restricted_container_rules(),
-        "published-image" => published_image_rules(),
-        _ => bail!("no policy"),
-    })
+/// Checks the rows of a policy over its file, and returns how many there are.
+pub fn check_policy<R: Files + Print + AllocGlobal>(rt: &R, name: &str, rows: &str) -> Result<u64> {
+    let path = format!(in rt.alloc(); "{name}.toml")?;
+    let text = fs::read_to_string(rt, path.as_str())?;
+    let arena = Bump::new(rt.alloc());
+    let policy = match Policy::from_toml(text.as_str(), &arena, rt.alloc()) {
+        Ok(policy) => policy,
+        Err(error) => bail!("{name}: {error}"),
+    };
+    let mut count = 0u64;
+    for row in rows.split("\n\n") {
+        if !row.starts_with('#') {
+            check_row(rt, name, &policy, row)?;
+            count = count.saturating_add(1);
+        }
+    }
+    Ok(count)
 }
 
-/// Checks a row of a policy.
-pub fn check_policy<R: Print + AllocGlobal>(rt: &R, name: &str, row: &str) -> Result<()> {
+fn check_row<R: Print + AllocGlobal>(rt: &R, name: &str, policy: &Policy, row: &str) -> Result<()> {
     let (remark, rest) = row.split_once('\n').context("a row has one line")?;
     let (document, expected) = rest.split_once('\n').context("a row has two lines")?;
     let value = Value::from_str(rt.alloc(), document)?;
-    let found = broken(policy(name)?, Platform::Linux, &value, rt.alloc())?;
+    let found = broken(policy.rules(), Platform::Linux, &value, rt.alloc())?;
     let listed = line_of(&found, rt.alloc())?;
     if listed.as_str() != expected.trim() {
         println!(rt; "{name}: {remark}\nfound    {listed}\nexpected {expected}")?;
@@ -27,7 +39,7 @@ pub fn check_policy<R: Print + AllocGlobal>(rt: &R, name: &str, row: &str) -> Re
 }
 
 /// What is listed, as a row has it.
-fn line_of(found: &Vec<Broken<'static>>, alloc: Global) -> Result<String> {
+fn line_of(found: &Vec<Broken>, alloc: Global) -> Result<String> {
     let mut line = String::new(alloc);
     for it in found {
         if !line.is_empty() {
@@ -41,4 +53,20 @@ fn line_of(found: &Vec<Broken<'static>>, alloc: Global) -> Result<String> {
         line.push('-')?;
     }
     Ok(line)
+}
+
+/// Checks a row of a text that is no policy: what is said of it, and the text.
+pub fn check_refused<R: Print + AllocGlobal>(rt: &R, row: &str) -> Result<()> {
+    let (expected, text) = row.split_once('\n').context("a row has one line")?;
+    let arena = Bump::new(rt.alloc());
+    match Policy::from_toml(text, &arena, rt.alloc()) {
+        Ok(_) => println!(rt; "refused: a policy, expected {expected}")?,
+        Err(error) => {
+            let shown = format!(in rt.alloc(); "{error}")?;
+            if shown.as_str() != expected {
+                println!(rt; "refused:\nfound    {shown}\nexpected {expected}")?;
+            }
+        }
+    }
+    Ok(())
 }

@@ -1,6 +1,5 @@
 //! Records that are made in code: by default, and by their builders.
 
-use oci_spec::Result;
 use oci_spec::distribution::{
     ErrorCode, ErrorInfo, ErrorInfoBuilder, ErrorResponse, ErrorResponseBuilder, RepositoryList,
     RepositoryListBuilder, TagList, TagListBuilder,
@@ -14,6 +13,7 @@ use oci_spec::runtime::{
     ExecCPUAffinityBuilder, LinuxIdMapping, LinuxMemoryPolicy, LinuxMemoryPolicyBuilder,
     MemoryPolicyModeType, MountBuilder, ZOSNamespaceType,
 };
+use oci_spec::{Result, image, runtime};
 use oci_test_harness::Harness;
 use std::alloc::Global;
 
@@ -23,8 +23,8 @@ macro_rules! defaults {
         let alloc = $harness.rt.alloc();
         $($harness.same(
             stringify!($record),
-            oci_spec::$module::$record::try_default(alloc),
-            oci_spec::$module::$builder::default().build(alloc),
+            $module::$record::try_default(alloc),
+            $module::$builder::default().build(alloc),
         );)*
     }};
 }

@@ -25,7 +25,7 @@ fn halves(rt: &HostRuntime) -> Result<(), HarnessOutOfMemory> {
     if asks_for(rt, "calls")? {
         texts::all(&mut harness);
         made::all(&mut harness);
-        roots::all(&mut harness);
+        roots::all(&mut harness)?;
         harness.end_calls();
     }
     Ok(())

@@ -1,6 +1,6 @@
 //! What breaks the rules of a kind of documents.
 use anyhow::{Context, Result, bail};
-use oci_doc_run::Kind;
+use oci_kinds::Kind;
 use oci_rule_books::rules_of;
 use oci_rules::{Broken, Platform, broken, platform_of_document};
 use serde_json::Value;

@@ -2,7 +2,8 @@
 //!
 //! `data/KIND.rows` has the rows of a kind of documents, with an empty line between them. A row is three lines: the platform, or `-` for
 //! the document's own; the document; and what is listed, in order: `RULE POINTER` with two blanks between entries, or `-`. What begins
-//! with `#` is a remark. `tools/gen_rules` writes them from `tools/rules/rows`.
+//! with `#` is a remark. `tools/gen_rules` writes them from `tools/rules/rows`. `data/texts.rows` has a text in each row: the grammar, whether
+//! the text is of it, the text as JSON, and where it is from, by tabs.
 //!
 //! With an argument, `list`, it reads `KIND PLATFORM DOCUMENT` from each line of standard input, and writes a line for each part that
 //! breaks a rule, `POINTER: RULE (LEVEL, SECTION): WANTED`, and an empty line behind each document; `tools/peers_rules` asks it so. Before any
@@ -12,12 +13,14 @@
 mod books;
 mod listing;
 mod rows;
+mod texts;
 
 use anyhow::Result;
 use listing::list;
 use rows::rows;
 use std::env;
 use std::process::ExitCode;
+use texts::texts;
 
 const KINDS: [&str; 14] = [
     "manifest",
@@ -44,7 +47,7 @@ fn run(rt: &HostRuntime) -> Result<()> {
     for kind in &KINDS {
         rows(rt, kind);
     }
-    Ok(())
+    texts(rt)
 }
 
 fn main(rt: HostRuntime) -> ExitCode {

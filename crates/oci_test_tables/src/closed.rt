@@ -1,6 +1,6 @@
 //! Enums with a text for each variant. What is found of a text or a value is made into a row, which has to be one of the table's.
 
-use crate::rows::{ask, compare, count, count_variants, read, text_of};
+use crate::rows::{ask, compare, count, count_variants, read, report, text_of};
 use anyhow::Result;
 use oci_json_model::{ClosedName, JsonName};
 use oci_spec::UnknownName;
@@ -24,19 +24,7 @@ pub fn spelled<T: JsonName + Debug, R: Files + Print + AllocGlobal>(
     table: &str,
     kind: &str,
 ) -> Result<()> {
-    let rows = read(rt, table)?;
-    let mut compared = 0usize;
-    for row in rows.as_str().split('\n') {
-        if let Some(text) = text_of(row, kind) {
-            let here = match T::from_json_name(text) {
-                Some(x) => format!(in rt.alloc(); "{kind} {x:?} {text}")?,
-                None => format!(in rt.alloc(); "{kind} none {text}")?,
-            };
-            compare(rt, table, row, here.as_str())?;
-            compared = compared.saturating_add(1);
-        }
-    }
-    count(rt, table, kind, compared)
+    made(rt, table, kind, |_, text: &str| T::from_json_name(text))
 }
 
 /// Compares the JSON text of each variant with the rows of a kind.
@@ -69,31 +57,8 @@ pub fn displayed<T: Debug + Display, R: Files + Print + AllocGlobal>(
     count_variants(rt, table, "display", all.len())
 }
 
-/// Compares what `from_str` reads.
-pub fn parsed<
-    T: Debug + Drop,
-    F: Fn(&str) -> std::result::Result<T, UnknownName>,
-    R: Files + Print + AllocGlobal,
->(rt: &R, table: &str, from_str: F) -> Result<()>
-    requires { F.IsAlwaysCallable from_str }
-{
-    let rows = read(rt, table)?;
-    let mut compared = 0usize;
-    for row in rows.as_str().split('\n') {
-        if let Some(text) = text_of(row, "from_str") {
-            let here = match from_str(text) {
-                Ok(x) => format!(in rt.alloc(); "from_str {x:?} {text}")?,
-                Err(_) => format!(in rt.alloc(); "from_str none {text}")?,
-            };
-            compare(rt, table, row, here.as_str())?;
-            compared = compared.saturating_add(1);
-        }
-    }
-    count(rt, table, "from_str", compared)
-}
-
-/// Compares what `from_text` or `try_from` reads, in the rows of a kind. A closure whose result holds the library's error is not
-/// covered by the borrow checker, so it hands on what is read alone.
+/// Compares what the texts of a kind of rows are read as. A closure whose result holds the library's error is not covered by the
+/// borrow checker, so it hands on what is read alone.
 pub fn made<T: Debug + Drop, F: Fn(Global, &str) -> Option<T>, R: Files + Print + AllocGlobal>(
     rt: &R,
     table: &str,
@@ -136,15 +101,49 @@ pub fn numbers<T: Debug, F: Fn(&T) -> u32, R: Files + Print + AllocGlobal>(
     count_variants(rt, table, kind, all.len())
 }
 
-/// Compares an enum's JSON texts, what it displays and what `from_str` reads.
+/// Compares an enum's JSON texts, what it displays and what is read of its texts; and its JSON texts with the kernel's headers, where
+/// the table has their rows.
+pub fn closed<
+    T: ClosedName + Debug + Display + 'static,
+    F: Fn(Global, &str) -> Option<T>,
+    R: Files + Print + AllocGlobal,
+>(rt: &R, table: &str, from_str: F)
+    requires { F.IsAlwaysCallable from_str }
+{
+    report(rt, table, texts(rt, table, from_str));
+    report(rt, table, headers::<T, R>(rt, table));
+}
+
+/// The same where `from_str` reads the texts.
 pub fn named<
     T: ClosedName + Debug + Display + 'static,
     F: Fn(&str) -> std::result::Result<T, UnknownName>,
+    R: Files + Print + AllocGlobal,
+>(rt: &R, table: &str, from_str: F)
+    requires { F.IsAlwaysCallable from_str }
+{
+    closed(rt, table, |_, text: &str| from_str(text).ok())
+}
+
+fn texts<
+    T: ClosedName + Debug + Display + 'static,
+    F: Fn(Global, &str) -> Option<T>,
     R: Files + Print + AllocGlobal,
 >(rt: &R, table: &str, from_str: F) -> Result<()>
     requires { F.IsAlwaysCallable from_str }
 {
     json::<T, R>(rt, table, T::all())?;
     displayed(rt, table, T::all())?;
-    parsed(rt, table, from_str)
+    made(rt, table, "from_str", from_str)
+}
+
+fn headers<T: ClosedName + Debug + 'static, R: Files + Print + AllocGlobal>(
+    rt: &R,
+    table: &str,
+) -> Result<()> {
+    let rows = read(rt, table)?;
+    if rows.as_str().contains("\nheader ") {
+        written(rt, table, "header", T::all())?;
+    }
+    Ok(())
 }

@@ -1,11 +1,11 @@
-//! The defaults of all records and enums, and what each builder makes that is given nothing.
+//! The defaults of all records and enums, and what a builder makes that is given nothing, where that is not the default.
 
-use crate::documents::{document, report_count};
+use crate::documents::{document, refused, report_count};
 use crate::rows::{ask, count, read};
 use anyhow::Result;
+use oci_json_model::{try_join3, try_join4, try_join5};
 use oci_spec::{distribution, image, runtime};
 use std::fs;
-use std::rt::Files;
 
 /// Compares the defaults of enums.
 macro_rules! enums {
@@ -15,21 +15,22 @@ macro_rules! enums {
     };
 }
 
-/// Compares copies of the defaults of records, and what their builders make.
+/// Compares copies of the defaults of some records, which are made together: a result is matched once, and not once for each.
 macro_rules! records {
-    ($rt:expr, $rows:expr, $group:expr, $($from:ident $name:ident $builder:ident)*) => {
+    ($rt:expr, $rows:expr, $group:expr; $($join:ident: $($from:ident $name:ident $made:ident)*;)*) => {
         $(
-            document($rt, $rows, stringify!($name), match $from::$name::try_default($rt.alloc()) {
-                Ok(made) => made.clone($rt.alloc()),
-                Err(fault) => Err(fault),
-            });
-            document($rt, $rows, stringify!($builder), $from::$builder::default().build($rt.alloc()));
+            match $join($($from::$name::try_default($rt.alloc())),*) {
+                Ok(($($made),*)) => {
+                    $(document($rt, $rows, stringify!($name), $made.clone($rt.alloc()));)*
+                }
+                Err(fault) => refused($rt, fault),
+            }
         )*
-        report_count($rt, $group, [$(stringify!($name), stringify!($builder)),*].len());
+        report_count($rt, $group, [$($(stringify!($name),)*)*].len());
     };
 }
 
-/// Compares what the builders make of records that have no default.
+/// Compares what the builders make that are given nothing, where that is not the default: `oci_test_memory` compares those of which it is.
 macro_rules! builders {
     ($rt:expr, $rows:expr, $($from:ident $builder:ident)*) => {
         $(document($rt, $rows, stringify!($builder), $from::$builder::default().build($rt.alloc()));)*
@@ -38,7 +39,7 @@ macro_rules! builders {
 }
 
 /// Compares all of them.
-pub fn all<R: Files + Print + AllocGlobal>(rt: &R) -> Result<()> {
+pub fn all(rt: &HostRuntime) -> Result<()> {
     let rows = read(rt, "defaults")?;
     let rows = rows.as_str();
     enums(rt, rows);
@@ -55,7 +56,7 @@ pub fn all<R: Files + Print + AllocGlobal>(rt: &R) -> Result<()> {
     saved(rt, rows)
 }
 
-fn enums<R: Files + Print + AllocGlobal>(rt: &R, rows: &str) {
+fn enums(rt: &HostRuntime, rows: &str) {
     enums!(rt, rows,
         image Os
         image Arch
@@ -74,122 +75,144 @@ fn enums<R: Files + Print + AllocGlobal>(rt: &R, rows: &str) {
     );
 }
 
-fn image<R: Files + Print + AllocGlobal>(rt: &R, rows: &str) {
-    records!(rt, rows, "image",
-        image ImageConfiguration ImageConfigurationBuilder
-        image Config ConfigBuilder
-        image RootFs RootFsBuilder
-        image History HistoryBuilder
-        image Platform PlatformBuilder
-        image ImageIndex ImageIndexBuilder
+fn image(rt: &HostRuntime, rows: &str) {
+    records!(rt, rows, "image";
+        try_join3:
+            image ImageConfiguration image_configuration
+            image Config config
+            image RootFs root_fs;
+        try_join3:
+            image History history
+            image Platform platform
+            image ImageIndex image_index;
     );
 }
 
-fn linux<R: Files + Print + AllocGlobal>(rt: &R, rows: &str) {
-    records!(rt, rows, "linux",
-        runtime Linux LinuxBuilder
-        runtime LinuxIdMapping LinuxIdMappingBuilder
-        runtime LinuxNetDevice LinuxNetDeviceBuilder
-        runtime LinuxNamespace LinuxNamespaceBuilder
-        runtime LinuxDevice LinuxDeviceBuilder
-        runtime LinuxSeccomp LinuxSeccompBuilder
-        runtime LinuxSyscall LinuxSyscallBuilder
-        runtime LinuxSeccompArg LinuxSeccompArgBuilder
-        runtime LinuxIntelRdt LinuxIntelRdtBuilder
-        runtime LinuxPersonality LinuxPersonalityBuilder
-        runtime LinuxMemoryPolicy LinuxMemoryPolicyBuilder
-        runtime LinuxTimeOffset LinuxTimeOffsetBuilder
+fn linux(rt: &HostRuntime, rows: &str) {
+    records!(rt, rows, "linux";
+        try_join4:
+            runtime Linux linux
+            runtime LinuxIdMapping linux_id_mapping
+            runtime LinuxNetDevice linux_net_device
+            runtime LinuxNamespace linux_namespace;
+        try_join4:
+            runtime LinuxDevice linux_device
+            runtime LinuxSeccomp linux_seccomp
+            runtime LinuxSyscall linux_syscall
+            runtime LinuxSeccompArg linux_seccomp_arg;
+        try_join4:
+            runtime LinuxIntelRdt linux_intel_rdt
+            runtime LinuxPersonality linux_personality
+            runtime LinuxMemoryPolicy linux_memory_policy
+            runtime LinuxTimeOffset linux_time_offset;
     );
 }
 
-fn control_groups<R: Files + Print + AllocGlobal>(rt: &R, rows: &str) {
-    records!(rt, rows, "control groups",
-        runtime LinuxDeviceCgroup LinuxDeviceCgroupBuilder
-        runtime LinuxMemory LinuxMemoryBuilder
-        runtime LinuxCpu LinuxCpuBuilder
-        runtime LinuxPids LinuxPidsBuilder
-        runtime LinuxWeightDevice LinuxWeightDeviceBuilder
-        runtime LinuxThrottleDevice LinuxThrottleDeviceBuilder
-        runtime LinuxBlockIo LinuxBlockIoBuilder
-        runtime LinuxHugepageLimit LinuxHugepageLimitBuilder
-        runtime LinuxInterfacePriority LinuxInterfacePriorityBuilder
-        runtime LinuxNetwork LinuxNetworkBuilder
-        runtime LinuxResources LinuxResourcesBuilder
-        runtime LinuxRdma LinuxRdmaBuilder
+fn control_groups(rt: &HostRuntime, rows: &str) {
+    records!(rt, rows, "control groups";
+        try_join4:
+            runtime LinuxDeviceCgroup linux_device_cgroup
+            runtime LinuxMemory linux_memory
+            runtime LinuxCpu linux_cpu
+            runtime LinuxPids linux_pids;
+        try_join4:
+            runtime LinuxWeightDevice linux_weight_device
+            runtime LinuxThrottleDevice linux_throttle_device
+            runtime LinuxBlockIo linux_block_io
+            runtime LinuxHugepageLimit linux_hugepage_limit;
+        try_join4:
+            runtime LinuxInterfacePriority linux_interface_priority
+            runtime LinuxNetwork linux_network
+            runtime LinuxResources linux_resources
+            runtime LinuxRdma linux_rdma;
     );
 }
 
-fn process<R: Files + Print + AllocGlobal>(rt: &R, rows: &str) {
-    records!(rt, rows, "process",
-        runtime Process ProcessBuilder
-        runtime Box BoxBuilder
-        runtime PosixRlimit PosixRlimitBuilder
-        runtime User UserBuilder
-        runtime LinuxCapabilities LinuxCapabilitiesBuilder
-        runtime LinuxIOPriority LinuxIOPriorityBuilder
-        runtime Scheduler SchedulerBuilder
-        runtime ExecCPUAffinity ExecCPUAffinityBuilder
+fn process(rt: &HostRuntime, rows: &str) {
+    records!(rt, rows, "process";
+        try_join4:
+            runtime Process process
+            runtime Box console
+            runtime PosixRlimit posix_rlimit
+            runtime User user;
+        try_join4:
+            runtime LinuxCapabilities linux_capabilities
+            runtime LinuxIOPriority linux_io_priority
+            runtime Scheduler scheduler
+            runtime ExecCPUAffinity exec_cpu_affinity;
     );
 }
 
-fn platforms<R: Files + Print + AllocGlobal>(rt: &R, rows: &str) {
-    records!(rt, rows, "platforms",
-        runtime Solaris SolarisBuilder
-        runtime SolarisAnet SolarisAnetBuilder
-        runtime SolarisCappedCPU SolarisCappedCPUBuilder
-        runtime SolarisCappedMemory SolarisCappedMemoryBuilder
-        runtime VM VMBuilder
-        runtime VMHypervisor VMHypervisorBuilder
-        runtime VMKernel VMKernelBuilder
-        runtime VMImage VMImageBuilder
-        runtime ZOS ZOSBuilder
-        runtime ZOSNamespace ZOSNamespaceBuilder
+fn platforms(rt: &HostRuntime, rows: &str) {
+    records!(rt, rows, "platforms";
+        try_join5:
+            runtime Solaris solaris
+            runtime SolarisAnet solaris_anet
+            runtime SolarisCappedCPU solaris_capped_cpu
+            runtime SolarisCappedMemory solaris_capped_memory
+            runtime VM vm;
+        try_join5:
+            runtime VMHypervisor vm_hypervisor
+            runtime VMKernel vm_kernel
+            runtime VMImage vm_image
+            runtime ZOS zos
+            runtime ZOSNamespace zos_namespace;
     );
 }
 
-fn windows<R: Files + Print + AllocGlobal>(rt: &R, rows: &str) {
-    records!(rt, rows, "windows",
-        runtime Windows WindowsBuilder
-        runtime WindowsDevice WindowsDeviceBuilder
-        runtime WindowsResources WindowsResourcesBuilder
-        runtime WindowsMemoryResources WindowsMemoryResourcesBuilder
-        runtime WindowsCPUResources WindowsCPUResourcesBuilder
-        runtime WindowsStorageResources WindowsStorageResourcesBuilder
-        runtime WindowsHyperV WindowsHyperVBuilder
-        runtime WindowsNetwork WindowsNetworkBuilder
+fn windows(rt: &HostRuntime, rows: &str) {
+    records!(rt, rows, "windows";
+        try_join4:
+            runtime Windows windows
+            runtime WindowsDevice windows_device
+            runtime WindowsResources windows_resources
+            runtime WindowsMemoryResources windows_memory_resources;
+        try_join4:
+            runtime WindowsCPUResources windows_cpu_resources
+            runtime WindowsStorageResources windows_storage_resources
+            runtime WindowsHyperV windows_hyper_v
+            runtime WindowsNetwork windows_network;
     );
 }
 
-fn features<R: Files + Print + AllocGlobal>(rt: &R, rows: &str) {
-    records!(rt, rows, "features",
-        runtime Features FeaturesBuilder
-        runtime LinuxFeature LinuxFeatureBuilder
-        runtime Cgroup CgroupBuilder
-        runtime Seccomp SeccompBuilder
-        runtime Apparmor ApparmorBuilder
-        runtime Selinux SelinuxBuilder
-        runtime IntelRdt IntelRdtBuilder
-        runtime MemoryPolicy MemoryPolicyBuilder
-        runtime MountExtensions MountExtensionsBuilder
-        runtime NetDevices NetDevicesBuilder
-        runtime IDMap IDMapBuilder
+fn features(rt: &HostRuntime, rows: &str) {
+    records!(rt, rows, "features";
+        try_join4:
+            runtime Features features
+            runtime LinuxFeature linux_feature
+            runtime Cgroup cgroup
+            runtime Seccomp seccomp;
+        try_join4:
+            runtime Apparmor apparmor
+            runtime Selinux selinux
+            runtime IntelRdt intel_rdt
+            runtime MemoryPolicy memory_policy;
+        try_join3:
+            runtime MountExtensions mount_extensions
+            runtime NetDevices net_devices
+            runtime IDMap id_map;
     );
 }
 
-fn containers<R: Files + Print + AllocGlobal>(rt: &R, rows: &str) {
-    records!(rt, rows, "containers",
-        runtime Hooks HooksBuilder
-        runtime Hook HookBuilder
-        runtime Root RootBuilder
-        runtime Mount MountBuilder
-        runtime Spec SpecBuilder
-        runtime State StateBuilder
-        runtime ContainerProcessState ContainerProcessStateBuilder
+fn containers(rt: &HostRuntime, rows: &str) {
+    records!(rt, rows, "containers";
+        try_join4:
+            runtime Hooks hooks
+            runtime Hook hook
+            runtime Root root
+            runtime Mount mount;
+        try_join3:
+            runtime Spec spec
+            runtime State state
+            runtime ContainerProcessState container_process_state;
     );
 }
 
-fn builders<R: Files + Print + AllocGlobal>(rt: &R, rows: &str) {
+fn builders(rt: &HostRuntime, rows: &str) {
     builders!(rt, rows,
+        image PlatformBuilder
+        image ImageIndexBuilder
+        runtime LinuxMemoryPolicyBuilder
         distribution ErrorResponseBuilder
         distribution ErrorInfoBuilder
         distribution RepositoryListBuilder
@@ -201,7 +224,7 @@ fn builders<R: Files + Print + AllocGlobal>(rt: &R, rows: &str) {
     );
 }
 
-fn calls<R: Files + Print + AllocGlobal>(rt: &R, rows: &str) {
+fn calls(rt: &HostRuntime, rows: &str) {
     let alloc = rt.alloc();
     document(
         rt,
@@ -251,14 +274,14 @@ fn calls<R: Files + Print + AllocGlobal>(rt: &R, rows: &str) {
 const PATH: &str = "saved.json";
 
 /// Compares the text of a file with the row of a default.
-fn ask_file<R: Files + Print + AllocGlobal>(rt: &R, rows: &str, name: &str) -> Result<()> {
+fn ask_file(rt: &HostRuntime, rows: &str, name: &str) -> Result<()> {
     let text = fs::read_to_string(rt, PATH)?;
     let here = format!(in rt.alloc(); "{name} {}", text.as_str())?;
     ask(rt, "defaults", rows, here.as_str())
 }
 
 /// Compares what is saved of the documents of a container.
-fn saved<R: Files + Print + AllocGlobal>(rt: &R, rows: &str) -> Result<()> {
+fn saved(rt: &HostRuntime, rows: &str) -> Result<()> {
     let alloc = rt.alloc();
     runtime::Spec::try_default(alloc)?.save(rt, alloc, PATH)?;
     ask_file(rt, rows, "Spec")?;

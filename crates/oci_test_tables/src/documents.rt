@@ -32,6 +32,11 @@ pub fn document<T: OciMember, R: Print + AllocGlobal>(
     report(rt, name, ask_document(rt, rows, name, made));
 }
 
+/// Prints that defaults are not there.
+pub fn refused<R: Print>(rt: &R, fault: OciSpecError) {
+    let _ = println!(rt; "defaults: {fault}");
+}
+
 /// Prints how many defaults of a group were compared.
 pub fn report_count<R: Print>(rt: &R, group: &str, rows: usize) {
     report(rt, group, count(rt, "defaults", group, rows));

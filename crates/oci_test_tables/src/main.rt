@@ -19,11 +19,11 @@ mod values;
 use rows::report;
 
 fn main(rt: HostRuntime) {
-    report(&rt, "enums of Linux", names::linux(&rt));
-    report(&rt, "seccomp", names::seccomp(&rt));
-    report(&rt, "enums of a process", names::process(&rt));
-    report(&rt, "capabilities", names::capabilities(&rt));
-    report(&rt, "other enums", names::others(&rt));
+    names::linux(&rt);
+    names::seccomp(&rt);
+    names::process(&rt);
+    report(&rt, "Capability", names::capabilities(&rt));
+    names::others(&rt);
     report(&rt, "extensible enums", names::extensible(&rt));
     report(&rt, "constants", values::constants(&rt));
     report(&rt, "defaults", defaults::all(&rt));

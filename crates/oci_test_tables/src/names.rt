@@ -1,8 +1,8 @@
 //! The enums, a few lines each.
 
-use crate::closed::{displayed, json, made, named, numbers, parsed, spelled, written};
+use crate::closed::{closed, displayed, json, made, named, numbers, spelled, written};
 use crate::extensible::{docker, lengths, texts};
-use crate::rows::{ask, count_variants, read};
+use crate::rows::{ask, count_variants, read, report};
 use anyhow::Result;
 use oci_json_model::ClosedName;
 use oci_process_names::capability;
@@ -14,157 +14,108 @@ use oci_spec::runtime::{
     LinuxSeccompAction, LinuxSeccompFilterFlag, LinuxSeccompOperator, MemoryPolicyFlagType,
     MemoryPolicyModeType, PosixRlimitType, ZOSNamespaceType,
 };
+use std::fmt::Debug;
 use std::rt::Files;
 
 /// Those of the Linux part but seccomp's.
-pub fn linux<R: Files + Print + AllocGlobal>(rt: &R) -> Result<()> {
-    let types = LinuxNamespaceType::all();
-    json(rt, "LinuxNamespaceType", types)?;
-    displayed(rt, "LinuxNamespaceType", types)?;
-    made(
+pub fn linux(rt: &HostRuntime) {
+    closed(
         rt,
         "LinuxNamespaceType",
-        "from_str",
         |alloc, text: &str| LinuxNamespaceType::try_from(alloc, text).ok(),
-    )?;
-    numbers(
-        rt,
-        "LinuxNamespaceType",
-        "number",
-        types,
-        LinuxNamespaceType::number,
-    )?;
-    numbers(
-        rt,
-        "LinuxNamespaceType",
-        "kernel",
-        types,
-        LinuxNamespaceType::number,
-    )?;
-    json(rt, "LinuxDeviceType", LinuxDeviceType::all())?;
-    device_types(rt)?;
-    parsed(rt, "LinuxDeviceType", LinuxDeviceType::from_str)?;
+    );
+    let types = LinuxNamespaceType::all();
+    numbered(rt, "LinuxNamespaceType", types, LinuxNamespaceType::number);
+    report(rt, "LinuxDeviceType", device_types(rt));
     named(
         rt,
         "LinuxPersonalityDomain",
         LinuxPersonalityDomain::from_str,
-    )?;
-    named(rt, "MemoryPolicyModeType", MemoryPolicyModeType::from_str)?;
-    written(
-        rt,
-        "MemoryPolicyModeType",
-        "header",
-        MemoryPolicyModeType::all(),
-    )?;
-    named(rt, "MemoryPolicyFlagType", MemoryPolicyFlagType::from_str)?;
-    written(
-        rt,
-        "MemoryPolicyFlagType",
-        "header",
-        MemoryPolicyFlagType::all(),
-    )
+    );
+    named(rt, "MemoryPolicyModeType", MemoryPolicyModeType::from_str);
+    named(rt, "MemoryPolicyFlagType", MemoryPolicyFlagType::from_str);
 }
 
 // `as_str`, in place of a Display
-fn device_types<R: Files + Print + AllocGlobal>(rt: &R) -> Result<()> {
-    let rows = read(rt, "LinuxDeviceType")?;
+fn device_types(rt: &HostRuntime) -> Result<()> {
     let all = LinuxDeviceType::all();
+    json(rt, "LinuxDeviceType", all)?;
+    let rows = read(rt, "LinuxDeviceType")?;
     for x in all {
         let text = x.as_str();
         let here = format!(in rt.alloc(); "display {x:?} {text}")?;
         ask(rt, "LinuxDeviceType", rows.as_str(), here.as_str())?;
     }
-    count_variants(rt, "LinuxDeviceType", "display", all.len())
+    count_variants(rt, "LinuxDeviceType", "display", all.len())?;
+    made(
+        rt,
+        "LinuxDeviceType",
+        "from_str",
+        |_, text: &str| LinuxDeviceType::from_str(text).ok(),
+    )
+}
+
+/// Compares each variant's number with the crate's and with the kernel's.
+fn numbered<T: Debug, F: Fn(&T) -> u32, R: Files + Print + AllocGlobal>(
+    rt: &R,
+    table: &str,
+    all: &[T],
+    number: F,
+)
+    requires { F.IsAlwaysCallable number }
+{
+    report(rt, table, numbers(rt, table, "number", all, &number));
+    report(rt, table, numbers(rt, table, "kernel", all, &number));
 }
 
 /// Those of seccomp.
-pub fn seccomp<R: Files + Print + AllocGlobal>(rt: &R) -> Result<()> {
-    let actions = LinuxSeccompAction::all();
-    named(rt, "LinuxSeccompAction", LinuxSeccompAction::from_str)?;
-    written(rt, "LinuxSeccompAction", "header", actions)?;
-    numbers(
-        rt,
-        "LinuxSeccompAction",
-        "number",
-        actions,
-        |x| u32::from(*x),
-    )?;
-    numbers(
-        rt,
-        "LinuxSeccompAction",
-        "as_u32",
-        actions,
-        |x| x.as_u32(Some(42)),
-    )?;
-    numbers(
-        rt,
-        "LinuxSeccompAction",
-        "kernel",
-        actions,
-        |x| x.as_u32(Some(0)),
-    )?;
-    named(rt, "SArch", SArch::from_str)?;
-    written(rt, "SArch", "header", SArch::all())?;
-    numbers(rt, "SArch", "number", SArch::all(), SArch::number)?;
-    numbers(rt, "SArch", "kernel", SArch::all(), SArch::number)?;
-    named(rt, "LinuxSeccompOperator", LinuxSeccompOperator::from_str)?;
+pub fn seccomp(rt: &HostRuntime) {
+    named(rt, "LinuxSeccompAction", LinuxSeccompAction::from_str);
+    report(rt, "LinuxSeccompAction", actions(rt));
+    named(rt, "SArch", SArch::from_str);
+    numbered(rt, "SArch", SArch::all(), SArch::number);
+    named(rt, "LinuxSeccompOperator", LinuxSeccompOperator::from_str);
     let operators = LinuxSeccompOperator::all();
-    written(rt, "LinuxSeccompOperator", "header", operators)?;
-    numbers(
+    numbered(
         rt,
         "LinuxSeccompOperator",
-        "number",
         operators,
         LinuxSeccompOperator::number,
-    )?;
-    numbers(
-        rt,
-        "LinuxSeccompOperator",
-        "kernel",
-        operators,
-        LinuxSeccompOperator::number,
-    )?;
+    );
     named(
         rt,
         "LinuxSeccompFilterFlag",
         LinuxSeccompFilterFlag::from_str,
-    )?;
-    written(
-        rt,
-        "LinuxSeccompFilterFlag",
-        "header",
-        LinuxSeccompFilterFlag::all(),
-    )
+    );
+}
+
+fn actions(rt: &HostRuntime) -> Result<()> {
+    let all = LinuxSeccompAction::all();
+    let table = "LinuxSeccompAction";
+    numbers(rt, table, "number", all, |x| u32::from(*x))?;
+    numbers(rt, table, "as_u32", all, |x| x.as_u32(Some(42)))?;
+    numbers(rt, table, "kernel", all, |x| x.as_u32(Some(0)))
 }
 
 /// Those of a process but capabilities.
-pub fn process<R: Files + Print + AllocGlobal>(rt: &R) -> Result<()> {
-    named(rt, "PosixRlimitType", PosixRlimitType::from_str)?;
-    written(rt, "PosixRlimitType", "header", PosixRlimitType::all())?;
-    named(rt, "IOPriorityClass", IOPriorityClass::from_str)?;
-    written(rt, "IOPriorityClass", "header", IOPriorityClass::all())?;
-    named(rt, "LinuxSchedulerPolicy", LinuxSchedulerPolicy::from_str)?;
-    written(
-        rt,
-        "LinuxSchedulerPolicy",
-        "header",
-        LinuxSchedulerPolicy::all(),
-    )?;
-    named(rt, "LinuxSchedulerFlag", LinuxSchedulerFlag::from_str)?;
-    written(
-        rt,
-        "LinuxSchedulerFlag",
-        "header",
-        LinuxSchedulerFlag::all(),
-    )
+pub fn process(rt: &HostRuntime) {
+    named(rt, "PosixRlimitType", PosixRlimitType::from_str);
+    named(rt, "IOPriorityClass", IOPriorityClass::from_str);
+    named(rt, "LinuxSchedulerPolicy", LinuxSchedulerPolicy::from_str);
+    named(rt, "LinuxSchedulerFlag", LinuxSchedulerFlag::from_str);
 }
 
 /// Capabilities, which JSON texts spell in more ways than one.
-pub fn capabilities<R: Files + Print + AllocGlobal>(rt: &R) -> Result<()> {
+pub fn capabilities(rt: &HostRuntime) -> Result<()> {
     json(rt, "Capability", &capability::ALL)?;
-    spelled::<Capability, R>(rt, "Capability", "from_json")?;
+    spelled::<Capability, HostRuntime>(rt, "Capability", "from_json")?;
     displayed(rt, "Capability", &capability::ALL)?;
-    parsed(rt, "Capability", Capability::from_str)?;
+    made(
+        rt,
+        "Capability",
+        "from_str",
+        |_, text: &str| Capability::from_str(text).ok(),
+    )?;
     written(rt, "Capability", "header", &capability::ALL)
 }
 
@@ -181,23 +132,24 @@ static PARSE_ERRORS: [ParseError; 8] = [
 ];
 
 /// Those of z/OS, of states and of a registry's errors.
-pub fn others<R: Files + Print + AllocGlobal>(rt: &R) -> Result<()> {
-    json(rt, "ZOSNamespaceType", ZOSNamespaceType::all())?;
-    displayed(rt, "ZOSNamespaceType", ZOSNamespaceType::all())?;
-    made(
+pub fn others(rt: &HostRuntime) {
+    closed(
         rt,
         "ZOSNamespaceType",
-        "from_str",
         |alloc, text: &str| ZOSNamespaceType::try_from(alloc, text).ok(),
-    )?;
+    );
+    report(rt, "ContainerState", states(rt));
+    named(rt, "ErrorCode", ErrorCode::from_str);
+    report(rt, "ParseError", displayed(rt, "ParseError", &PARSE_ERRORS));
+}
+
+fn states(rt: &HostRuntime) -> Result<()> {
     json(rt, "ContainerState", ContainerState::all())?;
-    displayed(rt, "ContainerState", ContainerState::all())?;
-    named(rt, "ErrorCode", ErrorCode::from_str)?;
-    displayed(rt, "ParseError", &PARSE_ERRORS)
+    displayed(rt, "ContainerState", ContainerState::all())
 }
 
 /// Those that have other texts too.
-pub fn extensible<R: Files + Print + AllocGlobal>(rt: &R) -> Result<()> {
+pub fn extensible(rt: &HostRuntime) -> Result<()> {
     texts(
         rt,
         "MediaType",

@@ -1,14 +1,13 @@
 //! The constants.
 
 use crate::documents;
-use crate::rows::{ask, count, read};
+use crate::rows::{ask, count, read, report};
 use anyhow::Result;
 use oci_spec::distribution::Reference;
 use oci_spec::image::Digest;
 use oci_spec::runtime::{LinuxIdMapping, LinuxNamespaceType, MountBuilder, ZOSNamespaceType};
 use oci_spec::{distribution, image, runtime};
 use std::alloc::Global;
-use std::rt::Files;
 
 static TEXTS: [(&str, &str); 23] = [
     ("image::ANNOTATION_CREATED", image::ANNOTATION_CREATED),
@@ -62,7 +61,7 @@ static NUMBERS: [(&str, u32); 10] = [
 ];
 
 /// All public constants, and the texts that calls make of constants.
-pub fn constants<R: Files + Print + AllocGlobal>(rt: &R) -> Result<()> {
+pub fn constants(rt: &HostRuntime) -> Result<()> {
     documents::constants(rt, "texts", &TEXTS)?;
     documents::constants(rt, "numbers", &NUMBERS)?;
     versions(rt)?;
@@ -70,36 +69,69 @@ pub fn constants<R: Files + Print + AllocGlobal>(rt: &R) -> Result<()> {
     digests(rt)
 }
 
-fn versions<R: Files + Print + AllocGlobal>(rt: &R) -> Result<()> {
-    let image = image::version(rt.alloc())?;
-    let distribution = distribution::version(rt.alloc())?;
-    let runtime = runtime::version(rt.alloc())?;
-    let all = [
-        ("image::VERSION", image.as_str()),
-        ("distribution::VERSION", distribution.as_str()),
-        ("runtime::VERSION", runtime.as_str()),
-    ];
-    documents::constants(rt, "versions", &all)
+fn versions(rt: &HostRuntime) -> Result<()> {
+    let rows = read(rt, "constants")?;
+    let (rows, alloc) = (rows.as_str(), rt.alloc());
+    text(rt, rows, "image::VERSION", image::version(alloc));
+    text(
+        rt,
+        rows,
+        "distribution::VERSION",
+        distribution::version(alloc),
+    );
+    text(rt, rows, "runtime::VERSION", runtime::version(alloc));
+    count(rt, "constants", "versions", 3)
 }
 
 /// Whole references, and what is refused in words.
-fn made<R: Files + Print + AllocGlobal>(rt: &R) -> Result<()> {
-    let alloc = rt.alloc();
-    let short = whole(alloc, "ubuntu")?;
-    let legacy = whole(alloc, "index.docker.io/ubuntu")?;
-    let namespace = refused(alloc, LinuxNamespaceType::try_from(alloc, "other"))?;
-    let zos_namespace = refused(alloc, ZOSNamespaceType::try_from(alloc, "other"))?;
+fn made(rt: &HostRuntime) -> Result<()> {
+    let rows = read(rt, "constants")?;
+    let (rows, alloc) = (rows.as_str(), rt.alloc());
+    text(rt, rows, "Reference:ubuntu", whole(alloc, "ubuntu"));
+    text(
+        rt,
+        rows,
+        "Reference:index.docker.io/ubuntu",
+        whole(alloc, "index.docker.io/ubuntu"),
+    );
+    text(
+        rt,
+        rows,
+        "LinuxNamespaceType:other",
+        refused(alloc, LinuxNamespaceType::try_from(alloc, "other")),
+    );
+    text(
+        rt,
+        rows,
+        "ZOSNamespaceType:other",
+        refused(alloc, ZOSNamespaceType::try_from(alloc, "other")),
+    );
+    text(rt, rows, "MountBuilder", mount(alloc));
+    count(rt, "constants", "made", 5)
+}
+
+/// Compares a text with its row, `NAME "TEXT"`.
+fn text(rt: &HostRuntime, rows: &str, name: &str, made: oci_spec::Result<String>) {
+    report(rt, name, ask_text(rt, rows, name, made));
+}
+
+fn ask_text(
+    rt: &HostRuntime,
+    rows: &str,
+    name: &str,
+    made: oci_spec::Result<String>,
+) -> Result<()> {
+    let made = made?;
+    let text = made.as_str();
+    let here = format!(in rt.alloc(); "{name} {text:?}")?;
+    ask(rt, "constants", rows, here.as_str())
+}
+
+/// What a mount's builder says of mappings on one side alone.
+fn mount(alloc: Global) -> oci_spec::Result<String> {
     let mappings = vec![in alloc; LinuxIdMapping::try_default(alloc)?]?;
-    let mount = MountBuilder::default().uid_mappings(mappings);
-    let mount = refused(alloc, mount.build(alloc))?;
-    let all = [
-        ("Reference:ubuntu", short.as_str()),
-        ("Reference:index.docker.io/ubuntu", legacy.as_str()),
-        ("LinuxNamespaceType:other", namespace.as_str()),
-        ("ZOSNamespaceType:other", zos_namespace.as_str()),
-        ("MountBuilder", mount.as_str()),
-    ];
-    documents::constants(rt, "made", &all)
+    let builder = MountBuilder::default().uid_mappings(mappings);
+    refused(alloc, builder.build(alloc))
 }
 
 /// A text for each error of a digest.
@@ -113,7 +145,7 @@ static NO_DIGESTS: [&str; 7] = [
     "sha256:gggggggggggggggggggggggggggggggggggggggggggggggggggggggggggggggg",
 ];
 
-fn digests<R: Files + Print + AllocGlobal>(rt: &R) -> Result<()> {
+fn digests(rt: &HostRuntime) -> Result<()> {
     let rows = read(rt, "constants")?;
     for text in &NO_DIGESTS {
         let error = refused(rt.alloc(), Digest::from_str(rt.alloc(), text))?;
@@ -123,12 +155,15 @@ fn digests<R: Files + Print + AllocGlobal>(rt: &R) -> Result<()> {
     count(rt, "constants", "digests", NO_DIGESTS.len())
 }
 
-fn whole(alloc: Global, text: &str) -> Result<String> {
-    Ok(Reference::from_str(alloc, text)?.whole()?)
+fn whole(alloc: Global, text: &str) -> oci_spec::Result<String> {
+    match Reference::from_str(alloc, text) {
+        Ok(reference) => Ok(reference.whole()?),
+        Err(fault) => Ok(format!(in alloc; "{fault}")?),
+    }
 }
 
 /// What an error displays.
-fn refused<T: Drop>(alloc: Global, made: oci_spec::Result<T>) -> Result<String> {
+fn refused<T: Drop>(alloc: Global, made: oci_spec::Result<T>) -> oci_spec::Result<String> {
     match made {
         Ok(_) => Ok(String::from_str(alloc, "no error")?),
         Err(fault) => Ok(format!(in alloc; "{fault}")?),

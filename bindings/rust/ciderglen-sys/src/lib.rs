@@ -14,6 +14,11 @@ pub const CIDERGLEN_INVALID_JSON: u32 = 4;
 pub const CIDERGLEN_INVALID_DOCUMENT: u32 = 5;
 pub const CIDERGLEN_INVALID_UTF8: u32 = 6;
 pub const CIDERGLEN_INVALID_DIGEST: u32 = 7;
+pub const CIDERGLEN_OTHER_SIZE: u32 = 8;
+pub const CIDERGLEN_OTHER_DIGEST: u32 = 9;
+pub const CIDERGLEN_UNKNOWN_ALGORITHM: u32 = 10;
+pub const CIDERGLEN_UNKNOWN_LEVEL: u32 = 11;
+pub const CIDERGLEN_UNKNOWN_PLATFORM: u32 = 12;
 pub const CIDERGLEN_NAME_EMPTY: u32 = 16;
 pub const CIDERGLEN_NAME_CONTAINS_UPPERCASE: u32 = 17;
 pub const CIDERGLEN_NAME_TOO_LONG: u32 = 18;
@@ -37,6 +42,19 @@ pub const CIDERGLEN_KIND_SPEC: u32 = 10;
 pub const CIDERGLEN_KIND_STATE: u32 = 11;
 pub const CIDERGLEN_KIND_PROCESS_STATE: u32 = 12;
 pub const CIDERGLEN_KIND_FEATURES: u32 = 13;
+
+pub const CIDERGLEN_LEVEL_MUST: u32 = 0;
+pub const CIDERGLEN_LEVEL_STATED: u32 = 1;
+pub const CIDERGLEN_LEVEL_SHOULD: u32 = 2;
+pub const CIDERGLEN_LEVEL_HOST: u32 = 3;
+
+pub const CIDERGLEN_PLATFORM_OF_DOCUMENT: u32 = 0;
+pub const CIDERGLEN_PLATFORM_LINUX: u32 = 1;
+pub const CIDERGLEN_PLATFORM_WINDOWS: u32 = 2;
+pub const CIDERGLEN_PLATFORM_SOLARIS: u32 = 3;
+pub const CIDERGLEN_PLATFORM_VM: u32 = 4;
+pub const CIDERGLEN_PLATFORM_ZOS: u32 = 5;
+pub const CIDERGLEN_PLATFORM_FREEBSD: u32 = 6;
 
 /// The lengths of a reference's parts in its whole text.
 #[repr(C)]
@@ -75,6 +93,17 @@ extern "C" {
         output_len: *mut usize,
         count: *mut usize,
     ) -> u32;
+    pub fn ciderglen_broken_rules(
+        kind: u32,
+        level: u32,
+        platform: u32,
+        document: *const u8,
+        document_len: usize,
+        buffer: *mut u8,
+        buffer_capacity: usize,
+        output_len: *mut usize,
+        count: *mut usize,
+    ) -> u32;
     pub fn ciderglen_digest_check(text: *const u8, text_len: usize) -> u32;
     pub fn ciderglen_reference(
         text: *const u8,
@@ -99,5 +128,12 @@ extern "C" {
         buffer: *mut u8,
         buffer_capacity: usize,
         output_len: *mut usize,
+    ) -> u32;
+    pub fn ciderglen_verify(
+        digest: *const u8,
+        digest_len: usize,
+        size: u64,
+        content: *const u8,
+        content_len: usize,
     ) -> u32;
 }

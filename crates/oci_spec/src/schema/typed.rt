@@ -74,7 +74,7 @@ pub fn normalize_as<T: HasSchema, R: Read + Drop, W: Write>(
     ensures reads_back { OnOk result (ReadsBackDocument T.shape (R.remaining reader)) }
 {
     let (records, schema) = T::schema();
-    oci_schema::normalize(records, schema, alloc, reader, writer)
+    oci_schema_bytes::normalize(records, schema, alloc, reader, writer)
 }
 
 /// Reads a `T` to the end of the input and writes its normal form as pretty JSON, as `normalize_pretty` does.

@@ -1,42 +1,25 @@
-use Rattle.std.proofs.Common.{◌≡◌, ◌<◌, ◌≤◌, rules, arith, suc, ◌+◌, sym, ap, ◌∙◌, refl, length, drop, is_some, false, None, Some, subst}
+use Rattle.std.proofs.Common.{◌≡◌, List, get_or, subst, ◌<◌, length, ◌≤◌, rules, arith, sym, ap, ◌∙◌, None, Some, inl, inr}
 use Rattle.std.proofs.lemmas.Result.{on_ok_weaker}
-use Rattle.serde_json.specs.Data.{Data, object, array}
-use Rattle.serde_json.specs.Find.{at, get, get_item}
+use Rattle.serde_json.specs.Data.{object, array}
+use Rattle.serde_json.specs.Find.{get, get_item}
 use Rattle.serde_json.specs.View.{view, items_view, members_view}
 use Rattle.serde_json.proofs.Views.{view-Object, view-Array}
 use Rattle.oci_schema_walks.specs.Places.{under_name, under_index}
-use Rattle.oci_diff.proofs.Adds.{in_turn, both_parts, member_adds, item_adds, new_item, old_item, new_member, old_member, absent_of, item_at, dropped_smaller, none_found, first_have, rest_among, rest_smaller}
+use Rattle.oci_diff.proofs.Adds.{in_turn, at_both, within_size, both_parts, member_adds, item_adds, new_item, old_item, old_member, within_size, first_have, rest_among, rest_smaller}
 use Rattle.std.specs.Prelude.{string_bytes}
 use Rattle.serde_json.specs.Data.{member}
 use Rattle.oci_diff.specs.declared.changes.Change.TheVariants.{Added, Removed}
+use Rattle.oci_json_model.specs.Sizes.{size, items_size}
+use Rattle.oci_diff.proofs.Aligning.{item_at}
+use Rattle.oci_diff.specs.Best.{IsStepOf}
+use Rattle.oci_diff.specs.Same.{AreSame}
+use Rattle.oci_diff.specs.declared.aligned.Step.TheVariants.{Same, First, Second}
+use Rattle.oci_diff.specs.declared.aligned.Step.{Step}
 use Rattle.oci_diff.proofs.changes.+differences.Goals as goal
 
 pub add_differences-returns-in_ok-push-clause-so : goal.add_differences-returns-in_ok-push-clause-so
 add_differences-returns-in_ok-push-clause-so t c a b stand so =
     c.in_ok-push.ensures.so a b (stand.0, stand.1, search rules) (c.in_ok-add_parts.ensures.so a b stand so)
-
-pub add_item-returns-in-Some-clause-so : goal.add_item-returns-in-Some-clause-so
-add_item-returns-in-Some-clause-so t c =
-    let is : c.as_str.result.now ≡ under_index c.args.at.now c.args.index = c.as_str.ensures.value ∙ c.in_ok-place.ensures in
-    let found : at c.args.index (view c.args.after.now) ≡ Some (view c.in-Some.other.now) = sym c.in-Some.ensures in
-    on_ok_weaker c.add_differences.result (λ adds ds have. item_adds ds _ _ _ c.args.at.now c.as_str.result.now c.args.index _ _ is have found adds) c.add_differences.ensures.so
-
-pub add_item-returns-clause-so : goal.add_item-returns-clause-so
-add_item-returns-clause-so t c =
-    let is : c.as_str-in-None.result.now ≡ under_index c.args.at.now c.args.index = c.as_str-in-None.ensures.value ∙ c.in_ok-place.ensures in
-    let none : at c.args.index (view c.args.after.now) ≡ None = sym c.in-None.ensures in
-    on_ok_weaker c.push.result (λ adds ds have. old_item ds _ (view c.args.item.now) (Removed c.args.item) c.args.at.now c.as_str-in-None.result.now c.args.index _ _ (λ a b leads lacks. (leads, lacks)) is have none adds) c.push.ensures.so
-
-pub add_items-loop-index-preserved : goal.add_items-loop-index-preserved
-add_items-loop-index-preserved t c =
-    let lt : c.loop-index.index < length c.args.items.now.items = search rules in
-    let have : get_item c.loop-index.index (items_view c.args.items.now.items) ≡ Some (view c.item-item.result) = item_at c.args.items.now.items c.loop-index.index c.item-item.result lt (search rules) in
-    let step : c.loop-index.index + 1 ≡ suc c.loop-index.index = omega arith in
-    record {
-      so = in_turn _ _ _ _ c.loop-index.invariant.so (c.in_ok-add_item.ensures.so (items_view c.args.items.now.items) have);
-      grows = omega (arith, c.loop-index.invariant.grows, c.in_ok-add_item.ensures.grows);
-      smaller = rw step (omega (arith, c.loop-index.invariant.smaller, dropped_smaller c.args.items.now.items c.loop-index.index));
-    }
 
 pub add_member-returns-in-Some-clause-so : goal.add_member-returns-in-Some-clause-so
 add_member-returns-in-Some-clause-so t c =
@@ -48,7 +31,7 @@ pub add_member-returns-clause-so : goal.add_member-returns-clause-so
 add_member-returns-clause-so t c =
     let is : c.as_str-in-None.result.now ≡ under_name c.args.at.now c.args.name.now = c.as_str-in-None.ensures.value ∙ c.in_ok-place.ensures in
     let none : get c.args.name.now (view c.args.after.now) ≡ None = sym c.in-None.ensures in
-    on_ok_weaker c.push.result (λ adds ms have. old_member ms _ (view c.args.member.now) (Removed c.args.member) c.args.at.now c.as_str-in-None.result.now c.args.name.now _ _ (λ a b leads lacks. (leads, lacks)) is have none adds) c.push.ensures.so
+    on_ok_weaker c.push.result (λ adds ms have. old_member ms _ (view c.args.member.now) (Removed c.args.member) c.args.at.now c.as_str-in-None.result.now c.args.name.now _ _ (λ a b leads lacks. (leads, inl lacks)) is have none adds) c.push.ensures.so
 
 pub add_members-loop-name-preserved : goal.add_members-loop-name-preserved
 add_members-loop-name-preserved t c =
@@ -67,8 +50,60 @@ add_parts-returns-in_ok-add_members-in-Object-Object-clause-so t c =
     let second : view c.args.after.now ≡ object (members_view c.in-Object-Object.others.entries) = ap view c.in-Object-Object.is-1 ∙ view-Object c.in-Object-Object.others in
     on_ok_weaker c.add_new_members.result (λ adds. both_parts _ _ _ _ c.args.at.now _ _ _ first second c.in_ok-add_members-in-Object-Object.ensures.so adds) c.add_new_members.ensures.so
 
-pub add_parts-returns-in_ok-add_items-in-Array-Array-clause-so : goal.add_parts-returns-in_ok-add_items-in-Array-Array-clause-so
-add_parts-returns-in_ok-add_items-in-Array-Array-clause-so t c =
+pub add_parts-returns-in-Array-Array-clause-so : goal.add_parts-returns-in-Array-Array-clause-so
+add_parts-returns-in-Array-Array-clause-so t c =
     let first : view c.args.before.now ≡ array (items_view c.in-Array-Array.items.items) = ap view c.in-Array-Array.is-0 ∙ view-Array c.in-Array-Array.items in
     let second : view c.args.after.now ≡ array (items_view c.in-Array-Array.others.items) = ap view c.in-Array-Array.is-1 ∙ view-Array c.in-Array-Array.others in
-    on_ok_weaker c.add_new_items.result (λ adds. both_parts _ _ _ _ c.args.at.now _ _ _ first second c.in_ok-add_items-in-Array-Array.ensures.so adds) c.add_new_items.ensures.so
+    on_ok_weaker c.add_items.result (λ adds. at_both _ _ _ _ c.args.at.now _ _ first second adds) c.add_items.ensures.so
+
+pub add_items-loop-step-preserved : goal.add_items-loop-step-preserved
+add_items-loop-step-preserved t c =
+    record {
+      so = in_turn _ _ _ _ c.loop-step.invariant.so c.in_ok-add_step.ensures.so;
+      grows = omega (arith, c.loop-step.invariant.grows, c.in_ok-add_step.ensures.grows);
+    }
+
+pub add_step-add_differences-requires : goal.add_step-add_differences-requires
+add_step-add_differences-requires t c =
+    let lt : c.in-Both.index < length c.args.items.now.items = search rules in
+    let item : get_item c.in-Both.index (items_view c.args.items.now.items) ≡ Some (view c.index.result.now) = item_at _ _ _ lt c.index.ensures in
+    let smaller : size (view c.index.result.now) ≤ items_size (items_view c.args.items.now.items) = within_size _ _ _ item in
+    omega (arith, smaller)
+
+pub add_step-returns-in_ok-place-in-Both-clause-so : goal.add_step-returns-in_ok-place-in-Both-clause-so
+add_step-returns-in_ok-place-in-Both-clause-so t c =
+    let is : c.as_str.result.now ≡ under_index c.args.at.now c.in-Both.index = c.as_str.ensures.value ∙ c.in_ok-place-in-Both.ensures in
+    let first : c.in-Both.index < length c.args.items.now.items = search rules in
+    let second : c.in-Both.index < length c.args.others.now.items = search rules in
+    let item : get_item c.in-Both.index (items_view c.args.items.now.items) ≡ Some (view c.index.result.now) = item_at _ _ _ first c.index.ensures in
+    let other : get_item c.in-Both.index (items_view c.args.others.now.items) ≡ Some (view c.index-in-Both.result.now) = item_at _ _ _ second c.index-in-Both.ensures in
+    on_ok_weaker c.add_differences.result (λ adds. item_adds _ _ _ _ c.args.at.now c.as_str.result.now c.in-Both.index _ _ is item other adds) c.add_differences.ensures.so
+
+pub add_step-returns-in_ok-place-in-First-clause-so : goal.add_step-returns-in_ok-place-in-First-clause-so
+add_step-returns-in_ok-place-in-First-clause-so t c =
+    let is : c.as_str-in-First.result.now ≡ under_index c.args.at.now c.in-First.index = c.as_str-in-First.ensures.value ∙ c.in_ok-place-in-First.ensures in
+    let lt : c.in-First.index < length c.args.items.now.items = search rules in
+    let item : get_item c.in-First.index (items_view c.args.items.now.items) ≡ Some (view c.index-in-First.result.now) = item_at _ _ _ lt c.index-in-First.ensures in
+    let step : IsStepOf (items_view c.args.items.now.items) (items_view c.args.others.now.items) c.args.step = search rules in
+    let alone : IsStepOf (items_view c.args.items.now.items) (items_view c.args.others.now.items) (First c.in-First.index) = subst (IsStepOf (items_view c.args.items.now.items) (items_view c.args.others.now.items)) c.in-First.is step in
+    let differ : AreSame (array (items_view c.args.items.now.items)) (array (items_view c.args.others.now.items)) → ⊥ = search rules in
+    on_ok_weaker c.push.result (λ adds. old_item _ _ _ (Removed c.index-in-First.result) c.args.at.now c.as_str-in-First.result.now c.in-First.index _ _ (λ a b leads unlike. (leads, inr unlike)) is item differ alone adds) c.push.ensures.so
+
+pub add_step-returns-in_ok-place-in-Second-clause-so : goal.add_step-returns-in_ok-place-in-Second-clause-so
+add_step-returns-in_ok-place-in-Second-clause-so t c =
+    let is : c.as_str-in-Second.result.now ≡ under_index c.args.at.now c.in-Second.index = c.as_str-in-Second.ensures.value ∙ c.in_ok-place-in-Second.ensures in
+    let lt : c.in-Second.index < length c.args.others.now.items = search rules in
+    let other : get_item c.in-Second.index (items_view c.args.others.now.items) ≡ Some (view c.index-in-Second.result.now) = item_at _ _ _ lt c.index-in-Second.ensures in
+    let step : IsStepOf (items_view c.args.items.now.items) (items_view c.args.others.now.items) c.args.step = search rules in
+    let alone : IsStepOf (items_view c.args.items.now.items) (items_view c.args.others.now.items) (Second c.in-Second.index) = subst (IsStepOf (items_view c.args.items.now.items) (items_view c.args.others.now.items)) c.in-Second.is step in
+    let differ : AreSame (array (items_view c.args.items.now.items)) (array (items_view c.args.others.now.items)) → ⊥ = search rules in
+    on_ok_weaker c.push-in-Second.result (λ adds. new_item _ _ _ (Added c.index-in-Second.result) c.args.at.now c.as_str-in-Second.result.now c.in-Second.index _ _ (λ a b leads unlike. (leads, inr unlike)) is other differ alone adds) c.push-in-Second.ensures.so
+
+pub add_items-add_step-requires : goal.add_items-add_step-requires
+add_items-add_step-requires t c =
+    let ds = items_view c.args.items.now.items in
+    let es = items_view c.args.others.now.items in
+    let lt : c.loop-step.step-index < length c.in_ok-steps.steps.items = search rules in
+    let step : IsStepOf ds es (get_or c.deref-step-items.result.now c.loop-step.step-index Same) =
+    subst (λ (xs : List Step). IsStepOf ds es (get_or xs c.loop-step.step-index Same)) (sym c.deref-step-items.ensures.value) (c.in_ok-steps.ensures.each c.loop-step.step-index Same lt) in
+    (search rules, (search rules, (search rules, step)))

@@ -1,5 +1,5 @@
-use Rattle.std.proofs.Common.{◌≡◌, ◌+◌, ◌*◌, ◌≤◌, drop, length, List, ℕ}
-use Rattle.serde_json.specs.Data.{Data, object, array}
+use Rattle.std.proofs.Common.{◌+◌, ◌*◌, ◌≤◌, length}
+use Rattle.serde_json.specs.Data.{object, array}
 use Rattle.serde_json.specs.View.{view, items_view, members_view}
 use Rattle.oci_json_model.specs.Sizes.{size, items_size, members_size}
 use Rattle.oci_diff.specs.Differs.{StandAt, AddsIf}
@@ -12,8 +12,8 @@ decreases-add_differences l = 6 * size (view l.before.now) + 2
 abbrev pub decreases-add_parts : goal.decreases-add_parts
 decreases-add_parts l = 6 * size (view l.before.now) + 1
 
-abbrev pub decreases-add_item : goal.decreases-add_item
-decreases-add_item l = 6 * size (view l.item.now) + 3
+abbrev pub decreases-add_step : goal.decreases-add_step
+decreases-add_step l = 6 * items_size (items_view l.items.now.items) + 3
 
 abbrev pub decreases-add_member : goal.decreases-add_member
 decreases-add_member l = 6 * size (view l.member.now) + 3
@@ -24,11 +24,10 @@ decreases-add_items l = 6 * items_size (items_view l.items.now.items) + 4
 abbrev pub decreases-add_members : goal.decreases-add_members
 decreases-add_members l = 6 * members_size (members_view l.members.now.entries) + 4
 
-abbrev pub invariant-add_items-loop-index : goal.invariant-add_items-loop-index
-invariant-add_items-loop-index l = record {
-  so : AddsIf (StandAt (array (items_view l.items.items)) (view l.after) l.at) l.initial.found.items l.found.items;
+abbrev pub invariant-add_items-loop-step : goal.invariant-add_items-loop-step
+invariant-add_items-loop-step l = record {
+  so : AddsIf (StandAt (array (items_view l.items.items)) (array (items_view l.others.items)) l.at) l.initial.found.items l.found.items;
   grows : length l.initial.found.items ≤ length l.found.items;
-  smaller : items_size (items_view (drop l.index l.items.items)) ≤ items_size (items_view l.items.items);
 }
 
 abbrev pub invariant-add_members-loop-name : goal.invariant-add_members-loop-name

@@ -1,11 +1,10 @@
-use Rattle.std.proofs.Common.{◌++◌, sym, ap, ◌∙◌}
-use Rattle.json.specs.Tree.{json_tokens}
+use Rattle.std.proofs.Common.{sym, ap, ◌∙◌, subst}
 use Rattle.json.proofs.Found.{Some_inj}
 use Rattle.serde_json.specs.Data.{null}
-use Rattle.serde_json.specs.Written.{outline}
 use Rattle.oci_json_model.specs.Value.{value}
 use Rattle.oci_schema_types.specs.Shapes.{part_shape, schema_shape, default_plain}
 use Rattle.oci_schema_types.specs.declared.scalar.Presence.TheVariants.{Nullable, Defaulted}
+use Rattle.oci_schema_bytes.specs.Walks.{WritesTree}
 use Rattle.oci_schema_bytes.proofs.FieldWalk.{if_done}
 use Rattle.oci_schema_bytes.proofs.Presences.{written_as}
 use Rattle.oci_schema_bytes.proofs.absent.write_absent.Goals as goal
@@ -13,7 +12,7 @@ use Rattle.oci_schema_bytes.proofs.absent.write_absent.Goals as goal
 pub returns-in-Nullable : goal.returns-in-Nullable
 returns-in-Nullable c =
     if_done c.write_null.result _ _ c.write_null.ensures
-    (λ w f n e. w ∙ ap (λ x. c.args.out.now ++ json_tokens (outline x)) (Some_inj null n (sym (written_as f c.args.member.now Nullable c.in-Nullable.is) ∙ e)))
+    (λ w f n e. subst (λ x. WritesTree x c.args.out.now c.write_null.new.out) (Some_inj null n (sym (written_as f c.args.member.now Nullable c.in-Nullable.is) ∙ e)) w)
 
 pub returns-in-Scalar : goal.returns-in-Scalar
 returns-in-Scalar c =
@@ -21,4 +20,4 @@ returns-in-Scalar c =
     let x = c.in-Defaulted.default in
     if_done c.write_default.result _ _ c.write_default.ensures
     (λ w f n e.
-    w ∙ ap (λ y. c.args.out.now ++ json_tokens (outline y)) (sym (ap (λ s. value (schema_shape f s) (default_plain x)) c.in-One.is ∙ ap (λ p. value (part_shape f p) (default_plain x)) c.in-Scalar.is) ∙ Some_inj (value (schema_shape f m.schema) (default_plain x)) n (sym (written_as f m (Defaulted x) c.in-Defaulted.is) ∙ e)))
+    subst (λ y. WritesTree y c.args.out.now c.write_default.new.out) (sym (ap (λ s. value (schema_shape f s) (default_plain x)) c.in-One.is ∙ ap (λ p. value (part_shape f p) (default_plain x)) c.in-Scalar.is) ∙ Some_inj (value (schema_shape f m.schema) (default_plain x)) n (sym (written_as f m (Defaulted x) c.in-Defaulted.is) ∙ e)) w)

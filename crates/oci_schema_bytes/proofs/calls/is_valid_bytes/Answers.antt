@@ -3,9 +3,9 @@ use Rattle.oci_schema_types.specs.Shapes.{schema_shape}
 use Rattle.oci_schema_bytes.proofs.Documents.{accepted_document}
 use Rattle.oci_schema_bytes.proofs.calls.is_valid_bytes.Goals as goal
 
-pub returns-then-is_accepted-clause-ok : goal.returns-then-is_accepted-clause-ok
-returns-then-is_accepted-clause-ok g c =
+pub returns-then-accepted-clause-ok : goal.returns-then-accepted-clause-ok
+returns-then-accepted-clause-ok g c =
     let s = schema_shape (g.T.Records.shape_at c.args.records.now) c.args.schema.now in
-    let k = c.is_accepted.ensures c.if-is_accepted.true in
+    let k = c.in_ok-accepted.ensures c.if-accepted.true in
     let m = accepted_document s c.args.bytes.now k.0 c.requires k.1 k.2 in
     ((λ h. (m.0, m.1)), (λ h. refl))

@@ -5,4 +5,4 @@ use Rattle.oci_schema_bytes.proofs.lane.is_accepted.Goals as goal
 
 pub returns : goal.returns
 returns g c = λ h.
-    of_some (λ w. w.items) (schema_shape (g.T.Records.shape_at c.args.records.now) c.args.schema.now) c.args.bytes.now c.normal_text.result c.normal_text.ensures (sym c.is_some.ensures ∙ h)
+    of_some (λ w. w.items) (schema_shape (g.T.Records.shape_at c.args.records.now) c.args.schema.now) c.args.bytes.now c.in_ok-text.text c.in_ok-text.ensures (sym c.is_some.ensures ∙ h)

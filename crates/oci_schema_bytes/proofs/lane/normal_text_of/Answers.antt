@@ -1,4 +1,5 @@
 use Rattle.std.proofs.Common.{◌≡◌, Some, None, subst}
+use Rattle.std.proofs.lemmas.Result.{IfOk-weaker}
 use Rattle.std.specs.Prelude.{MatchOption}
 use Rattle.serde_json.specs.Data.{Data}
 use Rattle.serde_json.specs.Read.{read}
@@ -7,8 +8,9 @@ use Rattle.oci_schema_types.specs.Shapes.{schema_shape}
 use Rattle.oci_schema_bytes.proofs.Documents.{written_of_tape}
 use Rattle.oci_schema_bytes.proofs.lane.normal_text_of.Goals as goal
 
-pub returns-in-Ok-write_tape : goal.returns-in-Ok-write_tape
-returns-in-Ok-write_tape g c =
+pub returns-in-Some : goal.returns-in-Some
+returns-in-Some g c =
     let text = c.args.text.now in
     let m = subst (λ o. MatchOption o (read text ≡ None) (λ ts. (d : Data) × (read text ≡ Some d) × BeginsWithData ts d)) c.in-Some.is c.in-Ok.ensures.ok in
-    written_of_tape (λ w. w.items) (schema_shape (g.T.Records.shape_at c.args.records.now) c.args.schema.now) text c.in-Some.tape c.in-Ok-write_tape.written m c.in-Ok-write_tape.ensures
+    IfOk-weaker c.write_tape.result _ _
+    (λ o made. written_of_tape (λ w. w.items) (schema_shape (g.T.Records.shape_at c.args.records.now) c.args.schema.now) text c.in-Some.tape o m made) c.write_tape.ensures

@@ -1,0 +1,246 @@
+//! What the words of the command line ask for.
+use crate::commands::ciderglen;
+use clap::error::ErrorKind;
+use clap::{ArgMatches, Error};
+use oci_content::Algorithm;
+use oci_kinds::Kind;
+use oci_policies::Bump;
+use oci_report::kind_named;
+use oci_rules::{Level, Platform, Rule};
+use oci_tool::{Asked, Check, Compare, Format, Style, Unknown};
+use oci_verify::Options;
+use std::alloc::{AllocError, Global};
+use std::{env, io};
+
+/// All words of the command line, the program's name first.
+pub fn words_of<R: env::Env + AllocGlobal>(rt: &R) -> io::Result<Vec<String>> {
+    let mut words = Vec::new(rt.alloc());
+    for word in env::args(rt)? {
+        words.push(word).map_err(AllocError::from)?;
+    }
+    Ok(words)
+}
+
+/// The command and its arguments, or a text to be shown in their place.
+pub fn matches_of<'a>(alloc: Global, words: &'a [String]) -> Result<ArgMatches<'a>, Error> {
+    ciderglen(alloc)?.try_get_matches_from(words)
+}
+
+/// The exit status after a text was shown in place of a command.
+pub fn status_of(error: &Error) -> u8 {
+    match error.kind() {
+        ErrorKind::DisplayHelp | ErrorKind::DisplayVersion => 0,
+        ErrorKind::OutOfMemory => 3,
+        _ => 2,
+    }
+}
+
+/// How `verify` is asked to verify.
+pub fn options_in(given: &ArgMatches<'_>) -> Options {
+    let mut options = Options::new();
+    options.json = given.get_str("format") == Some("json");
+    options.strict = given.get_flag("strict");
+    options.quick = given.get_flag("quick");
+    options.progress = given.get_flag("progress");
+    options
+}
+
+/// The command of this name that its arguments ask for, with the rules of a policy; what it names is kept in the arena. Fails if out of
+/// memory.
+pub fn asked<'a>(
+    name: &str,
+    given: &ArgMatches<'_>,
+    policy: &'a [Rule<'a>],
+    arena: &'a Bump,
+    alloc: Global,
+) -> Result<Option<Asked<'a>>, AllocError> {
+    match name {
+        "check" => Ok(Some(Asked::Check(check_in(given, policy, arena, alloc)?))),
+        "fmt" => Ok(Some(Asked::Format(format_in(given, arena)?))),
+        "diff" => Ok(Some(Asked::Compare(compare_in(given, arena)?))),
+        _ => asked_of_texts(name, given, arena, alloc),
+    }
+}
+
+/// The same of the commands on texts and on files of any kind.
+fn asked_of_texts<'a>(
+    name: &str,
+    given: &ArgMatches<'_>,
+    arena: &'a Bump,
+    alloc: Global,
+) -> Result<Option<Asked<'a>>, AllocError> {
+    match name {
+        "ref" => Ok(Some(reference_in(given, arena, alloc)?)),
+        "digest" => Ok(Some(digest_in(given, arena, alloc)?)),
+        "pin" => Ok(Some(pin_in(given, arena)?)),
+        _ => asked_of_books(name, given, arena),
+    }
+}
+
+/// The same of the commands that show rules and schemas.
+fn asked_of_books<'a>(
+    name: &str,
+    given: &ArgMatches<'_>,
+    arena: &'a Bump,
+) -> Result<Option<Asked<'a>>, AllocError> {
+    match name {
+        "rules" => Ok(Some(Asked::Rules(text_if(given, "NAME", arena)?))),
+        "schema" => Ok(schema_in(given)),
+        _ => Ok(None),
+    }
+}
+
+fn reference_in<'a>(
+    given: &ArgMatches<'_>,
+    arena: &'a Bump,
+    alloc: Global,
+) -> Result<Asked<'a>, AllocError> {
+    let texts = texts_in(given, "TEXT", arena, alloc)?;
+    Ok(Asked::Reference(style_in(given), texts))
+}
+
+fn digest_in<'a>(
+    given: &ArgMatches<'_>,
+    arena: &'a Bump,
+    alloc: Global,
+) -> Result<Asked<'a>, AllocError> {
+    let texts = texts_in(given, "FILE", arena, alloc)?;
+    if given.get_flag("parse") {
+        return Ok(Asked::Digest(texts));
+    }
+    Ok(Asked::FileDigests(algorithm_in(given), texts))
+}
+
+fn pin_in<'a>(given: &ArgMatches<'_>, arena: &'a Bump) -> Result<Asked<'a>, AllocError> {
+    let text = text_in(given, "TEXT", arena)?;
+    let file = text_in(given, "FILE", arena)?;
+    Ok(Asked::Pin(text, file))
+}
+
+fn check_in<'a>(
+    given: &ArgMatches<'_>,
+    policy: &'a [Rule<'a>],
+    arena: &'a Bump,
+    alloc: Global,
+) -> Result<Check<'a>, AllocError> {
+    Ok(Check {
+        kind: kind_in(given),
+        rules: given.get_flag("rules"),
+        policy,
+        level: level_in(given),
+        platform: platform_in(given),
+        unknown: unknown_in(given),
+        style: style_in(given),
+        quiet: given.get_flag("quiet"),
+        files: texts_in(given, "FILE", arena, alloc)?,
+    })
+}
+
+fn format_in<'a>(given: &ArgMatches<'_>, arena: &'a Bump) -> Result<Format<'a>, AllocError> {
+    Ok(Format {
+        kind: kind_in(given),
+        pretty: given.get_flag("pretty"),
+        check: given.get_flag("check"),
+        quiet: given.get_flag("quiet"),
+        verbose: given.get_flag("verbose"),
+        output: text_if(given, "output", arena)?,
+        file: text_in(given, "FILE", arena)?,
+    })
+}
+
+fn compare_in<'a>(given: &ArgMatches<'_>, arena: &'a Bump) -> Result<Compare<'a>, AllocError> {
+    Ok(Compare {
+        kind: kind_in(given),
+        style: style_in(given),
+        quiet: given.get_flag("quiet"),
+        before: text_in(given, "A", arena)?,
+        after: text_in(given, "B", arena)?,
+    })
+}
+
+fn schema_in<'a>(given: &ArgMatches<'_>) -> Option<Asked<'a>> {
+    Some(Asked::Schema(kind_named(given.get_str("KIND")?)?))
+}
+
+fn level_in(given: &ArgMatches<'_>) -> Level {
+    match given.get_str("level") {
+        Some("must") => Level::Must,
+        Some("stated") => Level::Stated,
+        Some("should") => Level::Should,
+        _ => Level::Host,
+    }
+}
+
+fn platform_in(given: &ArgMatches<'_>) -> Option<Platform> {
+    match given.get_str("platform")? {
+        "linux" => Some(Platform::Linux),
+        "windows" => Some(Platform::Windows),
+        "solaris" => Some(Platform::Solaris),
+        "vm" => Some(Platform::Vm),
+        "zos" => Some(Platform::Zos),
+        "freebsd" => Some(Platform::FreeBsd),
+        _ => None,
+    }
+}
+
+fn unknown_in(given: &ArgMatches<'_>) -> Unknown {
+    match given.get_str("unknown") {
+        Some("deny") => Unknown::Deny,
+        Some("warn") => Unknown::Warn,
+        _ => Unknown::Allow,
+    }
+}
+
+fn kind_in(given: &ArgMatches<'_>) -> Option<Kind> {
+    kind_named(given.get_str("kind")?)
+}
+
+fn style_in(given: &ArgMatches<'_>) -> Style {
+    match given.get_str("format") {
+        Some("json") => Style::Json,
+        Some("sarif") => Style::Sarif,
+        _ => Style::Text,
+    }
+}
+
+fn algorithm_in(given: &ArgMatches<'_>) -> Algorithm {
+    let named = given.get_str("algorithm").and_then(Algorithm::from_name);
+    named.unwrap_or(Algorithm::Sha256)
+}
+
+/// The texts or files under a name, or the name of standard input.
+fn texts_in<'a>(
+    given: &ArgMatches<'_>,
+    name: &str,
+    arena: &'a Bump,
+    alloc: Global,
+) -> Result<&'a [&'a str], AllocError> {
+    let mut kept = Vec::new(alloc);
+    match given.get_strs(name) {
+        Some(texts) => {
+            for text in texts {
+                kept.push(arena.try_alloc_str(text)?)?;
+            }
+        }
+        None => kept.push(arena.try_alloc_str("-")?)?,
+    }
+    let kept = arena.try_alloc_slice_copy(kept.as_slice())?;
+    Ok(kept)
+}
+
+/// The text or file under a name, if there is one.
+fn text_if<'a>(
+    given: &ArgMatches<'_>,
+    name: &str,
+    arena: &'a Bump,
+) -> Result<Option<&'a str>, AllocError> {
+    match given.get_str(name) {
+        Some(text) => Ok(Some(arena.try_alloc_str(text)?)),
+        None => Ok(None),
+    }
+}
+
+/// The text or file under a name, or the name of standard input.
+fn text_in<'a>(given: &ArgMatches<'_>, name: &str, arena: &'a Bump) -> Result<&'a str, AllocError> {
+    arena.try_alloc_str(given.get_str(name).unwrap_or("-"))
+}

@@ -1,0 +1,164 @@
+//! The program `ciderglen`: checks, formats, compares and shows the documents of the Open Container Initiative.
+#![tactic(auto)]
+
+mod commands;
+mod files;
+mod line;
+mod rules;
+mod watch;
+
+use clap::ArgMatches;
+use files::FileStore;
+use line::{asked, matches_of, options_in, status_of, words_of};
+use oci_layout::Folder;
+use oci_policies::{Bump, Policy, PolicyError};
+use oci_rules::Rule;
+use oci_tool::{Asked, Tree};
+use oci_verify::Options;
+use rules::Specifications;
+use std::alloc::AllocError;
+use std::fs;
+use std::process::ExitCode;
+use watch::Started;
+
+fn main(rt: HostRuntime) -> ExitCode {
+    let alloc = rt.alloc();
+    let arena = Bump::new(alloc);
+    let words = match words_of(&rt) {
+        Ok(words) => words,
+        Err(fault) => {
+            let _ = eprintln!(&rt; "ciderglen: cannot read the arguments: {fault}");
+            return ExitCode::from(2);
+        }
+    };
+    let matches = match matches_of(alloc, words.as_slice()) {
+        Ok(matches) => matches,
+        Err(error) => {
+            let printed = error.print(&rt);
+            return ExitCode::from(if printed.is_ok() {
+                status_of(&error)
+            } else {
+                3
+            });
+        }
+    };
+    ExitCode::from(perform(&rt, &arena, &matches))
+}
+
+/// Runs the command that the matches ask for, and returns the exit status.
+fn perform(rt: &HostRuntime, arena: &Bump, matches: &ArgMatches<'_>) -> u8 {
+    let Some((name, given)) = matches.subcommand() else {
+        return 2;
+    };
+    match name {
+        "verify" => match given.get_str("DIR") {
+            Some(root) => verify(rt, &options_in(given), root),
+            None => 2,
+        },
+        "tree" => tree(rt, given.get_str("FILE").unwrap_or("-")),
+        "check" => match policy_of(rt, given.get_str("policy"), arena) {
+            Ok(rules) => run_asked(rt, asked(name, given, rules, arena, rt.alloc())),
+            Err(status) => status,
+        },
+        _ => run_asked(rt, asked(name, given, &[], arena, rt.alloc())),
+    }
+}
+
+fn run_asked(rt: &HostRuntime, asked: Result<Option<Asked<'_>>, AllocError>) -> u8 {
+    match asked {
+        Ok(Some(asked)) => run(rt, &asked),
+        Ok(None) => 2,
+        Err(_) => {
+            let _ = eprintln!(rt; "ciderglen: out of memory");
+            3
+        }
+    }
+}
+
+/// Shows a document or an image layout as a tree.
+fn tree(rt: &HostRuntime, file: &str) -> u8 {
+    if is_folder(rt, file) {
+        show(rt, file)
+    } else {
+        run(rt, &Asked::Tree(Tree { file, layout: None }))
+    }
+}
+
+/// The rules of the policy in a file, if one is named. The error is the exit status: 2 if the file holds no policy, and 3 if it cannot
+/// be read, or if out of memory.
+fn policy_of<'a>(
+    rt: &HostRuntime,
+    file: Option<&str>,
+    arena: &'a Bump,
+) -> Result<&'a [Rule<'a>], u8> {
+    let Some(file) = file else {
+        return Ok(&[]);
+    };
+    let text = match fs::read_to_string(rt, file) {
+        Ok(text) => text,
+        Err(fault) => {
+            let _ = eprintln!(rt; "ciderglen: {file}: {fault}");
+            return Err(3);
+        }
+    };
+    match Policy::from_toml(text.as_str(), arena, rt.alloc()) {
+        Ok(policy) => Ok(policy.rules()),
+        Err(PolicyError::Memory) => {
+            let _ = eprintln!(rt; "ciderglen: out of memory");
+            Err(3)
+        }
+        Err(error) => {
+            let _ = eprintln!(rt; "ciderglen: {file}: {error}");
+            Err(2)
+        }
+    }
+}
+
+fn run(rt: &HostRuntime, asked: &Asked<'_>) -> u8 {
+    let mut store = FileStore::new(rt);
+    let mut writer = rt.stdout();
+    let mut errors = rt.stderr();
+    oci_tool::run(
+        &Specifications,
+        asked,
+        rt.alloc(),
+        &mut store,
+        &mut writer,
+        &mut errors,
+    )
+}
+
+fn verify(rt: &HostRuntime, options: &Options, root: &str) -> u8 {
+    let folder = Folder { rt, root };
+    let mut writer = rt.stdout();
+    let mut errors = rt.stderr();
+    oci_verify::run(
+        &folder,
+        options,
+        rt.alloc(),
+        &Started::now(rt),
+        &mut writer,
+        &mut errors,
+    )
+}
+
+fn is_folder(rt: &HostRuntime, name: &str) -> bool {
+    match fs::metadata(rt, name) {
+        Ok(found) => found.is_dir(),
+        Err(_) => false,
+    }
+}
+
+/// Shows an image layout as a tree.
+fn show(rt: &HostRuntime, folder: &str) -> u8 {
+    match format!(in rt.alloc(); "{folder}/index.json") {
+        Ok(file) => {
+            let tree = Tree {
+                file: file.as_str(),
+                layout: Some(folder),
+            };
+            run(rt, &Asked::Tree(tree))
+        }
+        Err(_) => 3,
+    }
+}

@@ -1,0 +1,200 @@
+//! The rules that a document breaks.
+ghost use Rattle.std.specs.Prelude.{◌≡◌, ◌≤◌, ◌<◌, ◌++◌, ◌↔◌, ℕ, List, [], map, length, None, IfOk, IfErr, OnOk, IsSomeAnd};
+ghost use Rattle.std.specs.List.{flat_map};
+ghost use Rattle.serde_json.specs.View.{view};
+ghost use Rattle.oci_json_io.specs.Engines.{IsNoJson};
+ghost use Rattle.oci_text_base.specs.Refused.{IsJson, IsSchema};
+ghost use Rattle.oci_kinds.specs.declared.kind.Kind.{Kind};
+ghost use Rattle.oci_rule_books.specs.Kinds as books;
+ghost use Rattle.oci_rules.specs.Breaks.{KeepsAll};
+ghost use Rattle.oci_rules.specs.Listed.{all_broken};
+ghost use Rattle.oci_rules.specs.Tables.{rule_of, level_of as level_for, platform_of as platform_for};
+ghost use Rattle.oci_ffi.specs.Buffers.{Fills, Overflows, Untouched};
+ghost use Rattle.oci_ffi.specs.Kinds.{kind_numbered};
+ghost use Rattle.oci_ffi.specs.Rules.{Counts, level_numbered, platform_numbered, rules_up_to};
+
+use crate::buffer::put;
+use crate::input::status_of;
+use crate::kind::kind_of;
+use crate::level::{is_within, level_of};
+use crate::platform::{FREEBSD, platform_of};
+use crate::status::{
+    BUFFER_TOO_SMALL, DONE, INVALID_JSON, OUT_OF_MEMORY, UNKNOWN_KIND, UNKNOWN_LEVEL,
+    UNKNOWN_PLATFORM,
+};
+use oci_json_io::value_from_slice;
+use oci_kinds::Kind;
+use oci_rule_books::rules_of;
+use oci_rules::{Broken, Level, Platform, Rule, broken};
+use serde_json::Value;
+use std::alloc::{AllocError, Global};
+
+/// What of a document breaks rules.
+#[derive(Drop)]
+struct Findings {
+    /// A line for each part.
+    lines: String,
+    /// How many there are.
+    count: usize,
+}
+
+/// Adds the rules of the levels up to one.
+fn add_rules(
+    last: Level,
+    book: &'static [Rule<'static>],
+    rules: &mut Vec<Rule<'static>>,
+) -> Result<(), AllocError>
+    ensures { OnOk result (map rule_of rules.new.items ≡ map rule_of rules.old.items ++ rules_up_to (level_for last) (map rule_of book.now)) }
+{
+    for rule in book {
+        if is_within(rule.level, last) {
+            rules.push(*rule)?;
+        }
+    }
+    Ok(())
+}
+
+/// The rules of a kind of documents, of the levels up to one.
+#[tactic(auto, using(crate::proofs::Chosen::up_to_joined))]
+fn rules_for(kind: Kind, last: Level, alloc: Global) -> Result<Vec<Rule<'static>>, AllocError>
+    ensures { IfOk result (λ v. map rule_of v.items ≡ rules_up_to (level_for last) (books.rules_of kind)) }
+{
+    let books = rules_of(kind, alloc)?;
+    let mut rules = Vec::new(alloc);
+    for book in &books {
+        add_rules(last, book, &mut rules)?;
+    }
+    Ok(rules)
+}
+
+/// A line for each part that breaks a rule.
+fn lines_of(found: &Vec<Broken>, alloc: Global) -> Result<String, AllocError> {
+    let mut lines = String::new(alloc);
+    for it in found {
+        let line = format!(in alloc; "{it}\n")?;
+        lines.push_str(line.as_str())?;
+    }
+    Ok(lines)
+}
+
+/// What of the value breaks the rules.
+#[tactic(auto, using(crate::proofs::Reported::all_counted, crate::proofs::Chosen::none_listed))]
+fn found_in(
+    kind: Kind,
+    last: Level,
+    platform: Platform,
+    value: &Value,
+    alloc: Global,
+) -> Result<Findings, AllocError>
+    ensures counted { IfOk result (λ r. r.count ≡ length (all_broken (rules_up_to (level_for last) (books.rules_of kind)) (platform_for platform) (view value.now))) }
+    ensures none { IfOk result (λ r. (r.count ≡ 0) ↔ KeepsAll (rules_up_to (level_for last) (books.rules_of kind)) (platform_for platform) (view value.now)) }
+{
+    let rules = rules_for(kind, last, alloc)?;
+    let found = broken(rules.as_slice(), platform, value, alloc)?;
+    let lines = lines_of(&found, alloc)?;
+    let count = found.len();
+    Ok(Findings { lines, count })
+}
+
+/// Writes what of the value breaks the rules.
+fn write(
+    alloc: Global,
+    kind: Kind,
+    last: Level,
+    platform: Platform,
+    value: &Value,
+    buffer: &mut [u8],
+    output_len: &mut usize,
+    count: &mut usize,
+) -> u32
+    requires { (output_len.old ≡ 0) × (count.old ≡ 0) }
+    ensures done { result ≡ DONE → (text : List ℕ) × Fills buffer.old buffer.new output_len.new text }
+    ensures small { result ≡ BUFFER_TOO_SMALL → (text : List ℕ) × Overflows buffer.old buffer.new output_len.new text }
+    ensures counted { result ≤ BUFFER_TOO_SMALL → count.new ≡ length (all_broken (rules_up_to (level_for last) (books.rules_of kind)) (platform_for platform) (view value.now)) }
+    ensures none { result ≤ BUFFER_TOO_SMALL → (count.new ≡ 0) ↔ KeepsAll (rules_up_to (level_for last) (books.rules_of kind)) (platform_for platform) (view value.now) }
+    ensures untouched { BUFFER_TOO_SMALL < result → Untouched buffer.old buffer.new output_len.new × (count.new ≡ 0) }
+    ensures status { result ≤ OUT_OF_MEMORY }
+{
+    match found_in(kind, last, platform, value, alloc) {
+        Ok(found) => {
+            *count = found.count;
+            put(found.lines.as_bytes(), buffer, output_len)
+        }
+        Err(_) => OUT_OF_MEMORY,
+    }
+}
+
+/// Reads the document, and writes what of it breaks the rules.
+fn report(
+    alloc: Global,
+    kind: Kind,
+    last: Level,
+    platform: u32,
+    document: &[u8],
+    buffer: &mut [u8],
+    output_len: &mut usize,
+    count: &mut usize,
+) -> u32
+    ensures done { result ≡ DONE → (text : List ℕ) × Fills buffer.old buffer.new output_len.new text }
+    ensures small { result ≡ BUFFER_TOO_SMALL → (text : List ℕ) × Overflows buffer.old buffer.new output_len.new text }
+    ensures counted { result ≤ BUFFER_TOO_SMALL → Counts kind (level_for last) platform document.now count.new }
+    ensures json { result ≡ INVALID_JSON → IsNoJson document.now }
+    ensures platform { result ≡ UNKNOWN_PLATFORM → FREEBSD < platform }
+    ensures untouched { BUFFER_TOO_SMALL < result → Untouched buffer.old buffer.new output_len.new × (count.new ≡ 0) }
+    ensures known { ¬ (result ≡ UNKNOWN_KIND) × ¬ (result ≡ UNKNOWN_LEVEL) }
+    ensures status { result ≤ UNKNOWN_PLATFORM }
+{
+    *output_len = 0;
+    *count = 0;
+    let value = match value_from_slice(alloc, document) {
+        Ok(value) => value,
+        Err(error) => return status_of(&error),
+    };
+    match platform_of(platform, &value) {
+        Some(on) => write(alloc, kind, last, on, &value, buffer, output_len, count),
+        None => UNKNOWN_PLATFORM,
+    }
+}
+
+/// Writes a line for each part of a document that breaks a rule of its kind, of the levels up to `level` and for the platform: its
+/// place as a JSON pointer (RFC 6901), a colon, a space, the name of the rule, in parentheses its level and where it is stated, a
+/// colon, a space, what is wanted and a newline. Sets `*count` to their number, which is 0 exactly if every such rule is kept. That a
+/// document is valid is not asked here.
+///
+/// Returns CIDERGLEN_INVALID_JSON, CIDERGLEN_UNKNOWN_KIND, CIDERGLEN_UNKNOWN_LEVEL or CIDERGLEN_UNKNOWN_PLATFORM if there is nothing
+/// to list. After any status but CIDERGLEN_DONE and CIDERGLEN_BUFFER_TOO_SMALL `*count` is 0.
+#[unsafe(no_mangle)]
+pub extern "C" fn ciderglen_broken_rules(
+    alloc: Global,
+    kind: u32,
+    level: u32,
+    platform: u32,
+    document: &[u8],
+    buffer: &mut [u8],
+    output_len: &mut usize,
+    count: &mut usize,
+) -> u32
+    ensures done { result ≡ DONE → (text : List ℕ) × Fills buffer.old buffer.new output_len.new text }
+    ensures small { result ≡ BUFFER_TOO_SMALL → (text : List ℕ) × Overflows buffer.old buffer.new output_len.new text }
+    ensures counted { result ≤ BUFFER_TOO_SMALL → IsSomeAnd (kind_numbered kind) (λ k. IsSomeAnd (level_numbered level) (λ l. Counts k l platform document.now count.new)) }
+    ensures json { result ≡ INVALID_JSON → IsNoJson document.now }
+    ensures kind { (result ≡ UNKNOWN_KIND) ↔ (kind_numbered kind ≡ None) }
+    ensures level { result ≡ UNKNOWN_LEVEL → level_numbered level ≡ None }
+    ensures platform { result ≡ UNKNOWN_PLATFORM → FREEBSD < platform }
+    ensures untouched { BUFFER_TOO_SMALL < result → Untouched buffer.old buffer.new output_len.new × (count.new ≡ 0) }
+    ensures status { result ≤ UNKNOWN_PLATFORM }
+{
+    let Some(kind) = kind_of(kind) else {
+        *output_len = 0;
+        *count = 0;
+        return UNKNOWN_KIND;
+    };
+    let Some(last) = level_of(level) else {
+        *output_len = 0;
+        *count = 0;
+        return UNKNOWN_LEVEL;
+    };
+    report(
+        alloc, kind, last, platform, document, buffer, output_len, count,
+    )
+}

@@ -1,0 +1,4 @@
+pub mod Kept
+pub mod Made
+pub mod Nesting
+pub mod Ordered

@@ -1,0 +1,10 @@
+use Rattle.std.proofs.Common.{◌≡◌, drop, map}
+use Rattle.oci_rules.specs.Tables.{texts_of}
+use Rattle.oci_policies.specs.Places.{step_of}
+use Rattle.oci_policies.specs.Steps.{steps_view}
+use Rattle.oci_policies.specs.Values.{behind, all}
+use Rattle.oci_policies.proofs.places.each_step.Given as goal
+
+-- what was read, and what is still to be read, is all
+abbrev pub invariant-loop-part : goal.invariant-loop-part
+invariant-loop-part l = behind (steps_view l.steps.items) (all step_of (texts_of (drop l.part-index l.part-items))) ≡ all step_of (texts_of l.parts.items)

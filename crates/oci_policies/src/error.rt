@@ -1,0 +1,88 @@
+//! Why a file is no policy.
+use std::alloc::{AllocError, AllocFailed};
+use thiserror::Error;
+
+/// Why a file is no policy.
+#[derive(Debug, Drop, Error)]
+pub enum PolicyError {
+    /// Out of memory.
+    #[error("out of memory")]
+    Memory,
+    /// The text is no TOML document; the line is that of the error.
+    #[error("line {line}: {}", .error.message())]
+    Toml {
+        /// The line, from 1.
+        line: usize,
+        /// What the TOML reader says.
+        error: toml::de::Error,
+    },
+    /// The document is no policy; the line is that at which the rule begins.
+    #[error("line {line}: {reason}")]
+    Rule {
+        /// The line, from 1.
+        line: usize,
+        /// What is wrong.
+        reason: Reason,
+    },
+}
+
+/// What is wrong with a rule.
+#[derive(Debug, Drop, Error)]
+pub enum Reason {
+    /// A member that has to be there is not.
+    #[error("`{0}` is missing")]
+    Missing(&'static str),
+    /// A member is of another kind, or has another value, than is asked for.
+    #[error("`{key}`: expected {expected}")]
+    Expected {
+        /// The name of the member.
+        key: &'static str,
+        /// What is asked for.
+        expected: &'static str,
+    },
+    /// There is no member of this name.
+    #[error("unknown member `{0}`")]
+    Unknown(String),
+    /// The table has no test.
+    #[error("it tests nothing: a member as `one_of` is missing")]
+    NoTest,
+    /// The table has two members of which one is a test, or none.
+    #[error("`{0}` beside another: a rule tests one thing")]
+    SecondTest(String),
+}
+
+/// Why a value is not read.
+#[derive(Debug, Drop)]
+pub(crate) enum Fault {
+    /// Out of memory.
+    Memory,
+    /// It is not what is asked for.
+    Refused(Reason),
+}
+
+impl From<AllocError> for Fault {
+    ghost use Rattle.std.specs.Prelude.{◌≡◌};
+    ghost use Rattle.oci_policies.specs.declared.error.Fault.TheVariants.{Memory};
+
+    ghost from_gives = { λ _ e. e ≡ Memory };
+
+    fn from(_refused: AllocError) -> Fault {
+        Fault::Memory
+    }
+}
+
+impl<T: Drop> From<AllocFailed<T>> for Fault {
+    ghost use Rattle.std.specs.Prelude.{◌≡◌};
+    ghost use Rattle.oci_policies.specs.declared.error.Fault.TheVariants.{Memory};
+
+    ghost from_gives = { λ _ e. e ≡ Memory };
+
+    fn from(_refused: AllocFailed<T>) -> Fault {
+        Fault::Memory
+    }
+}
+
+/// That a member is not what is asked for.
+pub(crate) fn expected(key: &'static str, expected: &'static str) -> Fault {
+    Fault::Refused(Reason::Expected { key, expected })
+}

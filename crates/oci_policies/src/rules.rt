@@ -1,0 +1,333 @@
+//! The rules of a policy, table by table.
+ghost use Rattle.std.specs.Prelude.{◌≡◌, ◌++◌, [], map, codes, MatchResult, IfOk, OnOk, IfErr, Some, None};
+ghost use Rattle.oci_rules.specs.Tables.{texts_of, level_of, platform_of, place_of, test_of};
+ghost use Rattle.oci_policies.specs.declared.error.Fault.TheVariants.{Memory};
+ghost use Rattle.oci_policies.specs.Policies as policies;
+ghost use Rattle.oci_policies.specs.Policies.{rule_at, rule_placed};
+ghost use Rattle.oci_policies.specs.Places.{steps_in};
+ghost use Rattle.oci_policies.specs.Steps.{step_view, steps_view, head_view, worded};
+ghost use Rattle.oci_policies.specs.Values.{Reads, each, list_in, under_or, behind};
+ghost use Rattle.toml.specs.View.{view, items_view, table_view};
+
+use crate::conditions::condition;
+use crate::error::{Fault, expected};
+use crate::kinds::test;
+use crate::places::{steps, steps_of};
+use crate::values::{found, kept_text, sole_other, text, under};
+use bumpalo::Bump;
+use bumpalo::collections::into_bump_slice;
+use oci_rules::{Level, Platform, Rule, Step, Test};
+use std::alloc::Global;
+use toml::{Table, Value};
+
+static EVERY: [Platform; 6] = [
+    Platform::Linux,
+    Platform::Windows,
+    Platform::Solaris,
+    Platform::Vm,
+    Platform::Zos,
+    Platform::FreeBsd,
+];
+
+static RULE_NAMES: [&str; 8] = [
+    "name",
+    "level",
+    "source",
+    "message",
+    "platforms",
+    "at",
+    "when",
+    "then",
+];
+
+fn every() -> &'static [Platform]
+    ensures { map platform_of result.now ≡ policies.every_platform }
+{
+    &EVERY
+}
+
+fn rule_names() -> &'static [&'static str]
+    ensures { texts_of result.now ≡ policies.rule_names }
+{
+    &RULE_NAMES
+}
+
+fn level(value: &Value) -> Result<Level, Fault>
+    ensures { Reads level_of result (policies.level_in (view value.now)) }
+{
+    match text("level", value)? {
+        "must" => Ok(Level::Must),
+        "stated" => Ok(Level::Stated),
+        "should" => Ok(Level::Should),
+        "host" => Ok(Level::Host),
+        _ => Err(expected("level", "`must`, `stated`, `should` or `host`")),
+    }
+}
+
+fn platform(value: &Value) -> Result<Platform, Fault>
+    ensures { Reads platform_of result (policies.platform_in (view value.now)) }
+{
+    match text("platforms", value)? {
+        "linux" => Ok(Platform::Linux),
+        "windows" => Ok(Platform::Windows),
+        "solaris" => Ok(Platform::Solaris),
+        "vm" => Ok(Platform::Vm),
+        "zos" => Ok(Platform::Zos),
+        "freebsd" => Ok(Platform::FreeBsd),
+        _ => Err(expected(
+            "platforms",
+            "`linux`, `windows`, `solaris`, `vm`, `zos` or `freebsd`",
+        )),
+    }
+}
+
+fn listed_platforms<'a>(arena: &'a Bump, value: &Value) -> Result<&'a [Platform], Fault>
+    ensures { Reads (λ ps. map platform_of ps.now) result (list_in policies.platform_in (view value.now)) }
+{
+    match value.as_array() {
+        Some(items) => each_platform(arena, items),
+        None => Err(expected("platforms", "an array of strings")),
+    }
+}
+
+#[tactic(auto, using(crate::proofs::Lists::behind_nothing, crate::proofs::Lists::behind_more))]
+fn each_platform<'a>(arena: &'a Bump, items: &Vec<Value>) -> Result<&'a [Platform], Fault>
+    ensures { Reads (λ ps. map platform_of ps.now) result (each policies.platform_in (items_view items.now.items)) }
+{
+    let mut found = Vec::new(arena);
+    for item in items {
+        found.push(platform(item)?)?;
+    }
+    Ok(into_bump_slice(found))
+}
+
+/// The platforms that a rule is for: all, if it names none.
+fn platforms<'a>(arena: &'a Bump, table: &Table) -> Result<&'a [Platform], Fault>
+    ensures { Reads (λ ps. map platform_of ps.now) result (under_or policies.every_platform (list_in policies.platform_in) (codes "platforms") (table_view table.now)) }
+{
+    match found(table, "platforms") {
+        Some(value) => listed_platforms(arena, value),
+        None => Ok(every()),
+    }
+}
+
+fn test_in<'a>(arena: &'a Bump, table: &Table, alloc: Global) -> Result<Test<'a>, Fault>
+    ensures { Reads test_of result (policies.test_in (table_view table.now)) }
+{
+    let (key, value) = sole_other(rule_names(), table, alloc)?;
+    test(arena, key, value, alloc)
+}
+
+/// What the rules of a table have alike: a rule that looks nowhere yet.
+#[tactic(auto, using(crate::proofs::Both::first_missing, crate::proofs::Both::second_missing, crate::proofs::Both::both_there, crate::proofs::Both::mapped_missing))]
+fn head<'a>(arena: &'a Bump, table: &Table, alloc: Global) -> Result<Rule<'a>, Fault>
+    ensures { Reads head_view result (policies.head_of (table_view table.now)) }
+{
+    let name = kept_text(arena, "name", under(table, "name")?)?;
+    let level = level(under(table, "level")?)?;
+    let section = kept_text(arena, "source", under(table, "source")?)?;
+    let wanted = kept_text(arena, "message", under(table, "message")?)?;
+    let platforms = platforms(arena, table)?;
+    let test = test_in(arena, table, alloc)?;
+    Ok(Rule {
+        name,
+        level,
+        section,
+        wanted,
+        platforms,
+        place: &[],
+        test,
+    })
+}
+
+fn listed_places<'a>(
+    arena: &'a Bump,
+    value: &Value,
+    alloc: Global,
+) -> Result<Vec<Vec<Step<'a>>>, Fault>
+    ensures { Reads (λ v. map (λ s. steps_view s.items) v.items) result (list_in steps_in (view value.now)) }
+{
+    match value.as_array() {
+        Some(items) => each_place(arena, items, alloc),
+        None => Err(expected("at", "a place or an array of places")),
+    }
+}
+
+#[tactic(auto, using(crate::proofs::Lists::behind_nothing, crate::proofs::Lists::behind_more))]
+fn each_place<'a>(
+    arena: &'a Bump,
+    items: &Vec<Value>,
+    alloc: Global,
+) -> Result<Vec<Vec<Step<'a>>>, Fault>
+    ensures { Reads (λ v. map (λ s. steps_view s.items) v.items) result (each steps_in (items_view items.now.items)) }
+{
+    let mut found = Vec::new(alloc);
+    for item in items {
+        found.push(steps(arena, "at", item, alloc)?)?;
+    }
+    Ok(found)
+}
+
+/// The places of a table.
+fn places<'a>(arena: &'a Bump, value: &Value, alloc: Global) -> Result<Vec<Vec<Step<'a>>>, Fault>
+    ensures { Reads (λ v. map (λ s. steps_view s.items) v.items) result (policies.places_in (view value.now)) }
+{
+    match value.as_str() {
+        Some(text) => {
+            let mut found = Vec::new(alloc);
+            found.push(steps_of(arena, "at", text, alloc)?)?;
+            Ok(found)
+        }
+        None => listed_places(arena, value, alloc),
+    }
+}
+
+fn conditions<'a>(arena: &'a Bump, value: &Value, alloc: Global) -> Result<Vec<Step<'a>>, Fault>
+    ensures { Reads (λ v. steps_view v.items) result (list_in policies.step_if (view value.now)) }
+{
+    match value.as_array() {
+        Some(items) => each_condition(arena, items, alloc),
+        None => Err(expected("when", "an array of tables")),
+    }
+}
+
+/// A condition, as a step.
+#[tactic(auto, unfolding(crate::specs::Steps::step_view))]
+fn step_if<'a>(arena: &'a Bump, value: &Value, alloc: Global) -> Result<Step<'a>, Fault>
+    ensures { Reads step_view result (policies.step_if (view value.now)) }
+{
+    Ok(Step::When(condition(arena, value, alloc)?))
+}
+
+#[tactic(auto, using(crate::proofs::Lists::behind_nothing, crate::proofs::Lists::behind_more))]
+fn each_condition<'a>(
+    arena: &'a Bump,
+    items: &Vec<Value>,
+    alloc: Global,
+) -> Result<Vec<Step<'a>>, Fault>
+    ensures { Reads (λ v. steps_view v.items) result (each policies.step_if (items_view items.now.items)) }
+{
+    let mut found = Vec::new(alloc);
+    for item in items {
+        found.push(step_if(arena, item, alloc)?)?;
+    }
+    Ok(found)
+}
+
+fn when<'a>(arena: &'a Bump, table: &Table, alloc: Global) -> Result<Vec<Step<'a>>, Fault>
+    ensures { Reads (λ v. steps_view v.items) result (under_or [] (list_in policies.step_if) (codes "when") (table_view table.now)) }
+{
+    match found(table, "when") {
+        Some(value) => conditions(arena, value, alloc),
+        None => Ok(Vec::new(alloc)),
+    }
+}
+
+fn then<'a>(arena: &'a Bump, table: &Table, alloc: Global) -> Result<Vec<Step<'a>>, Fault>
+    ensures { Reads (λ v. steps_view v.items) result (under_or [] steps_in (codes "then") (table_view table.now)) }
+{
+    match found(table, "then") {
+        Some(value) => steps(arena, "then", value, alloc),
+        None => Ok(Vec::new(alloc)),
+    }
+}
+
+/// What comes behind each place.
+#[tactic(auto, using(crate::proofs::Both::first_missing, crate::proofs::Both::second_missing, crate::proofs::Both::both_there, crate::proofs::Both::mapped_missing))]
+fn rest<'a>(arena: &'a Bump, table: &Table, alloc: Global) -> Result<Vec<Step<'a>>, Fault>
+    ensures { Reads (λ v. steps_view v.items) result (policies.rest_of (table_view table.now)) }
+{
+    let mut steps = when(arena, table, alloc)?;
+    let then = then(arena, table, alloc)?;
+    append(&mut steps, &then)?;
+    Ok(steps)
+}
+
+fn append<'a>(steps: &mut Vec<Step<'a>>, more: &Vec<Step<'a>>) -> Result<(), Fault>
+    ensures ok { OnOk result (steps.new.items ≡ steps.old.items ++ more.now.items) }
+    ensures memory { IfErr result (λ e. e ≡ Memory) }
+{
+    steps.extend_from_slice(more.as_slice())?;
+    Ok(())
+}
+
+/// The steps of one place and of what comes behind it, in the arena.
+fn joined<'a>(
+    arena: &'a Bump,
+    place: &Vec<Step<'a>>,
+    rest: &Vec<Step<'a>>,
+) -> Result<&'a [Step<'a>], Fault>
+    ensures ok { IfOk result (λ s. s.now ≡ place.now.items ++ rest.now.items) }
+    ensures memory { IfErr result (λ e. e ≡ Memory) }
+{
+    let mut steps = Vec::from_slice(arena, place.as_slice())?;
+    steps.extend_from_slice(rest.as_slice())?;
+    Ok(into_bump_slice(steps))
+}
+
+/// The rule with this place.
+#[tactic(auto, unfolding(crate::specs::Policies::rule_placed))]
+fn placed<'a>(head: &Rule<'a>, place: &'a [Step<'a>]) -> Rule<'a>
+    ensures { worded result ≡ rule_placed (head_view head.now) (place_of place.now) }
+{
+    Rule {
+        name: head.name,
+        level: head.level,
+        section: head.section,
+        wanted: head.wanted,
+        platforms: head.platforms,
+        place,
+        test: head.test,
+    }
+}
+
+/// The rule that looks at a place and at what comes behind it.
+#[tactic(auto, using(crate::proofs::Lists::place_joined))]
+fn at_place<'a>(
+    arena: &'a Bump,
+    head: &Rule<'a>,
+    place: &Vec<Step<'a>>,
+    rest: &Vec<Step<'a>>,
+) -> Result<Rule<'a>, Fault>
+    ensures ok { IfOk result (λ r. worded r ≡ rule_at (head_view head.now) (steps_view place.now.items ++ steps_view rest.now.items)) }
+    ensures memory { IfErr result (λ e. e ≡ Memory) }
+{
+    let steps = joined(arena, place, rest)?;
+    Ok(placed(head, steps))
+}
+
+/// Adds a rule for each place.
+fn add_places<'a>(
+    arena: &'a Bump,
+    head: &Rule<'a>,
+    places: &Vec<Vec<Step<'a>>>,
+    rest: &Vec<Step<'a>>,
+    found: &mut Vec<Rule<'a>, &'a Bump>,
+) -> Result<(), Fault>
+    ensures ok { OnOk result (map worded found.new.items ≡ map worded found.old.items ++ map (λ s. rule_at (head_view head.now) (s ++ steps_view rest.now.items)) (map (λ s. steps_view s.items) places.now.items)) }
+    ensures memory { IfErr result (λ e. e ≡ Memory) }
+{
+    for place in places {
+        found.push(at_place(arena, head, place, rest)?)?;
+    }
+    Ok(())
+}
+
+/// Adds the rules of a table.
+#[tactic(auto, using(crate::proofs::Both::first_missing, crate::proofs::Both::second_missing, crate::proofs::Both::both_there, crate::proofs::Both::mapped_missing))]
+pub(crate) fn add_table<'a>(
+    arena: &'a Bump,
+    value: &Value,
+    found: &mut Vec<Rule<'a>, &'a Bump>,
+    alloc: Global,
+) -> Result<(), Fault>
+    ensures { MatchResult result (λ _. behind (map worded found.old.items) (policies.table_rules (view value.now)) ≡ Some (map worded found.new.items)) (λ e. ¬ (e ≡ Memory) → policies.table_rules (view value.now) ≡ None) }
+{
+    let Some(table) = value.as_table() else {
+        return Err(expected("rule", "an array of tables"));
+    };
+    let head = head(arena, table, alloc)?;
+    let places = places(arena, under(table, "at")?, alloc)?;
+    let rest = rest(arena, table, alloc)?;
+    add_places(arena, &head, &places, &rest, found)
+}

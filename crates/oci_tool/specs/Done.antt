@@ -1,0 +1,48 @@
+-- What a command has done, by its exit status.
+use Rattle.std.specs.Prelude.{◌≡◌, ◌⊎◌, ◌<◌, ℕ, List, length, true, false, Option, Some, None, IfSome, ⊤}
+use Rattle.std.specs.List.{All, HoldsAt}
+use Rattle.std.specs.Io.KnownBytes.{Appends}
+use Rattle.oci_doc_run.specs.Outputs.{WritesPinned}
+use Rattle.oci_kinds.specs.declared.kind.Kind.{Kind}
+use Rattle.oci_rules.specs.Rules.{Rule}
+use Rattle.oci_tool.specs.declared.asked.Asked.{Asked}
+use Rattle.oci_tool.specs.declared.asked.Asked.TheVariants.{Check, Format, Compare, Reference, Digest, FileDigests, Pin, Tree, Rules, Schema}
+use Rattle.oci_check.specs.Checks.{IsRight, IsWrong}
+use Rattle.oci_tool.specs.Formats.{Formats}
+use Rattle.oci_tool.specs.Texts.{IsReference, IsSomeDigest, AreDigestLines}
+
+-- the exit statuses of a command: done, the input is wrong, something could not be read or written
+abbrev pub IsStatus : ℕ → Type 0
+IsStatus status = (status ≡ 0) ⊎ ((status ≡ 1) ⊎ (status ≡ 3))
+
+-- after status 0, where `books` are the rules of the specifications by kinds, `holds` are the bytes of files, and `old` and `new` is what was written before and after, where they are known
+abbrev pub IsDone : (Kind → List Rule) → (List ℕ → Option (List ℕ)) → Option (List ℕ) → Option (List ℕ) → Asked → Type 0
+-- nothing is wrong with any file
+IsDone books holds old new (Check a) = All (λ f. IfSome (holds f.now) (IsRight books a)) a.files.now
+-- the file is canonical, or its canonical form was written
+IsDone books holds old new (Format a) =
+    (a.check ≡ true → IfSome (holds a.file.now) (λ bytes. Formats a.kind a.pretty (Some bytes) (λ text. text ≡ bytes)))
+    × (a.check ≡ false → a.output ≡ None → Formats a.kind a.pretty (holds a.file.now) (Appends old new))
+IsDone books holds old new (Compare a) = ⊤
+-- each text is a reference, or a digest
+IsDone books holds old new (Reference style texts) = All (λ t. IsReference t.now) texts.now
+IsDone books holds old new (Digest texts) = All (λ t. IsSomeDigest t.now) texts.now
+-- the digests of the files were written
+IsDone books holds old new (FileDigests algorithm files) = (text : List ℕ) × AreDigestLines algorithm holds files.now text × Appends old new text
+-- the reference with the digest of the descriptor was written
+IsDone books holds old new (Pin text file) = WritesPinned text.now (holds file.now) (Appends old new)
+IsDone books holds old new (Tree file) = ⊤
+IsDone books holds old new (Rules name) = ⊤
+IsDone books holds old new (Schema kind) = ⊤
+
+-- after status 1
+abbrev pub IsRejected : (Kind → List Rule) → (List ℕ → Option (List ℕ)) → Asked → Type 0
+-- something is wrong with one of the files
+IsRejected books holds (Check a) = (i : ℕ) × (i < length a.files.now) × HoldsAt (λ f. IfSome (holds f.now) (IsWrong books a)) a.files.now i
+IsRejected books holds (FileDigests algorithm files) = ⊥
+IsRejected books holds _ = ⊤
+
+-- the command writes neither output nor file
+abbrev pub IsSilent : Asked → Type 0
+IsSilent (Format a) = a.check ≡ true
+IsSilent _ = ⊥

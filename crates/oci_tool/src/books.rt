@@ -1,0 +1,102 @@
+//! The books of rules, for people.
+use oci_check::RuleBooks;
+use oci_kinds::Kind;
+use oci_report::render::word_of;
+use oci_report::{KINDS, title_of};
+use oci_rules::{Rule, Step};
+use std::alloc::{AllocError, Global};
+
+/// The rules of a kind of documents: a line for each, with its name, level and section, and what it wants.
+pub fn rules_of_kind<B: RuleBooks>(
+    books: &B,
+    kind: Kind,
+    alloc: Global,
+) -> Result<String, AllocError> {
+    let mut text = String::from_str(alloc, title_of(kind))?;
+    text.push_str("\n")?;
+    let mut told = Vec::new(alloc);
+    for book in books.books_of(kind, alloc)? {
+        for rule in book {
+            if !told.contains(&rule.name) {
+                told.push(rule.name)?;
+                push_rule(&mut text, rule, alloc)?;
+            }
+        }
+    }
+    Ok(text)
+}
+
+/// The rules of all kinds.
+pub fn all_rules<B: RuleBooks>(books: &B, alloc: Global) -> Result<String, AllocError> {
+    let mut text = String::new(alloc);
+    for kind in &KINDS {
+        if !text.is_empty() {
+            text.push_str("\n")?;
+        }
+        text.push_str(rules_of_kind(books, *kind, alloc)?.as_str())?;
+    }
+    Ok(text)
+}
+
+fn push_rule(text: &mut String, rule: &Rule<'_>, alloc: Global) -> Result<(), AllocError> {
+    let (name, wanted) = (rule.name, rule.wanted);
+    let (level, section) = (word_of(rule.level), rule.section);
+    let row = format!(in alloc; "  {name} [{level}: {section}]: {wanted}\n")?;
+    text.push_str(row.as_str())
+}
+
+/// The rules of a name, each with the places at which it is asked; none if there is no such rule.
+pub fn rules_of_name<B: RuleBooks>(
+    books: &B,
+    name: &str,
+    alloc: Global,
+) -> Result<Option<String>, AllocError> {
+    let mut text = String::new(alloc);
+    for kind in &KINDS {
+        add_of_kind(books, name, *kind, &mut text, alloc)?;
+    }
+    Ok(if text.is_empty() { None } else { Some(text) })
+}
+
+fn add_of_kind<B: RuleBooks>(
+    books: &B,
+    name: &str,
+    kind: Kind,
+    text: &mut String,
+    alloc: Global,
+) -> Result<(), AllocError> {
+    let mut found = false;
+    for book in books.books_of(kind, alloc)? {
+        for rule in book {
+            if rule.name == name {
+                if !found {
+                    found = true;
+                    text.push_str(title_of(kind))?;
+                    text.push_str("\n")?;
+                    push_rule(text, rule, alloc)?;
+                }
+                push_place(text, rule.place)?;
+            }
+        }
+    }
+    Ok(())
+}
+
+/// Adds the line of a place: `*` is each item of an array, `{}` each member of an object.
+fn push_place(text: &mut String, place: &[Step<'_>]) -> Result<(), AllocError> {
+    text.push_str("    at /")?;
+    let mut mark = "";
+    for step in place {
+        let word = match step {
+            Step::Member(name) => *name,
+            Step::EachItem => "*",
+            Step::EachMember => "{}",
+            Step::EachName => "{name}",
+            Step::When(_) => continue,
+        };
+        text.push_str(mark)?;
+        text.push_str(word)?;
+        mark = "/";
+    }
+    text.push_str("\n")
+}

@@ -1,0 +1,54 @@
+//! The commands `rules` and `schema`.
+ghost use Rattle.std.specs.Prelude.{IfOk};
+ghost use Rattle.oci_tool.specs.Done.{IsStatus};
+
+use crate::books::{all_rules, rules_of_kind, rules_of_name};
+use crate::texts::complain;
+use oci_check::RuleBooks;
+use oci_json_io::write_text;
+use oci_kinds::Kind;
+use oci_report::kind_named;
+use oci_report::table::table_of;
+use oci_text_base::Result;
+use std::alloc::Global;
+use std::io::Write;
+
+/// Writes the rules of all kinds of documents, or those of a kind, or a rule, by its name. Returns 0 if that was done, and 1 if there is
+/// no such kind and no such rule.
+pub fn rules<B: RuleBooks, W: Write, E: Write>(
+    books: &B,
+    name: Option<&str>,
+    alloc: Global,
+    writer: &mut W,
+    errors: &mut E,
+) -> Result<u8>
+    ensures { IfOk result IsStatus }
+{
+    let text = match name {
+        None => Some(all_rules(books, alloc)?),
+        Some(name) => match kind_named(name) {
+            Some(kind) => Some(rules_of_kind(books, kind, alloc)?),
+            None => rules_of_name(books, name, alloc)?,
+        },
+    };
+    match text {
+        Some(text) => {
+            write_text(text.as_bytes(), writer)?;
+            Ok(0)
+        }
+        None => {
+            complain(
+                "ciderglen: no kind of documents and no rule has this name\n",
+                errors,
+            );
+            Ok(1)
+        }
+    }
+}
+
+/// Writes the members of a kind of documents, and of each record that they name.
+pub fn schema<W: Write>(kind: Kind, alloc: Global, writer: &mut W) -> Result<()> {
+    let text = table_of(kind, alloc)?;
+    write_text(text.as_bytes(), writer)?;
+    Ok(())
+}

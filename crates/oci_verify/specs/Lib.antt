@@ -1,0 +1,1 @@
+pub use Rattle.oci_layout.specs.Sound
