@@ -3,6 +3,7 @@ pub mod Documents
 pub mod FieldWalk
 pub mod Finding
 pub mod MapWalk
+pub mod NormalSets
 pub mod Placing
 pub mod Presences
 pub mod Written

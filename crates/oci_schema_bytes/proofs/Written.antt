@@ -12,7 +12,7 @@ use Rattle.oci_schema_walks.specs.Allows.{is_in_range}
 use Rattle.oci_schema_walks.specs.Normalized.{accepts, normalized}
 use Rattle.oci_schema_bytes.specs.Walks.{WritesTree, IsTextOf, WritesWhole}
 
-string_kept : (d : Data) (t : List ℕ) → as_str d ≡ Some t → d ≡ string t
+pub string_kept : (d : Data) (t : List ℕ) → as_str d ≡ Some t → d ≡ string t
 string_kept null t e = cc
 string_kept (boolean b) t e = cc
 string_kept (number n) t e = cc

@@ -1,19 +1,21 @@
 -- What a walk over a tape writes: the tokens of normal forms.
-use Rattle.std.specs.Prelude.{◌≡◌, ℕ, ℤ, List, ◌∷◌, ◌++◌, true, Option, Some, None, ⊤}
+use Rattle.std.specs.Prelude.{◌≡◌, ℕ, ℤ, List, ◌∷◌, ◌++◌, length, Bool, true, Option, Some, None, ⊤}
 use Rattle.std.specs.Borrow.{Bor}
 use Rattle.std.specs.Ordering.{nat_cmp}
 use Rattle.std.specs.declared.cmp.Ordering.TheVariants.{Greater}
 use Rattle.std.specs.Cmp.Lexicographic.{slice_cmp}
 use Rattle.json.specs.Token.{Token, begin_object}
 use Rattle.json.specs.Tree.{json_tokens, members_tokens}
-use Rattle.serde_json.specs.Data.{Num, Data, number, Members}
+use Rattle.serde_json.specs.Data.{Num, Data, number, array, Members}
 use Rattle.serde_json.specs.Find.{as_integer, of_integer}
 use Rattle.serde_json.specs.Written.{outline, members_outline}
 use Rattle.oci_text_base.specs.Names.{is_listed}
 use Rattle.oci_json.specs.Readable.{IsReadable, HoldReadable}
 use Rattle.oci_json_model.specs.Shape.{Shape, text, named, open_name, digest_text, cpu_text}
+use Rattle.oci_json_model.specs.Value.{capability_texts}
 use Rattle.oci_json_tape.specs.Elements.{BeginsWithData}
 pub use Rattle.oci_json_values.specs.Values.{IfDone}
+use Rattle.oci_process_names.specs.Capability.{capability_table}
 use Rattle.oci_process_names.specs.CpuScan.{is_cpu_text}
 use Rattle.oci_schema_walks.specs.Allows.{is_digest_text, is_in_range}
 use Rattle.oci_schema_walks.specs.Normalized.{accepts, normalized}
@@ -47,3 +49,7 @@ IsTextOf s t = ⊥
 -- the number is an integer within the bounds, and was written
 abbrev pub WritesWhole : ℤ → ℤ → Num → List Token → List Token → Type 0
 WritesWhole low high n old new = (z : ℤ) × (as_integer n ≡ Some z) × (is_in_range low high (Some z) ≡ true) × WritesTree (number (of_integer z)) old new
+
+-- the value is what is written for some set of capabilities
+abbrev pub IsNormalSet : Data → Type 0
+IsNormalSet d = (bs : List Bool) × (length bs ≡ length capability_table) × (d ≡ array (capability_texts capability_table bs))

@@ -1,5 +1,5 @@
-//! Parts whose normal form is made of a value: sets of capabilities, key sets, details, free objects, and maps of strings whose names
-//! are not in order.
+//! Parts whose normal form is made of a value: key sets, details, free objects, maps of strings whose names are not in order, and sets
+//! of capabilities that are not in their normal form.
 ghost use Rattle.std.specs.Prelude.{ℕ, IsTrue};
 ghost use Rattle.oci_json_model.specs.Shape.{Shape, map};
 ghost use Rattle.oci_schema_types.specs.Shapes.{part_shape, scalar_shape, schema_shape};
@@ -11,6 +11,7 @@ use oci_json_text::CompactWriter;
 use oci_json_values::{value_of, write_value};
 use oci_schema_types::{Part, Records, Scalar, Schema};
 use oci_schema_walks::normal_value::normal_value;
+use oci_text_base::OciSpecError;
 use std::alloc::{AllocError, Global};
 
 /// How deep such a value nests at most: no deeper than a text may.
@@ -30,6 +31,7 @@ pub fn write_by_value<T: Records>(
     match value_of(element, DEPTH, alloc)? {
         Some(value) => match normal_value(records, schema, value, alloc) {
             Ok(normal) => write_value(&normal, out),
+            Err(OciSpecError::Memory) => Err(AllocError),
             Err(_) => Ok(false),
         },
         None => Ok(false),

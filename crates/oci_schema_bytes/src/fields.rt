@@ -1,5 +1,5 @@
 //! The members of a record that are written, found in a tape.
-ghost use Rattle.std.specs.Prelude.{◌≡◌, ℕ, true, false, Option, Some, None, IfSome, IsTrue};
+ghost use Rattle.std.specs.Prelude.{◌≡◌, ℕ, true, false, Option, Some, None, IfOk, IfSome, IsTrue};
 ghost use Rattle.serde_json.specs.Data.{Data, Members, put as with};
 ghost use Rattle.serde_json.specs.Find.{get};
 ghost use Rattle.oci_json_model.specs.Means.{get_second};
@@ -14,7 +14,7 @@ ghost use Rattle.oci_schema_bytes.specs.Fields.{written_for, accepted_for, Field
 use json::Element;
 use oci_json_tape::{find, is_null};
 use oci_schema_types::{Member, Presence};
-use std::alloc::Global;
+use std::alloc::{AllocError, Global};
 use std::cmp::Ordering;
 
 /// A member that is written: where its value stands, or else what is written for an absent one.
@@ -26,22 +26,22 @@ pub struct Field<'t, 'a> {
     pub value: Option<Element<'t, 'a>>,
 }
 
-/// The fields of an object, in byte order of their names; `None` if that was not found out.
+/// The fields of an object, in byte order of their names; `None` if that was not found out. Fails if out of memory.
 pub fn fields_of<'t, 'a>(
     members: &'static [Member],
     element: &Element<'t, 'a>,
     alloc: Global,
-) -> Option<Vec<Field<'t, 'a>>>
-    ensures { IfSome result (λ fields. (f : ℕ → Shape) (d : Data) → BeginsWithData element.now d
-        → AreFieldsOf f (members_in f members.now) d fields.items) }
+) -> Result<Option<Vec<Field<'t, 'a>>>, AllocError>
+    ensures { IfOk result (λ o. IfSome o (λ fields. (f : ℕ → Shape) (d : Data) → BeginsWithData element.now d
+        → AreFieldsOf f (members_in f members.now) d fields.items)) }
 {
-    let mut fields = Vec::new(alloc);
+    let mut fields = Vec::with_capacity(alloc, members.len())?;
     for member in members {
         if !add_member(member, element, &mut fields) {
-            return None;
+            return Ok(None);
         }
     }
-    Some(fields)
+    Ok(Some(fields))
 }
 
 /// Adds the member of an object to the fields, if it is written; `false` if that was not found out.

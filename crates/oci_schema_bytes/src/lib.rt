@@ -5,6 +5,7 @@
 mod absent;
 mod by_value;
 mod calls;
+mod capabilities;
 mod fields;
 mod lane;
 pub mod laws;

@@ -1,21 +1,23 @@
 //! The walk over a tape by a schema, which writes the normal form of what it finds.
 ghost use Rattle.std.specs.Prelude.{◌≡◌, IsTrue};
 ghost use Rattle.serde_json.specs.Data.{Data, Members};
-ghost use Rattle.oci_json_model.specs.Shape.{list, map};
+ghost use Rattle.oci_json_model.specs.Shape.{cap_set, list, map};
 ghost use Rattle.oci_json_model.specs.Means.{is_object as holds_members};
 ghost use Rattle.oci_json_tape.specs.Elements.{BeginsWithData};
+ghost use Rattle.oci_process_names.specs.Capability.{capability_table};
 ghost use Rattle.oci_schema_types.specs.Shapes.{part_shape, schema_shape};
 ghost use Rattle.oci_schema_bytes.specs.Fields.{FieldMeans, EachField, FieldIsAccepted, AreAccepted};
 ghost use Rattle.oci_schema_bytes.specs.Walks.{IfDone, WritesTree, WritesMembers, WritesNormal, IsAfter};
 
 use crate::absent::write_absent;
 use crate::by_value::{is_by_value, is_string, write_by_value};
+use crate::capabilities::{is_normal_set, write_strings};
 use crate::fields::{Field, fields_of};
 use crate::scalar::write_scalar;
 use json::Element;
 use oci_json_tape::{items, members, next_item, next_member};
 use oci_json_text::CompactWriter;
-use oci_schema_types::{Part, Records, Schema};
+use oci_schema_types::{Part, Records, Scalar, Schema};
 use std::alloc::{AllocError, Global};
 use std::cmp::Ordering;
 
@@ -55,6 +57,7 @@ fn write_part<T: Records>(
     ensures { IfDone result (WritesNormal (part_shape (T.shape_at records.now) part.now) element.now out.old out.new) }
 {
     match part {
+        Part::Scalar(Scalar::Capabilities) => write_capabilities(records, element, alloc, out),
         Part::Scalar(scalar) => {
             if is_by_value(scalar) {
                 let schema = Schema::One(Part::Scalar(*scalar));
@@ -64,6 +67,27 @@ fn write_part<T: Records>(
         }
         Part::Record(place) => write_record(records, *place, element, depth, alloc, out),
     }
+}
+
+/// Writes a set of capabilities, by way of a value if it is not in its normal form.
+fn write_capabilities<T: Records>(
+    records: &T,
+    element: &Element<'_, '_>,
+    alloc: Global,
+    out: &mut CompactWriter,
+) -> Result<bool, AllocError>
+    ensures { IfDone result (WritesNormal (cap_set capability_table) element.now out.old out.new) }
+{
+    if is_normal_set(element) {
+        return write_strings(element, out);
+    }
+    write_by_value(
+        records,
+        &Schema::One(Part::Scalar(Scalar::Capabilities)),
+        element,
+        alloc,
+        out,
+    )
 }
 
 /// Writes an array, item by item.
@@ -172,7 +196,7 @@ fn write_record<T: Records>(
     if !is_object(element) {
         return Ok(false);
     }
-    match fields_of(record.members, element, alloc) {
+    match fields_of(record.members, element, alloc)? {
         Some(fields) => write_fields(records, fields.as_slice(), depth, alloc, out),
         None => Ok(false),
     }

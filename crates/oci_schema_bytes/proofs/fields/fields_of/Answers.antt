@@ -7,7 +7,7 @@ use Rattle.oci_schema_bytes.proofs.fields.fields_of.Goals as goal
 pub loop-member-init : goal.loop-member-init
 loop-member-init c = λ f d b.
     let all = members_in f c.args.members.now in
-    subst (FieldsSoFar f d all all) (sym c.new-fields.ensures.items) (no_members, tt, refl, λ h e. e)
+    subst (FieldsSoFar f d all all) (sym c.in_ok-fields.ensures.items) (no_members, tt, refl, λ h e. e)
 
 pub loop-member-preserved : goal.loop-member-preserved
 loop-member-preserved c = λ f d b.

@@ -1,4 +1,8 @@
-use Rattle.std.proofs.Common.{◌+◌, ◌∙◌, drop, sym, subst, drop_of_length-le}
+use Rattle.std.proofs.Common.{ℕ, ◌+◌, ◌∙◌, drop, sym, subst, drop_of_length-le}
+use Rattle.std.specs.Prelude.{IfSome}
+use Rattle.serde_json.specs.Data.{Data}
+use Rattle.oci_json_model.specs.Shape.{Shape}
+use Rattle.oci_json_tape.specs.Elements.{BeginsWithData}
 use Rattle.oci_schema_types.specs.Shapes.{part_shape, members_in}
 use Rattle.oci_schema_walks.proofs.Listed.{cut_at}
 use Rattle.oci_schema_bytes.specs.Fields.{AreAccepted, AreFieldsOf}
@@ -37,10 +41,11 @@ write_map-returns g t c = λ h d b.
 pub write_record-returns-in-Some : goal.write_record-returns-in-Some
 write_record-returns-in-Some g t c =
     let f = g.T.Records.shape_at c.args.records.now in
+    let found = subst (λ o. IfSome o (λ es. (h : ℕ → Shape) (d : Data) → BeginsWithData c.args.element.now d → AreFieldsOf h (members_in h c.record-record.result.now.members.now) d es.items)) c.in-Some.is c.in_ok-fields.ensures in
     if_both_done c.write_fields.result _ _ _ c.write_fields.ensures.accepted c.write_fields.ensures.writes
     (λ accepted wrote d b.
     record_written f (f c.args.place) (members_in f c.record-record.result.now.members.now) d c.as_slice.result.now c.args.out.now c.write_fields.new.out c.record-record.ensures (sym (c.is_object.ensures d b) ∙ c.if-not-is_object.false)
-    (subst (λ es. AreFieldsOf f (members_in f c.record-record.result.now.members.now) d es) (sym c.as_slice.ensures.value) (c.in-Some.ensures f d b)) accepted wrote)
+    (subst (λ es. AreFieldsOf f (members_in f c.record-record.result.now.members.now) d es) (sym c.as_slice.ensures.value) (found f d b)) accepted wrote)
 
 pub write_fields-loop-field-init : goal.write_fields-loop-field-init
 write_fields-loop-field-init g t c = record {
