@@ -3,7 +3,6 @@ use Rattle.std.proofs.Common.{◌≡◌, ℕ, List, [], Option, Some, None, true
 use Rattle.std.specs.Prelude.{◌↔◌, IfSome}
 use Rattle.serde_json.specs.Data.{Data}
 use Rattle.oci_json_model.specs.Plain.{Plain}
-use Rattle.oci_json_model.specs.Shape.{Shape}
 use Rattle.oci_json_model.specs.Means.{Means}
 use Rattle.oci_json_io.specs.Engines.{ReadsAs, MeansBytes, IsNoJson}
 use Rattle.oci_kinds.specs.declared.kind.Kind.{Kind}

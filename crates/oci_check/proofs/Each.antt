@@ -1,7 +1,7 @@
 -- What holds of each item that was looked at, and the items that were.
 use Rattle.std.proofs.Common.{◌≡◌, ◌<◌, ◌+◌, ℕ, zero, suc, List, [], ◌∷◌, ◌++◌, length, take, map, get_or, refl, sym, ap, below_more, subst, arith}
 use Rattle.std.proofs.lemmas.List.{get_or_default}
-use Rattle.std.specs.List.{All, HoldsAt}
+use Rattle.std.specs.List.{HoldsAt}
 
 pub holds_here : {X : Type 0} (P : X → Type 0) (xs : List X) (i : ℕ) (d : X) → i < length xs → P (get_or xs i d) → HoldsAt P xs i
 holds_here P xs i d lt h e = subst P (get_or_default xs i d e lt) h

@@ -16,7 +16,6 @@ use Rattle.oci_rules.specs.Rules as rules
 use Rattle.oci_rules.specs.Rules.{Level, must, stated, should, host}
 use Rattle.oci_rules.specs.Tables.{level_of, platform_of, rule_of}
 use Rattle.oci_rules.specs.declared.rule.Platform.{Platform}
-use Rattle.oci_rules.specs.declared.rule.Rule.{Rule}
 use Rattle.oci_check.specs.declared.asked.Check.{Check}
 use Rattle.oci_check.specs.declared.asked.Unknown.{Unknown}
 use Rattle.oci_check.specs.declared.asked.Unknown.TheVariants.{Deny, Warn, Allow}

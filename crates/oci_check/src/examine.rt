@@ -36,8 +36,8 @@ pub fn examine<'a, B: RuleBooks>(
     ensures right { IfOk result (λ r. r.errors.items ≡ [] → IsRight (B.rules books.now) asked.now bytes.now) }
     ensures wrong { IfOk result (λ r. ¬ (r.errors.items ≡ []) → IsWrong (B.rules books.now) asked.now bytes.now) }
 {
-    if is_right(asked, bytes, workspace, alloc) {
-        return faultless(bytes, alloc);
+    if is_right(asked, name, bytes, workspace, alloc) {
+        return Report::new(Vec::new(alloc), Vec::new(alloc), bytes, alloc);
     }
     match read_value(asked.kind, name, bytes, alloc)? {
         Reading::Value(kind, value) => {
@@ -45,15 +45,6 @@ pub fn examine<'a, B: RuleBooks>(
         }
         Reading::Fault(fault) => faulty(fault, alloc),
     }
-}
-
-/// A report without errors.
-fn faultless<'a>(bytes: &[u8], alloc: Global) -> Result<Report<'a>, AllocError>
-    ensures { IfOk result (λ r. r.errors.items ≡ []) }
-{
-    let mut warnings = Vec::new(alloc);
-    warn_of_repeated(bytes, &mut warnings, alloc)?;
-    Report::new(Vec::new(alloc), warnings, bytes, alloc)
 }
 
 /// The report on a value that was read from these bytes.

@@ -1,24 +1,56 @@
 //! Documents that nothing is wrong with, straight from their bytes.
-ghost use Rattle.std.specs.Prelude.{◌≡◌, ℕ, List, [], false, IsTrue};
+ghost use Rattle.std.specs.Prelude.{◌≡◌, ℕ, List, [], false, IfSome, IsTrue};
 ghost use Rattle.oci_kinds.specs.declared.kind.Kind.{Kind as kind_type};
 ghost use Rattle.oci_rules.specs.Rules.{Rule as rule_data};
-ghost use Rattle.oci_check.specs.Checks.{IsOfKind, IsRight};
+ghost use Rattle.oci_check.specs.Checks.{IsAsked, IsOfKind, IsRight};
 ghost use Rattle.oci_check.specs.declared.asked.Unknown.TheVariants.{Allow};
 
 use crate::asked::{Check, Unknown};
+use json::{Scratch, Tape};
 use oci_kinds::Kind;
+use oci_report::detect::{Detected, detect};
 use oci_schema_bytes::{Workspace, is_valid_bytes};
 use oci_schemas::OciRecords;
 use std::alloc::Global;
 
-/// Whether the bytes are a document of the kind that is asked for, where nothing but its schema is checked; `false` if that was not
-/// found out.
-pub fn is_right(asked: &Check<'_>, bytes: &[u8], workspace: &mut Workspace, alloc: Global) -> bool
+/// Whether the bytes are a document of the kind that is asked for, or of the one that is found out by its file name and members, where
+/// nothing but its schema is checked, and no name stands twice in an object; `false` if that was not found out.
+pub fn is_right(
+    asked: &Check<'_>,
+    name: &str,
+    bytes: &[u8],
+    workspace: &mut Workspace,
+    alloc: Global,
+) -> bool
     ensures { IsTrue result → (rules : kind_type → List rule_data) → IsRight rules asked.now bytes.now }
 {
-    match asked.kind {
-        Some(kind) => is_schema_alone(asked) && is_document(kind, bytes, workspace, alloc),
+    if !is_schema_alone(asked) {
+        return false;
+    }
+    match strict_kind(asked.kind, name, bytes, alloc) {
+        Some(kind) => is_document(kind, bytes, workspace, alloc),
         None => false,
+    }
+}
+
+/// The kind that is asked for, or that a document is found out to be, if no name stands twice in an object; `None` also if that was not
+/// found out.
+fn strict_kind(asked: Option<Kind>, name: &str, bytes: &[u8], alloc: Global) -> Option<Kind>
+    ensures { IfSome result (IsAsked asked) }
+{
+    let Ok(text) = std::str::from_utf8(bytes) else {
+        return None;
+    };
+    let mut scratch = Scratch::new(alloc);
+    let Ok(tape) = Tape::parse_strict(text, &mut scratch, Vec::new(alloc)) else {
+        return None;
+    };
+    match asked {
+        Some(kind) => Some(kind),
+        None => match detect(name, &tape.root()) {
+            Detected::One(kind) => Some(kind),
+            Detected::Open => None,
+        },
     }
 }
 

@@ -1,5 +1,7 @@
 //! Which kind of document a value is.
 use crate::kinds::{KINDS, title_of};
+use json::Element;
+use oci_json_tape::{find, text};
 use oci_kinds::Kind;
 use oci_schema_types::{Member, Part, Records, Schema};
 use oci_schemas::OciRecords;
@@ -15,24 +17,53 @@ pub enum Detected {
     Open,
 }
 
-/// The kind of the document with this file name and value: by its `mediaType`, or else by its file name, or else by the members that
-/// only one kind has. A kind is found only if it is the only one.
-pub fn detect(name: &str, value: &Value) -> Detected {
-    if let Some(kind) = kind_by_media_type(value) {
+/// A document whose members are looked up by their names.
+pub trait Document {
+    /// Whether it is an object that has a member of this name.
+    fn has(&self, name: &str) -> bool;
+
+    /// The member of this name, if it is a string.
+    fn string(&self, name: &str) -> Option<&str>;
+}
+
+impl Document for Value {
+    fn has(&self, name: &str) -> bool {
+        self.get(name).is_some()
+    }
+
+    fn string(&self, name: &str) -> Option<&str> {
+        self.get(name)?.as_str()
+    }
+}
+
+impl<'t, 'a> Document for Element<'t, 'a> {
+    fn has(&self, name: &str) -> bool {
+        find(self, name).is_some()
+    }
+
+    fn string(&self, name: &str) -> Option<&str> {
+        text(&find(self, name)?)
+    }
+}
+
+/// The kind of the document with this file name: by its `mediaType`, or else by its file name, or else by the members that only one
+/// kind has. A kind is found only if it is the only one.
+pub fn detect<D: Document>(name: &str, document: &D) -> Detected {
+    if let Some(kind) = kind_by_media_type(document) {
         return Detected::One(kind);
     }
     if let Some(kind) = kind_by_file_name(name) {
         return Detected::One(kind);
     }
-    kind_by_members(value)
+    kind_by_members(document)
 }
 
-/// The kind that `mediaType` names. A descriptor has the media type of what it describes, so a value with a `digest` is none of them.
-fn kind_by_media_type(value: &Value) -> Option<Kind> {
-    if value.get("digest").is_some() {
+/// The kind that `mediaType` names. A descriptor has the media type of what it describes, so one with a `digest` is none of them.
+fn kind_by_media_type<D: Document>(document: &D) -> Option<Kind> {
+    if document.has("digest") {
         return None;
     }
-    match value.get("mediaType")?.as_str()? {
+    match document.string("mediaType")? {
         "application/vnd.oci.image.manifest.v1+json"
         | "application/vnd.docker.distribution.manifest.v2+json" => Some(Kind::Manifest),
         "application/vnd.oci.image.index.v1+json"
@@ -76,17 +107,16 @@ fn is_alone(kind: Kind, name: &str) -> bool {
         .all(|other| *other == kind || !has_member(*other, name))
 }
 
-/// Whether the value has a member that only this kind has.
-fn is_marked(kind: Kind, value: &Value) -> bool {
-    members_of(kind).iter().any(|member| value.get(member.name).is_some()
-        && is_alone(kind, member.name))
+/// Whether the document has a member that only this kind has.
+fn is_marked<D: Document>(kind: Kind, document: &D) -> bool {
+    members_of(kind).iter().any(|member| document.has(member.name) && is_alone(kind, member.name))
 }
 
-fn kind_by_members(value: &Value) -> Detected {
+fn kind_by_members<D: Document>(document: &D) -> Detected {
     let mut found = None;
     let mut count = 0u8;
     for kind in &KINDS {
-        if is_marked(*kind, value) {
+        if is_marked(*kind, document) {
             found = Some(*kind);
             count = count.saturating_add(1);
         }

@@ -1,4 +1,4 @@
-use Rattle.std.proofs.Common.{◌≡◌, ◌<◌, length, map, ap, ◌∙◌, rules}
+use Rattle.std.proofs.Common.{◌<◌, length, map, ap, ◌∙◌, rules}
 use Rattle.oci_report.specs.Findings.{told}
 use Rattle.oci_check.proofs.Told.{told_more}
 use Rattle.oci_check.proofs.inspect.findings_of.Goals as goal

@@ -1,4 +1,4 @@
-use Rattle.std.proofs.Common.{◌≡◌, true≢false, sym, ◌∙◌, subst}
+use Rattle.std.proofs.Common.{true≢false, sym, ◌∙◌, subst}
 use Rattle.oci_json_io.specs.Engines.{MeansBytes}
 use Rattle.oci_json_model.specs.Plain.{Plain}
 use Rattle.oci_check.proofs.quick.is_document.Goals.{in-Ok, in-Err}
