@@ -33,7 +33,7 @@ impl Model for CompactWriter {
 }
 
 impl CompactWriter {
-    /// A writer with nothing written, and room for `capacity` bytes. Fails if out of memory.
+    /// A writer with nothing written and a buffer of `capacity` bytes. Fails if out of memory.
     pub fn with_capacity(alloc: Global, capacity: usize) -> Result<CompactWriter, AllocError>
         ensures { IfOk result (λ w. w ≡ []) }
     {
