@@ -1,5 +1,6 @@
 /* Lets each allocation of each function fail in turn: out_of_memory MANIFEST. Linked with --wrap for malloc, realloc and free. The
- * status has to be CIDERGLEN_OUT_OF_MEMORY, the buffer unchanged and all memory freed. */
+ * status has to be CIDERGLEN_OUT_OF_MEMORY, the buffer unchanged and all memory freed. One allocation of ciderglen_normalize is done
+ * without where it fails, since it only reserves what grows otherwise: its text is then the same. */
 #include <ciderglen.h>
 
 #include <stdio.h>
@@ -29,8 +30,8 @@ void __wrap_free(void *block) {
     __real_free(block);
 }
 
-static uint8_t document[1 << 20], buffer[1 << 20];
-static size_t document_len, output_len;
+static uint8_t document[1 << 20], buffer[1 << 20], text[1 << 20];
+static size_t document_len, output_len, text_len;
 
 enum { CALLS = 8 };
 
@@ -51,6 +52,12 @@ static uint32_t call(int which) {
     }
 }
 
+/* Whether the answer to a call in which an allocation failed is as it has to be. */
+static int is_right(uint32_t status, int *reservations) {
+    if (status == CIDERGLEN_OUT_OF_MEMORY) return buffer[0] == '.' && !output_len;
+    return (*reservations)-- > 0 && status == CIDERGLEN_DONE && output_len == text_len && !memcmp(buffer, text, text_len);
+}
+
 int main(int argc, char **argv) {
     long failures = 0;
     FILE *file = argc == 2 ? fopen(argv[1], "rb") : 0;
@@ -61,13 +68,15 @@ int main(int argc, char **argv) {
         failing = allocations = live = 0;
         uint32_t status = call(which);
         long all = allocations;
+        int reservations = which == 0;
+        memcpy(text, buffer, text_len = output_len);
         failures += live != 0 || status != CIDERGLEN_DONE;
         for (failing = 1; failing <= all; failing++) {
             allocations = live = 0;
             memset(buffer, '.', 64);
             output_len = 7;
             uint32_t failed = call(which);
-            if (failed != CIDERGLEN_OUT_OF_MEMORY || live || buffer[0] != '.' || output_len) {
+            if (live || !is_right(failed, &reservations)) {
                 failures++;
                 printf("call %d, allocation %ld: status %u, %ld blocks live, output_len %zu\n", which, failing, failed, live, output_len);
             }
