@@ -17,6 +17,4 @@ pub mod platform;
 pub mod reference;
 pub mod rules;
 pub mod status;
-#[cfg(test)]
-mod tests;
 pub mod violations;
