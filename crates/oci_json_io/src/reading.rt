@@ -1,5 +1,6 @@
 //! From bytes to documents.
-ghost use Rattle.std.specs.Prelude.{◌≡◌, IfOk, IfErr, IfSome};
+ghost use Rattle.std.specs.Prelude.{◌≡◌, ◌+◌, ◌<◌, ◌≤◌, length, vec_len, take, drop, IfOk, IfErr, IfSome, OnOk};
+ghost use Rattle.std.specs.Io.KnownBytes.{Consumes, IsAtEnd};
 ghost use Rattle.oci_text_base.specs.Refused.{IsSchema, IsJson, IsMemoryOrSerDe, IsMemorySerDeOrIo, IsMemoryOrIo};
 ghost use Rattle.serde_json.specs.View.{view};
 ghost use Rattle.oci_json_io.specs.Engines.{ReadsAs, MeansBytes, IsNoJson, IsNoDocument};
@@ -7,8 +8,12 @@ ghost use Rattle.oci_json_io.specs.Engines.{ReadsAs, MeansBytes, IsNoJson, IsNoD
 use oci_json_model::OciRecord;
 use oci_text_base::{OciSpecError, Result, SerDeError};
 use serde_json::Value;
-use std::alloc::Global;
+use std::alloc::{AllocError, Global};
+use std::io;
 use std::io::Read;
+
+/// How many bytes the first read asks for. The buffer doubles whenever it is full.
+const FIRST_READ: usize = 512;
 
 /// Deserializes a document from bytes. Fails with `SerDe(Json)` if they are not JSON (not UTF-8 or nested deeper than 127 levels,
 /// too), with `SerDe(Schema)` if they are JSON that the schema rejects, and with `Memory` if out of memory.
@@ -49,14 +54,51 @@ pub fn bytes_from_reader<R: Read>(alloc: Global, reader: &mut R) -> Result<Vec<u
     ensures kind { IfErr result IsMemoryOrIo }
 {
     let mut bytes = Vec::new(alloc);
-    let mut chunk = [0u8; 2048];
+    let mut filled = 0;
     loop {
-        let count = reader.read(&mut chunk)?;
+        let count = read_more(reader, &mut bytes, filled)?;
         if count == 0 {
+            bytes.truncate(filled);
             return Ok(bytes);
         }
-        bytes.extend_from_slice(&chunk[..count])?;
+        filled += count;
     }
+}
+
+/// One read behind the first `filled` bytes, which are kept. Room for it is made first.
+fn read_more<R: Read>(reader: &mut R, bytes: &mut Vec<u8>, filled: usize) -> Result<usize>
+    requires { filled ≤ vec_len bytes.old }
+    ensures front { OnOk result (take filled bytes.new.items ≡ take filled bytes.old.items) }
+    ensures fits { IfOk result (λ n. filled + n ≤ vec_len bytes.new) }
+    ensures ok { IfOk result (λ n. Consumes (R.remaining reader.old) (R.remaining reader.new) (take n (drop filled bytes.new.items))) }
+    ensures end { IfOk result (λ n. n ≡ 0 → IsAtEnd (R.remaining reader.new)) }
+    ensures kind { IfErr result IsMemoryOrIo }
+{
+    make_room(bytes, filled)?;
+    Ok(read_behind(reader, bytes.as_mut_slice(), filled)?)
+}
+
+/// Doubles the buffer if it is full.
+fn make_room(bytes: &mut Vec<u8>, filled: usize) -> std::result::Result<(), AllocError>
+    requires { filled ≤ vec_len bytes.old }
+    ensures room { OnOk result (filled < vec_len bytes.new) }
+    ensures front { OnOk result (take filled bytes.new.items ≡ take filled bytes.old.items) }
+{
+    if filled == bytes.len() {
+        bytes.resize(filled + filled.max(FIRST_READ), 0)?;
+    }
+    Ok(())
+}
+
+/// One read into what stands behind the first `at` bytes.
+fn read_behind<R: Read>(reader: &mut R, bytes: &mut [u8], at: usize) -> io::Result<usize>
+    requires { at < length bytes.old }
+    ensures front { take at bytes.new ≡ take at bytes.old }
+    ensures fits { IfOk result (λ n. at + n ≤ length bytes.new) }
+    ensures ok { IfOk result (λ n. Consumes (R.remaining reader.old) (R.remaining reader.new) (take n (drop at bytes.new))) }
+    ensures end { IfOk result (λ n. n ≡ 0 → IsAtEnd (R.remaining reader.new)) }
+{
+    reader.read(&mut bytes[at..])
 }
 
 /// Reads to the end and parses the bytes as JSON. Fails with `SerDe(Json)` if they are not JSON, or with `Io` if a read fails. The
