@@ -1,12 +1,13 @@
 -- What a walk without a finding says.
-use Rattle.std.specs.Prelude.{◌≡◌, ◌⊎◌, ℕ, List, Bool, false, Option, Some, None, IsTrue, codes, length, slice_get, ⊤}
+use Rattle.std.specs.Prelude.{◌≡◌, ◌⊎◌, ℕ, ◌<◌, List, Bool, false, Option, Some, None, IsTrue, codes, length, slice_get, ⊤}
 use Rattle.oci_content.specs.Content.{IsDigestOf}
 use Rattle.oci_layout.specs.Documents.{IsRead}
 use Rattle.oci_layout.specs.Looks.{may_miss, Contents, Shows}
 use Rattle.oci_layout.specs.Walk.{IsWalk, Reaches}
 use Rattle.oci_layout.specs.declared.kind.Kind.TheVariants.{Index}
 use Rattle.oci_layout.specs.declared.top.Top.{Top}
-use Rattle.oci_layout.specs.declared.top.Top.TheVariants.{Bytes}
+use Rattle.oci_layout.specs.declared.top.Top.TheVariants.{Unreadable, TooLarge, Bytes}
+use Rattle.oci_layout.specs.declared.top.Top.TheVariants as top
 use Rattle.oci_layout.specs.declared.claim.Claim.{Claim}
 use Rattle.oci_layout.specs.declared.claim.Fault.{Fault}
 use Rattle.oci_layout.specs.declared.claim.Fault.TheVariants.{Missing}
@@ -59,7 +60,18 @@ abbrev pub IsFileOf : Contents → List ℕ → List ℕ → Type 0
 IsFileOf None name bytes = ⊤
 IsFileOf (Some tops) name bytes = tops name ≡ Some bytes
 
+-- there is no such file
+abbrev pub IsNoFileOf : Contents → List ℕ → Type 0
+IsNoFileOf None name = ⊤
+IsNoFileOf (Some tops) name = tops name ≡ None
+
+-- the file has more bytes than this
+abbrev pub IsLargerFileOf : ℕ → Contents → List ℕ → Type 0
+IsLargerFileOf limit tops name = (bytes : List ℕ) × IsFileOf tops name bytes × (limit < length bytes)
+
 -- what was read of a file beside `blobs`
-abbrev pub IsTop : Contents → List ℕ → Top → Type 0
-IsTop tops name (Bytes bytes) = IsFileOf tops name bytes.items
-IsTop tops name _ = ⊤
+abbrev pub IsTop : ℕ → Contents → List ℕ → Top → Type 0
+IsTop limit tops name top.Missing = IsNoFileOf tops name
+IsTop limit tops name Unreadable = ⊤
+IsTop limit tops name TooLarge = IsLargerFileOf limit tops name
+IsTop limit tops name (Bytes bytes) = IsFileOf tops name bytes.items

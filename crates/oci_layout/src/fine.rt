@@ -1,5 +1,5 @@
 //! Whether nothing stands against the claims of a walk.
-ghost use Rattle.std.specs.Prelude.{◌≡◌, IsTrue};
+ghost use Rattle.std.specs.Prelude.{◌≡◌, ◌↔◌, None, IsTrue};
 ghost use Rattle.oci_layout.specs.Sound.{IsFine, AreFine};
 
 use crate::claim::{Claim, Fault};
@@ -7,7 +7,7 @@ use crate::walk::Walk;
 
 /// Whether nothing stands against a claim, or its content is missing and may be.
 pub fn is_fine(claim: &Claim, fault: Option<Fault>) -> bool
-    ensures { IsTrue result → IsFine claim.now fault }
+    ensures { IsTrue result ↔ IsFine claim.now fault }
 {
     match fault {
         None => true,
@@ -18,16 +18,10 @@ pub fn is_fine(claim: &Claim, fault: Option<Fault>) -> bool
 
 /// The same, for each claim and what is found at its place.
 pub fn are_fine(claims: &[Claim], faults: &[Option<Fault>]) -> bool
-    ensures { IsTrue result → AreFine claims.now faults.now }
+    ensures { IsTrue result ↔ AreFine claims.now faults.now }
 {
-    'each: for place in 0..faults.len() {
-        let Some(fault) = faults.get(place) else {
-            return false;
-        };
-        let Some(claim) = claims.get(place) else {
-            return false;
-        };
-        if !is_fine(claim, *fault) {
+    'each: for place in 0..claims.len().min(faults.len()) {
+        if !is_fine(&claims[place], faults[place]) {
             return false;
         }
     }
@@ -36,8 +30,7 @@ pub fn are_fine(claims: &[Claim], faults: &[Option<Fault>]) -> bool
 
 /// Whether nothing stands against the index of a layout, nor against the claims of a walk.
 pub fn is_sound_walk(fault: Option<Fault>, walk: &Walk) -> bool
-    ensures fault { IsTrue result → fault ≡ None }
-    ensures fine { IsTrue result → AreFine walk.now.claims.items walk.now.faults.items }
+    ensures { IsTrue result ↔ ((fault ≡ None) × AreFine walk.now.claims.items walk.now.faults.items) }
 {
     match fault {
         None => are_fine(walk.claims.as_slice(), walk.faults.as_slice()),

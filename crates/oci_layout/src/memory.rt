@@ -1,5 +1,5 @@
 //! A store in memory.
-ghost use Rattle.std.specs.Prelude.{◌≡◌, option_map};
+ghost use Rattle.std.specs.Prelude.{◌≡◌, ◌≢◌, option_map, IfOk};
 ghost use Rattle.oci_layout.specs.Memory.{content_of};
 
 use crate::path::blob_path;
@@ -40,7 +40,9 @@ impl<'a> Store for Memory<'a> {
 
     ghost contents = { λ s. Some (content_of s.kept.now) };
 
-    fn open(&self, _alloc: Global, digest: &Digest) -> Result<Opened<&'a [u8]>, AllocError> {
+    fn open(&self, _alloc: Global, digest: &Digest) -> Result<Opened<&'a [u8]>, AllocError>
+        ensures readable { IfOk result (λ o. o ≢ Opened.Unreadable) }
+    {
         match find(self.kept, digest.as_ref()) {
             Some(bytes) => Ok(Opened::Content(bytes, Some(bytes.len() as u64))),
             None => Ok(Opened::Missing),
@@ -53,7 +55,9 @@ impl<'a> ImageLayout for Memory<'a> {
 
     ghost tops = { λ s. Some (content_of s.kept.now) };
 
-    fn top(&self, _alloc: Global, name: &str) -> Result<Opened<&'a [u8]>, AllocError> {
+    fn top(&self, _alloc: Global, name: &str) -> Result<Opened<&'a [u8]>, AllocError>
+        ensures readable { IfOk result (λ o. o ≢ Opened.Unreadable) }
+    {
         match find(self.kept, name) {
             Some(bytes) => Ok(Opened::Content(bytes, Some(bytes.len() as u64))),
             None => Ok(Opened::Missing),

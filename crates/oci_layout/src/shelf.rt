@@ -1,7 +1,7 @@
 //! A store that keeps only what verifies: an example of verdicts in use.
 ghost use Rattle.std.specs.Prelude.{◌≡◌, ◌∷◌, ◌++◌, [], IfOk, OnErr, List};
 ghost use Rattle.std.specs.List.{All};
-ghost use Rattle.oci_content.specs.Content.{IsContentOf};
+ghost use Rattle.oci_content.specs.Content.{Tells};
 ghost use Rattle.oci_layout.specs.Shelf.{IsRight};
 
 use oci_content::{Verdict, verify};
@@ -38,7 +38,7 @@ impl Shelf {
         ensures kept { IfOk result (λ v. v ≡ Verdict.Same → self.new.contents.items ≡ self.old.contents.items ++ record { digest = descriptor.now.digest; bytes = bytes } ∷ []) }
         ensures refused { IfOk result (λ v. ¬ (v ≡ Verdict.Same) → self.new.contents.items ≡ self.old.contents.items) }
         ensures err { OnErr result (self.new.contents.items ≡ self.old.contents.items) }
-        ensures same { IfOk result (λ v. v ≡ Verdict.Same → IsContentOf descriptor.now.digest descriptor.now.size bytes.items) }
+        ensures tells { IfOk result (Tells descriptor.now.digest descriptor.now.size bytes.items) }
         ensures right { All IsRight self.old.contents.items → All IsRight self.new.contents.items }
     {
         match verify(descriptor, bytes.as_slice()) {

@@ -25,7 +25,7 @@ pub fn read_top<L: ImageLayout>(
     buffer: &mut [u8],
 ) -> Result<Top, AllocError>
     requires { 0 < length buffer.old }
-    ensures { IfOk result (IsTop (L.tops layout.now) name.now) }
+    ensures { IfOk result (IsTop limit (L.tops layout.now) name.now) }
 {
     match layout.top(alloc, name)? {
         Opened::Missing => Ok(Top::Missing),

@@ -8,5 +8,5 @@ pub returns-in-Bytes : goal.returns-in-Bytes
 returns-in-Bytes g c =
     let tops = g.L.ImageLayout.tops c.args.layout.now in
     of_top c.args.options.now.limit c.args.options.now.quick tops (g.L.Store.contents c.args.layout.now) c.as_slice-index.result.now c.verify_index.result
-    (subst (IsFileOf tops (codes "index.json")) (sym c.as_slice-index.ensures.value) (subst (IsTop tops (codes "index.json")) c.in-Bytes.is c.in_ok-index.ensures))
+    (subst (IsFileOf tops (codes "index.json")) (sym c.as_slice-index.ensures.value) (subst (IsTop c.args.options.now.limit tops (codes "index.json")) c.in-Bytes.is c.in_ok-index.ensures))
     c.verify_index.ensures
