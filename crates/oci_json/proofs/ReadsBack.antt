@@ -7,7 +7,7 @@ use Rattle.serde_json.specs.Find.{get_member, of_integer}
 use Rattle.serde_json.specs.Written.{has_float}
 use Rattle.oci_text_base.specs.Names.{is_listed, no_text_twice}
 use Rattle.oci_json_model.specs.Plain as plain
-use Rattle.oci_json_model.specs.Plain.{Plain, Plains, no_plains, Entries, no_entries, entry, Slot, empty, filled, Slots, no_slots, slot, list_of, map_of, set_of, keys_of, free_of, document_of}
+use Rattle.oci_json_model.specs.Plain.{Plain, Plains, no_plains, Entries, no_entries, entry, Slot, empty, filled, Slots, no_slots, slot, list_of, map_of, keys_of, free_of, document_of}
 use Rattle.oci_json_model.specs.Shape.{Presence, required, defaulted, optional, nullable, unless_empty, Shape, text, truth, whole, named, open_name, digest_text, cpu_text, cap_set, list, map, key_set, detail, free_map, rows, Rows, no_rows, row, with_second, names}
 use Rattle.oci_json_model.specs.Fits.{Fits, FitsRows, FitsMember, Each, EachEntry, IfFilled}
 use Rattle.oci_json_model.specs.Means.{as_whole, opened, AreObjects, unless_null, member_names, free_values, EachMeans, EachEntryMeans, IsThereOr, MeansMember, get_second, MeansEither, Means, MeansRows}

@@ -1,13 +1,13 @@
 -- The steps of a walk.
-use Rattle.std.proofs.Common.{◌≡◌, Bool, false, ◌&&◌, Bor, ℕ, List, Option, Some, None, option_map, refl, sym, ap, ◌∙◌}
-use Rattle.std.specs.Prelude.{MatchOption, is_some}
+use Rattle.std.proofs.Common.{◌≡◌, ℕ, List, Option, Some, None, option_map, sym, ap, ◌∙◌}
+use Rattle.std.specs.Prelude.{MatchOption}
 use Rattle.json.specs.Token.{Token}
 use Rattle.json.specs.Json as json
 use Rattle.json.specs.Find.{BeginsWith, InItems, InMembers, NextItem, NextMember}
 use Rattle.json.specs.Find as tape
 use Rattle.json.proofs.Found.{not_found, Some_inj}
 use Rattle.serde_json.specs.Data.{Data, null, boolean, number, string, array, object, Items, no_items, item, Members, no_members, put}
-use Rattle.serde_json.specs.Find.{as_array, as_object, as_str}
+use Rattle.serde_json.specs.Find.{as_array, as_object}
 use Rattle.serde_json.specs.Read.{number_of, of_json, of_items, of_members}
 use Rattle.oci_json_tape.specs.Elements.{BeginsWithData}
 use Rattle.oci_json_tape.specs.Walked.{InItemsData, InMembersData, NextItemData, NextMemberData}

@@ -1,5 +1,5 @@
 -- The condition that a table of a policy writes: `part` or `document` with the way from there, what is checked, and `holds`.
-use Rattle.std.specs.Prelude.{ℕ, ℤ, List, [], ◌∷◌, Bool, true, codes, bytes_eq, Option, Some, None, option_map, option_and_then, if◌then◌else◌}
+use Rattle.std.specs.Prelude.{ℕ, List, [], ◌∷◌, true, codes, bytes_eq, Option, Some, None, option_map, option_and_then, if◌then◌else◌}
 use Rattle.toml.specs.Data.{Data, Members, as_str, as_bool, as_table, get_member}
 use Rattle.oci_rules.specs.Rules.{Origin, the_part, the_document, Check, is_there, is_text, is_truth, is_within, has_text, has_item, Condition, asks}
 use Rattle.oci_policies.specs.Values.{both, texts_in, bounds_in, yes_in, under, under_or, sole_other, table_of}

@@ -1,6 +1,6 @@
 -- The test that a member of a rule's table writes, by its name.
 use Rattle.std.specs.Prelude.{ℕ, List, [], ◌∷◌, codes, bytes_eq, Option, Some, None, option_map, option_and_then, if◌then◌else◌}
-use Rattle.toml.specs.Data.{Data, string, Members, no_members, member, as_str, as_bool, as_array, as_table, get_member}
+use Rattle.toml.specs.Data.{Data, Members, as_str, as_bool}
 use Rattle.oci_rules.specs.Rules as rules
 use Rattle.oci_policies.specs.Grammars.{grammar_in}
 use Rattle.oci_policies.specs.Places.{way_in}

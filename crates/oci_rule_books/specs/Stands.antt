@@ -3,7 +3,7 @@ use Rattle.std.specs.Prelude.{ℕ, ◌&&◌, ◌||◌, Bool, true, false, bytes_
 use Rattle.std.specs.List.{list_all}
 use Rattle.oci_json_model.specs.Shape as shape
 use Rattle.oci_json_model.specs.Shape.{Shape, Rows, no_rows, row}
-use Rattle.oci_rules.specs.Rules.{Origin, the_part, the_document, Check, is_there, has_item, Condition, asks, Key, members, Test, there, either, at_most, sum_at_most, among, lists_item, distinct, Place, here, under, each_item, each_member, each_name, if_so, Rule}
+use Rattle.oci_rules.specs.Rules.{Origin, the_part, the_document, is_there, has_item, Condition, asks, members, Test, there, either, at_most, sum_at_most, among, lists_item, distinct, Place, here, under, each_item, each_member, each_name, if_so, Rule}
 
 abbrev pub is_second : List ℕ → Option (List ℕ) → Bool
 is_second name None = false

@@ -1,5 +1,5 @@
 -- Whether a shape allows a value, as a computation.
-use Rattle.std.specs.Prelude.{◌≡◌, ◌↔◌, ℕ, zero, suc, ℤ, List, ◌++◌, length, Bool, true, false, not, ◌&&◌, ◌||◌, int_le, bytes_eq, Option, Some, None, is_some}
+use Rattle.std.specs.Prelude.{ℕ, zero, suc, ℤ, List, ◌++◌, length, Bool, true, false, not, ◌&&◌, ◌||◌, int_le, bytes_eq, Option, Some, None, is_some}
 use Rattle.std.specs.List.{list_any}
 use Rattle.std.specs.Prelude as std
 use Rattle.serde_json.specs.Data.{Data, Items, no_items, item, Members, no_members, member}

@@ -1,11 +1,9 @@
 -- What holds of the bytes of a file, where they are known.
-use Rattle.std.proofs.Common.{◌≡◌, ℕ, List, [], Bool, true, false, Option, Some, None, Result, Ok, Err, ◌==◌, length, true≢false, refl, sym, ap, ◌∙◌, subst}
-use Rattle.std.specs.Prelude.{IfSome, OnOk, Vec, vec_len}
-use Rattle.std.specs.declared.alloc.Global.{Global}
+use Rattle.std.proofs.Common.{◌≡◌, ℕ, List, Bool, true, false, Option, Some, None, Result, Ok, Err, subst}
+use Rattle.std.specs.Prelude.{IfSome, OnOk}
 use Rattle.oci_json_model.specs.Shape.{Shape}
-use Rattle.oci_json_io.specs.Engines.{MeansBytes, WritesDocument}
+use Rattle.oci_json_io.specs.Engines.{WritesDocument}
 use Rattle.oci_schema.specs.Normalizes.{WritesPretty}
-use Rattle.oci_shapes.specs.Descriptor.{descriptor}
 use Rattle.oci_kinds.specs.declared.kind.Kind.{Kind}
 use Rattle.oci_kinds.specs.Kinds.{shape_of}
 use Rattle.oci_doc_run.specs.Outputs.{WritesPinned}

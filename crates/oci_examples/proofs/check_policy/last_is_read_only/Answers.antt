@@ -1,7 +1,7 @@
-use Rattle.std.proofs.Common.{◌≡◌, map, take, string_bytes, false, arith, ap, sym, ◌∙◌, subst}
-use Rattle.std.specs.Prelude.{◌↔◌, IsTrue, fold}
+use Rattle.std.proofs.Common.{◌≡◌, map, string_bytes, false, arith, sym, ◌∙◌}
+use Rattle.std.specs.Prelude.{fold}
 use Rattle.std.proofs.lemmas.Grind.{common_steps}
-use Rattle.oci_examples.specs.Policy.{LastIsReadOnly, read_only_after}
+use Rattle.oci_examples.specs.Policy.{read_only_after}
 use Rattle.oci_examples.proofs.Folds.{fold_more}
 use Rattle.oci_examples.proofs.LastOption.{told_of_all}
 use Rattle.oci_examples.proofs.check_policy.last_is_read_only.Goals as goal

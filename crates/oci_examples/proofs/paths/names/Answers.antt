@@ -1,10 +1,10 @@
-use Rattle.std.proofs.Common.{◌≡◌, map, take, List, ℕ, [], Bor, arith, ap, sym, ◌∙◌, lit<, IfOk, Ok, subst}
-use Rattle.std.specs.Prelude.{fold, ◌==◌}
+use Rattle.std.proofs.Common.{◌≡◌, map, List, ℕ, [], Bor, arith, lit<, IfOk, subst}
+use Rattle.std.specs.Prelude.{◌==◌}
 use Rattle.std.specs.List.{slice_split}
 use Rattle.std.proofs.lemmas.Grind.{common_steps}
 use Rattle.std.proofs.lemmas.Iterator.Consumers.{map_from_collect}
 use Rattle.std.proofs.lemmas.Iterator.Splits.{YieldsList-from_str_split}
-use Rattle.oci_examples.specs.Paths.{names, next}
+use Rattle.oci_examples.specs.Paths.{next}
 use Rattle.oci_examples.proofs.Folds.{fold_more}
 use Rattle.oci_examples.proofs.paths.names.Goals as goal
 

@@ -1,5 +1,4 @@
-use Rattle.std.proofs.Common.{◌≡◌, map, take, List, ℕ, [], ◌++◌, Bor, codes, append_assoc, get_or, string_bytes, ◌∙◌, ap, sym}
-use Rattle.std.specs.List.{flat_map}
+use Rattle.std.proofs.Common.{List, ℕ, [], ◌++◌, Bor, codes, append_assoc, get_or, string_bytes}
 use Rattle.oci_examples.proofs.Folds.{flat_map_more}
 use Rattle.oci_examples.proofs.paths.spelled.Goals as goal
 

@@ -1,4 +1,4 @@
-use Rattle.std.proofs.Common.{◌≡◌, drop, map}
+use Rattle.std.proofs.Common.{◌≡◌, drop}
 use Rattle.toml.specs.View.{items_view}
 use Rattle.oci_rules.specs.Tables.{ways_of}
 use Rattle.oci_policies.specs.Places.{way_in}

@@ -1,4 +1,4 @@
-use Rattle.std.proofs.Common.{◌≡◌, drop, map}
+use Rattle.std.proofs.Common.{◌≡◌, drop}
 use Rattle.oci_rules.specs.Tables.{texts_of}
 use Rattle.oci_policies.specs.Places.{name_of}
 use Rattle.oci_policies.specs.Values.{behind, all}

@@ -1,4 +1,4 @@
-use Rattle.std.proofs.Common.{◌≡◌, inl, inr, ◌∙◌}
+use Rattle.std.proofs.Common.{inl, inr, ◌∙◌}
 use Rattle.std.specs.Prelude.{IfSome}
 use Rattle.oci_check.specs.Checks.{IsRight, IsWrong}
 use Rattle.oci_check.proofs.Each.{next_holds, holds_here}

@@ -1,4 +1,4 @@
-use Rattle.std.proofs.Common.{◌≡◌, true, false, true≢false, sym, ◌∙◌, rules}
+use Rattle.std.proofs.Common.{◌≡◌, true, true≢false, sym, ◌∙◌, rules}
 use Rattle.oci_tool.specs.Texts.{IsReference}
 use Rattle.oci_check.proofs.Each.{next_holds}
 use Rattle.oci_tool.proofs.texts.references.Goals.{then-not-branch, else-not-branch}
