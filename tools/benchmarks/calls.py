@@ -4,12 +4,13 @@ from benchmarks.measuring import Missing, seconds
 from benchmarks.tables import laid_out, number, ratio
 
 CALLS = ("manifest", "spec", "reference", "digest")
-# what calls: a title, a program, what is put behind the name of a call, and the calls that it has
+# what calls: a title, a program, what is put behind the name of a call, the calls that it has, and words behind the count
 ROWS = [
     ("C", "c", "", (*CALLS, "none")),
     ("Rust", "rust", "", CALLS),
     ("Go", "go", "", CALLS),
-    ("Rattle", "oci_lanes", "", ("manifest", "spec")),
+    ("Rattle", "oci_lanes", "", ("manifest", "spec"), "fresh"),
+    ("Rattle, with a workspace that is kept", "oci_lanes", "", ("manifest", "spec"), "bytes"),
     ("the crate `oci-spec`", "crate", "", CALLS),
     ("the same in byte order", "crate", "_ordered", ("manifest", "spec")),
     ("Go, `encoding/json`", "go_peers", "", ("manifest", "spec")),
@@ -62,12 +63,11 @@ def bindings(bench):
     for call in (*CALLS, "none"):
         path = call_path(bench, call)
         mine = [it for it in ROWS if call in it[3] and it[1] in found]
-        commands = {title: with_words(found[program], call + ending, path, after=("bytes",) if program == "oci_lanes" else ())
-                    for title, program, ending, _ in mine}
+        commands = {title: with_words(found[program], call + ending, path, after=words) for title, program, ending, _, *words in mine}
         times = bench.times(f"times of the call {call}", commands)
-        works = [(None if program.startswith("go") else commands[title], 0) for title, program, _, _ in mine]
+        works = [(None if program.startswith("go") else commands[title], 0) for title, program, *_ in mine]
         counts = bench.counts(f"instructions of the call {call}", works)
-        rows += [[call, title, number(count), number(times[title])] for (title, _, _, _), count in zip(mine, counts)]
+        rows += [[call, title, number(count), number(times[title])] for (title, *_), count in zip(mine, counts)]
     return laid_out(["call", "from", "instructions", "ns"], rows)
 
 

@@ -2,7 +2,7 @@
 //!
 //! With no arguments it reads documents, each behind a line with its kind and its length, and writes a line a document: `same` or
 //! `differs`, and `accepted` or `rejected`. `tools/fuzz --lanes` runs it over golden documents that were changed at random. With the
-//! arguments KIND FILE COUNT and `bytes` or `value` it normalizes one document so often that way, and with `tape` it reads and writes it so
+//! arguments KIND FILE COUNT and `bytes`, `fresh` or `value` it normalizes one document so often that way, and with `tape` it reads and writes it so
 //! often as JSON alone, for `tools/bench`.
 #![tactic(auto)]
 
@@ -23,7 +23,7 @@ use task::{Task, perform};
 /// The status if a document was normalized or checked in two ways.
 const DIFFERENT: u8 = 1;
 
-const USAGE: &str = "usage: oci_lanes [KIND FILE COUNT bytes | value | tape]";
+const USAGE: &str = "usage: oci_lanes [KIND FILE COUNT bytes | fresh | value | tape]";
 
 fn line_of(verdict: Verdict) -> &'static str {
     match verdict {

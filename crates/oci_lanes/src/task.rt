@@ -11,8 +11,10 @@ use std::alloc::Global;
 /// A way from a document's bytes to its text.
 #[derive(Clone, Copy)]
 enum Way {
-    /// `bytes`: normalized straight from the bytes.
+    /// `bytes`: normalized straight from the bytes, with a workspace that is kept.
     Bytes,
+    /// `fresh`: the same, with a workspace of its own for each call.
+    Fresh,
     /// `value`: normalized by way of a value.
     Value,
     /// `tape`: read and written again as JSON alone, by no schema.
@@ -23,6 +25,7 @@ impl Way {
     fn from_word(word: &str) -> Option<Way> {
         match word {
             "bytes" => Some(Way::Bytes),
+            "fresh" => Some(Way::Fresh),
             "value" => Some(Way::Value),
             "tape" => Some(Way::Tape),
             _ => None,
@@ -62,23 +65,31 @@ impl<'a> Task<'a> {
     }
 }
 
+/// Normalizes a document straight from its bytes.
+fn normalize_in(
+    alloc: Global,
+    kind: Kind,
+    bytes: &[u8],
+    workspace: &mut Workspace,
+    out: &mut Vec<u8>,
+) -> Result<()> {
+    normalize_bytes(&OciRecords, kind.schema(), alloc, bytes, workspace, out)?;
+    Ok(())
+}
+
 /// Takes the document that way. Fails if it is rejected, or if out of memory.
 pub fn perform(alloc: Global, task: Task<'_>, bytes: &[u8]) -> Result<()> {
-    let schema = task.kind.schema();
     let mut workspace = Workspace::new(alloc);
     let mut scratch = Scratch::new(alloc);
     for _ in 0..task.count {
         let mut written = Vec::new(alloc);
         match task.way {
-            Way::Bytes => normalize_bytes(
-                &OciRecords,
-                schema,
-                alloc,
-                bytes,
-                &mut workspace,
-                &mut written,
-            )?,
-            Way::Value => normalize(&OciRecords, schema, alloc, bytes, &mut written)?,
+            Way::Bytes => normalize_in(alloc, task.kind, bytes, &mut workspace, &mut written)?,
+            Way::Fresh => {
+                let mut fresh = Workspace::new(alloc);
+                normalize_in(alloc, task.kind, bytes, &mut fresh, &mut written)?;
+            }
+            Way::Value => normalize(&OciRecords, task.kind.schema(), alloc, bytes, &mut written)?,
             Way::Tape => written = copy(alloc, bytes, &mut scratch)?,
         }
     }
