@@ -1,6 +1,7 @@
 -- Whether nothing stands against the claims of a walk.
-use Rattle.std.proofs.Common.{◌≡◌, ℕ, ◌<◌, Bool, true, false, List, length, get_or, slice_get, Option, Some, None, Result, Ok, Err, IfOk, sym, ap, subst, ◌∙◌, arith}
+use Rattle.std.proofs.Common.{◌≡◌, ℕ, ◌+◌, ◌<◌, ◌≤◌, min, Bool, true, false, List, length, get_or, slice_get, Option, Some, None, Result, Ok, Err, IfOk, sym, ap, subst, ◌∙◌, arith}
 use Rattle.std.proofs.lemmas.Option.{slice_get-get_or, slice_get_within}
+use Rattle.std.proofs.Math.Nat.{min-le_left, min-le_right, le-min}
 use Rattle.oci_layout.specs.Documents.{IsRead}
 use Rattle.oci_layout.specs.Looks.{Contents, Shows}
 use Rattle.oci_layout.specs.Sound.{IsFine, AreFine, IsFileOf, IsSoundFrom, IsSoundLayout}
@@ -19,15 +20,20 @@ IsFineAt all faults i = (c : Claim) (f : Option Fault) → slice_get all i ≡ S
 some : {X : Type 0} {x y : X} → Some x ≡ Some y → x ≡ y
 some e = cc
 
-pub fine_at : (all : List Claim) (faults : List (Option Fault)) (i : ℕ) (claim : Claim) (fault : Option Fault)
-    → i < length all → claim ≡ get_or all i claim → i < length faults → fault ≡ get_or faults i fault → IsFine claim fault → IsFineAt all faults i
-fine_at all faults i claim fault below is within told fine c f e g =
-    let same : claim ≡ c = some (ap Some is ∙ sym (slice_get-get_or all i claim below) ∙ e) in
-    let one : fault ≡ f = some (ap Some told ∙ sym (slice_get-get_or faults i fault within) ∙ g) in
-    subst (λ x. IsFine c x) one (subst (λ x. IsFine x fault) same fine)
+pub fine_at : (all : List Claim) (faults : List (Option Fault)) (i : ℕ) (claim : Claim) (other : Option Fault)
+    → i < min (length all) (length faults) → claim ≡ get_or all i claim → IsFine claim (get_or faults i other) → IsFineAt all faults i
+fine_at all faults i claim other below is fine c f e g =
+    let within : i < length all = let h = min-le_left (length all) (length faults) in omega arith in
+    let judged : i < length faults = let h = min-le_right (length all) (length faults) in omega arith in
+    let same : claim ≡ c = some (ap Some is ∙ sym (slice_get-get_or all i claim within) ∙ e) in
+    let one : get_or faults i other ≡ f = some (sym (slice_get-get_or faults i other judged) ∙ g) in
+    subst (λ x. IsFine c x) one (subst (λ x. IsFine x (get_or faults i other)) same fine)
 
-pub all_fine : (all : List Claim) (faults : List (Option Fault)) (n : ℕ) → length faults ≡ n → ((i : ℕ) → i < n → IsFineAt all faults i) → AreFine all faults
-all_fine all faults n counted fine i c f e g = fine i (let h = slice_get_within faults i f g in omega arith) c f e g
+pub all_fine : (all : List Claim) (faults : List (Option Fault)) (n : ℕ) → min (length all) (length faults) ≤ n → ((i : ℕ) → i < n → IsFineAt all faults i) → AreFine all faults
+all_fine all faults n counted fine i c f e g =
+    let within : i + 1 ≤ length all = let h = slice_get_within all i c e in omega arith in
+    let judged : i + 1 ≤ length faults = let h = slice_get_within faults i f g in omega arith in
+    fine i (let h = le-min within judged in omega arith) c f e g
 
 -- what is so of a layout whose walk found nothing
 pub sound_layout : (limit : ℕ) (quick : Bool) (contents tops : Contents) (index : List ℕ) (fault : Option Fault) (claims all : List Claim) (faults : List (Option Fault))
