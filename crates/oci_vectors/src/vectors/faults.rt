@@ -4,8 +4,8 @@ use crate::command::{ends_in, tells};
 use oci_test_harness::{Harness, Manner, Sample};
 use std::io::ErrorKind;
 
-/// Bytes that a reader gives at most before it fails.
-const READ: usize = 100;
+/// Bytes that a reader gives at most before it fails: buffers, which double, hold a whole number of such pieces.
+const READ: usize = 128;
 
 /// Bytes that a writer takes at most before it fails.
 const WRITTEN: usize = 10;
