@@ -1,5 +1,6 @@
 //! A store in memory.
-ghost use Rattle.std.specs.Prelude.{◌≡◌, ◌≢◌, option_map, IfOk};
+ghost use Rattle.std.specs.Prelude.{◌≡◌, ◌≢◌, Some, option_map, IfOk};
+ghost use Rattle.oci_layout.specs.Looks.{Gives};
 ghost use Rattle.oci_layout.specs.Memory.{content_of};
 
 use crate::path::blob_path;
@@ -41,6 +42,7 @@ impl<'a> Store for Memory<'a> {
     ghost contents = { λ s. Some (content_of s.kept.now) };
 
     fn open(&self, _alloc: Global, digest: &Digest) -> Result<Opened<&'a [u8]>, AllocError>
+        ensures gives { IfOk result (Gives (λ blob. Some blob.now) (Some (content_of self.now.kept.now)) digest.now) }
         ensures readable { IfOk result (λ o. o ≢ Opened.Unreadable) }
     {
         match find(self.kept, digest.as_ref()) {
@@ -56,6 +58,7 @@ impl<'a> ImageLayout for Memory<'a> {
     ghost tops = { λ s. Some (content_of s.kept.now) };
 
     fn top(&self, _alloc: Global, name: &str) -> Result<Opened<&'a [u8]>, AllocError>
+        ensures gives { IfOk result (Gives (λ blob. Some blob.now) (Some (content_of self.now.kept.now)) name.now) }
         ensures readable { IfOk result (λ o. o ≢ Opened.Unreadable) }
     {
         match find(self.kept, name) {
