@@ -65,7 +65,7 @@ pub fn bytes_from_reader<R: Read>(alloc: Global, reader: &mut R) -> Result<Vec<u
     }
 }
 
-/// One read behind the first `filled` bytes, which are kept. Room for it is made first.
+/// One read after the first `filled` bytes, which are kept. A full buffer grows first.
 fn read_more<R: Read>(reader: &mut R, bytes: &mut Vec<u8>, filled: usize) -> Result<usize>
     requires { filled ≤ vec_len bytes.old }
     ensures front { OnOk result (take filled bytes.new.items ≡ take filled bytes.old.items) }
@@ -74,12 +74,12 @@ fn read_more<R: Read>(reader: &mut R, bytes: &mut Vec<u8>, filled: usize) -> Res
     ensures end { IfOk result (λ n. n ≡ 0 → IsAtEnd (R.remaining reader.new)) }
     ensures kind { IfErr result IsMemoryOrIo }
 {
-    make_room(bytes, filled)?;
-    Ok(read_behind(reader, bytes.as_mut_slice(), filled)?)
+    grow_if_full(bytes, filled)?;
+    Ok(read_after(reader, bytes.as_mut_slice(), filled)?)
 }
 
 /// Doubles the buffer if it is full.
-fn make_room(bytes: &mut Vec<u8>, filled: usize) -> std::result::Result<(), AllocError>
+fn grow_if_full(bytes: &mut Vec<u8>, filled: usize) -> std::result::Result<(), AllocError>
     requires { filled ≤ vec_len bytes.old }
     ensures room { OnOk result (filled < vec_len bytes.new) }
     ensures front { OnOk result (take filled bytes.new.items ≡ take filled bytes.old.items) }
@@ -90,8 +90,8 @@ fn make_room(bytes: &mut Vec<u8>, filled: usize) -> std::result::Result<(), Allo
     Ok(())
 }
 
-/// One read into what stands behind the first `at` bytes.
-fn read_behind<R: Read>(reader: &mut R, bytes: &mut [u8], at: usize) -> io::Result<usize>
+/// One read into what follows the first `at` bytes.
+fn read_after<R: Read>(reader: &mut R, bytes: &mut [u8], at: usize) -> io::Result<usize>
     requires { at < length bytes.old }
     ensures front { take at bytes.new ≡ take at bytes.old }
     ensures fits { IfOk result (λ n. at + n ≤ length bytes.new) }

@@ -4,7 +4,7 @@ use crate::command::{ends_in, tells};
 use oci_test_harness::{Harness, Manner, Sample};
 use std::io::ErrorKind;
 
-/// Bytes that a reader gives at most before it fails: buffers, which double, hold a whole number of such pieces.
+/// Bytes that a reader gives at most before it fails: a power of two, as are the lengths of the buffers that it fills.
 const READ: usize = 128;
 
 /// Bytes that a writer takes at most before it fails.
