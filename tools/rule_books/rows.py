@@ -23,6 +23,8 @@ import json
 import os
 
 PROGRAM = "crates/oci_test_rules"
+# the files of rows that are written by hand, in the order of the program
+BY_HAND = ("restricted-container", "published-image", "each-test", "refused", "unknown", "twice")
 MARK = "# Written by tools/gen_rules from tools/rules/rows; do not edit.\n"
 
 
@@ -141,10 +143,17 @@ def texts(root):
         return [line for line in file if line.strip() and not line.startswith("#")]
 
 
+def blocks(root, name):
+    """The rows of policies and of lints, which are written by hand, with an empty line between them."""
+    with open(os.path.join(root, PROGRAM, f"data/{name}.rows"), encoding="utf-8") as file:
+        return [it for it in file.read().strip().split("\n\n") if not it.startswith("#")]
+
+
 def written(root, rows, model):
     """The data of the test program, a file a kind, and what it prints."""
     out = {f"data/{kind}.rows": MARK + "".join("\n" + row.text() for row in of_kind) for kind, of_kind in rows.items()}
-    out["stdout"] = "".join(f"{kind}: {len(rows.get(kind, ()))} rows\n" for kind in model.kinds) + f"texts: {len(texts(root))} rows\n"
+    counts = [*((kind, rows.get(kind, ())) for kind in model.kinds), ("texts", texts(root)), *((name, blocks(root, name)) for name in BY_HAND)]
+    out["stdout"] = "".join(f"{name}: {len(of_name)} rows\n" for name, of_name in counts)
     return out
 
 

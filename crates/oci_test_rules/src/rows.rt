@@ -1,5 +1,7 @@
-//! The rows of one kind of documents.
+//! The rows of a file, with an empty line between them.
 use crate::books::{broken_of, platform_of};
+use crate::lint::{check_twice, check_unknown};
+use crate::policies::check_refused;
 use anyhow::{Context, Result};
 use oci_rules::Broken;
 use serde_json::Value;
@@ -7,28 +9,43 @@ use std::alloc::Global;
 use std::fs;
 use std::rt::Files;
 
-/// Checks the rows of a kind, and prints each that differs, and how many there are.
-pub fn rows<R: Files + Print + AllocGlobal>(rt: &R, kind: &str) {
-    if let Err(fault) = check_rows(rt, kind) {
-        let _ = println!(rt; "{kind}: {fault}");
+/// Checks the rows of a file, and prints each that differs, and how many there are.
+pub fn rows<R: Files + Print + AllocGlobal>(rt: &R, file: &str) {
+    if let Err(fault) = check_rows(rt, file) {
+        let _ = println!(rt; "{file}: {fault}");
     }
 }
 
-fn check_rows<R: Files + Print + AllocGlobal>(rt: &R, kind: &str) -> Result<()> {
-    let path = format!(in rt.alloc(); "{kind}.rows")?;
-    let text = fs::read_to_string(rt, path.as_str())?;
+/// The text of a file of rows.
+pub fn read<R: Files + AllocGlobal>(rt: &R, file: &str) -> Result<String> {
+    let path = format!(in rt.alloc(); "{file}.rows")?;
+    Ok(fs::read_to_string(rt, path.as_str())?)
+}
+
+fn check_rows<R: Files + Print + AllocGlobal>(rt: &R, file: &str) -> Result<()> {
+    let text = read(rt, file)?;
     let mut count = 0u64;
     for row in text.as_str().trim().split("\n\n") {
         if !row.starts_with('#') {
-            check_row(rt, kind, row)?;
+            check_row(rt, file, row)?;
             count = count.saturating_add(1);
         }
     }
-    println!(rt; "{kind}: {count} rows")?;
+    println!(rt; "{file}: {count} rows")?;
     Ok(())
 }
 
-fn check_row<R: Print + AllocGlobal>(rt: &R, kind: &str, row: &str) -> Result<()> {
+fn check_row<R: Print + AllocGlobal>(rt: &R, file: &str, row: &str) -> Result<()> {
+    match file {
+        "refused" => check_refused(rt, row),
+        "unknown" => check_unknown(rt, row),
+        "twice" => check_twice(rt, row),
+        kind => check_document(rt, kind, row),
+    }
+}
+
+/// Checks a row of a kind of documents.
+fn check_document<R: Print + AllocGlobal>(rt: &R, kind: &str, row: &str) -> Result<()> {
     let (platform, rest) = row.split_once('\n').context("a row has one line")?;
     let (document, expected) = rest.split_once('\n').context("a row has two lines")?;
     let value = Value::from_str(rt.alloc(), document)?;
@@ -41,7 +58,7 @@ fn check_row<R: Print + AllocGlobal>(rt: &R, kind: &str, row: &str) -> Result<()
 }
 
 /// What is listed, as a row has it.
-fn line_of(found: &Vec<Broken<'static>>, alloc: Global) -> Result<String> {
+pub fn line_of(found: &Vec<Broken<'_>>, alloc: Global) -> Result<String> {
     let mut line = String::new(alloc);
     for it in found {
         if !line.is_empty() {

@@ -1,9 +1,8 @@
 //! The defaults of all records and enums, and what a builder makes that is given nothing, where that is not the default.
 
-use crate::documents::{document, refused, report_count};
+use crate::documents::{copied, document, report_count};
 use crate::rows::{ask, count, read};
 use anyhow::Result;
-use oci_json_model::{try_join3, try_join4, try_join5};
 use oci_spec::{distribution, image, runtime};
 use std::fs;
 
@@ -15,18 +14,19 @@ macro_rules! enums {
     };
 }
 
-/// Compares copies of the defaults of some records, which are made together: a result is matched once, and not once for each.
+/// Compares copies of the defaults of some records.
 macro_rules! records {
-    ($rt:expr, $rows:expr, $group:expr; $($join:ident: $($from:ident $name:ident $made:ident)*;)*) => {
+    ($rt:expr, $rows:expr, $group:expr, $($from:ident $name:ident)*) => {
         $(
-            match $join($($from::$name::try_default($rt.alloc())),*) {
-                Ok(($($made),*)) => {
-                    $(document($rt, $rows, stringify!($name), $made.clone($rt.alloc()));)*
-                }
-                Err(fault) => refused($rt, fault),
-            }
+            copied(
+                $rt,
+                $rows,
+                stringify!($name),
+                $from::$name::try_default($rt.alloc()),
+                $from::$name::clone,
+            );
         )*
-        report_count($rt, $group, [$($(stringify!($name),)*)*].len());
+        report_count($rt, $group, [$(stringify!($name)),*].len());
     };
 }
 
@@ -76,135 +76,116 @@ fn enums(rt: &HostRuntime, rows: &str) {
 }
 
 fn image(rt: &HostRuntime, rows: &str) {
-    records!(rt, rows, "image";
-        try_join3:
-            image ImageConfiguration image_configuration
-            image Config config
-            image RootFs root_fs;
-        try_join3:
-            image History history
-            image Platform platform
-            image ImageIndex image_index;
+    records!(rt, rows, "image",
+        image ImageConfiguration
+        image Config
+        image RootFs
+        image History
+        image Platform
+        image ImageIndex
     );
 }
 
 fn linux(rt: &HostRuntime, rows: &str) {
-    records!(rt, rows, "linux";
-        try_join4:
-            runtime Linux linux
-            runtime LinuxIdMapping linux_id_mapping
-            runtime LinuxNetDevice linux_net_device
-            runtime LinuxNamespace linux_namespace;
-        try_join4:
-            runtime LinuxDevice linux_device
-            runtime LinuxSeccomp linux_seccomp
-            runtime LinuxSyscall linux_syscall
-            runtime LinuxSeccompArg linux_seccomp_arg;
-        try_join4:
-            runtime LinuxIntelRdt linux_intel_rdt
-            runtime LinuxPersonality linux_personality
-            runtime LinuxMemoryPolicy linux_memory_policy
-            runtime LinuxTimeOffset linux_time_offset;
+    records!(rt, rows, "linux",
+        runtime Linux
+        runtime LinuxIdMapping
+        runtime LinuxNetDevice
+        runtime LinuxNamespace
+        runtime LinuxDevice
+        runtime LinuxSeccomp
+        runtime LinuxSyscall
+        runtime LinuxSeccompArg
+        runtime LinuxIntelRdt
+        runtime LinuxPersonality
+        runtime LinuxMemoryPolicy
+        runtime LinuxTimeOffset
     );
 }
 
 fn control_groups(rt: &HostRuntime, rows: &str) {
-    records!(rt, rows, "control groups";
-        try_join4:
-            runtime LinuxDeviceCgroup linux_device_cgroup
-            runtime LinuxMemory linux_memory
-            runtime LinuxCpu linux_cpu
-            runtime LinuxPids linux_pids;
-        try_join4:
-            runtime LinuxWeightDevice linux_weight_device
-            runtime LinuxThrottleDevice linux_throttle_device
-            runtime LinuxBlockIo linux_block_io
-            runtime LinuxHugepageLimit linux_hugepage_limit;
-        try_join4:
-            runtime LinuxInterfacePriority linux_interface_priority
-            runtime LinuxNetwork linux_network
-            runtime LinuxResources linux_resources
-            runtime LinuxRdma linux_rdma;
+    records!(rt, rows, "control groups",
+        runtime LinuxDeviceCgroup
+        runtime LinuxMemory
+        runtime LinuxCpu
+        runtime LinuxPids
+        runtime LinuxWeightDevice
+        runtime LinuxThrottleDevice
+        runtime LinuxBlockIo
+        runtime LinuxHugepageLimit
+        runtime LinuxInterfacePriority
+        runtime LinuxNetwork
+        runtime LinuxResources
+        runtime LinuxRdma
     );
 }
 
 fn process(rt: &HostRuntime, rows: &str) {
-    records!(rt, rows, "process";
-        try_join4:
-            runtime Process process
-            runtime Box console
-            runtime PosixRlimit posix_rlimit
-            runtime User user;
-        try_join4:
-            runtime LinuxCapabilities linux_capabilities
-            runtime LinuxIOPriority linux_io_priority
-            runtime Scheduler scheduler
-            runtime ExecCPUAffinity exec_cpu_affinity;
+    records!(rt, rows, "process",
+        runtime Process
+        runtime Box
+        runtime PosixRlimit
+        runtime User
+        runtime LinuxCapabilities
+        runtime LinuxIOPriority
+        runtime Scheduler
+        runtime ExecCPUAffinity
     );
 }
 
 fn platforms(rt: &HostRuntime, rows: &str) {
-    records!(rt, rows, "platforms";
-        try_join5:
-            runtime Solaris solaris
-            runtime SolarisAnet solaris_anet
-            runtime SolarisCappedCPU solaris_capped_cpu
-            runtime SolarisCappedMemory solaris_capped_memory
-            runtime VM vm;
-        try_join5:
-            runtime VMHypervisor vm_hypervisor
-            runtime VMKernel vm_kernel
-            runtime VMImage vm_image
-            runtime ZOS zos
-            runtime ZOSNamespace zos_namespace;
+    records!(rt, rows, "platforms",
+        runtime Solaris
+        runtime SolarisAnet
+        runtime SolarisCappedCPU
+        runtime SolarisCappedMemory
+        runtime VM
+        runtime VMHypervisor
+        runtime VMKernel
+        runtime VMImage
+        runtime ZOS
+        runtime ZOSNamespace
     );
 }
 
 fn windows(rt: &HostRuntime, rows: &str) {
-    records!(rt, rows, "windows";
-        try_join4:
-            runtime Windows windows
-            runtime WindowsDevice windows_device
-            runtime WindowsResources windows_resources
-            runtime WindowsMemoryResources windows_memory_resources;
-        try_join4:
-            runtime WindowsCPUResources windows_cpu_resources
-            runtime WindowsStorageResources windows_storage_resources
-            runtime WindowsHyperV windows_hyper_v
-            runtime WindowsNetwork windows_network;
+    records!(rt, rows, "windows",
+        runtime Windows
+        runtime WindowsDevice
+        runtime WindowsResources
+        runtime WindowsMemoryResources
+        runtime WindowsCPUResources
+        runtime WindowsStorageResources
+        runtime WindowsHyperV
+        runtime WindowsNetwork
     );
 }
 
 fn features(rt: &HostRuntime, rows: &str) {
-    records!(rt, rows, "features";
-        try_join4:
-            runtime Features features
-            runtime LinuxFeature linux_feature
-            runtime Cgroup cgroup
-            runtime Seccomp seccomp;
-        try_join4:
-            runtime Apparmor apparmor
-            runtime Selinux selinux
-            runtime IntelRdt intel_rdt
-            runtime MemoryPolicy memory_policy;
-        try_join3:
-            runtime MountExtensions mount_extensions
-            runtime NetDevices net_devices
-            runtime IDMap id_map;
+    records!(rt, rows, "features",
+        runtime Features
+        runtime LinuxFeature
+        runtime Cgroup
+        runtime Seccomp
+        runtime Apparmor
+        runtime Selinux
+        runtime IntelRdt
+        runtime MemoryPolicy
+        runtime MountExtensions
+        runtime NetDevices
+        runtime IDMap
     );
 }
 
 fn containers(rt: &HostRuntime, rows: &str) {
-    records!(rt, rows, "containers";
-        try_join4:
-            runtime Hooks hooks
-            runtime Hook hook
-            runtime Root root
-            runtime Mount mount;
-        try_join3:
-            runtime Spec spec
-            runtime State state
-            runtime ContainerProcessState container_process_state;
+    records!(rt, rows, "containers",
+        runtime Hooks
+        runtime Hook
+        runtime Root
+        runtime Mount
+        runtime Spec
+        runtime State
+        runtime ContainerProcessState
     );
 }
 

@@ -32,9 +32,21 @@ pub fn document<T: OciMember, R: Print + AllocGlobal>(
     report(rt, name, ask_document(rt, rows, name, made));
 }
 
-/// Prints that defaults are not there.
-pub fn refused<R: Print>(rt: &R, fault: OciSpecError) {
-    let _ = println!(rt; "defaults: {fault}");
+/// Compares a copy of a default with its row.
+pub fn copied<T: OciMember, F: Fn(&T, Global) -> oci_spec::Result<T>, R: Print + AllocGlobal>(
+    rt: &R,
+    rows: &str,
+    name: &str,
+    made: oci_spec::Result<T>,
+    copy: F,
+)
+    requires { F.IsAlwaysCallable copy }
+{
+    let copied = match made {
+        Ok(x) => copy(&x, rt.alloc()),
+        Err(fault) => Err(fault),
+    };
+    document(rt, rows, name, copied);
 }
 
 /// Prints how many defaults of a group were compared.

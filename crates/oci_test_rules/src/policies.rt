@@ -1,14 +1,15 @@
 //! The rows of a policy.
+use crate::rows::{line_of, read};
 use anyhow::{Context, Result, bail};
 use oci_policies::{Bump, Policy};
-use oci_rules::{Broken, Platform, broken};
+use oci_rules::{Platform, broken};
 use serde_json::Value;
-use std::alloc::Global;
 use std::fs;
 use std::rt::Files;
 
-/// Checks the rows of a policy over its file, and returns how many there are.
-pub fn check_policy<R: Files + Print + AllocGlobal>(rt: &R, name: &str, rows: &str) -> Result<u64> {
+/// Checks the rows of a policy over its file, and prints each that differs, and how many there are.
+pub fn check_policy<R: Files + Print + AllocGlobal>(rt: &R, name: &str) -> Result<()> {
+    let rows = read(rt, name)?;
     let path = format!(in rt.alloc(); "{name}.toml")?;
     let text = fs::read_to_string(rt, path.as_str())?;
     let arena = Bump::new(rt.alloc());
@@ -17,13 +18,14 @@ pub fn check_policy<R: Files + Print + AllocGlobal>(rt: &R, name: &str, rows: &s
         Err(error) => bail!("{name}: {error}"),
     };
     let mut count = 0u64;
-    for row in rows.split("\n\n") {
+    for row in rows.as_str().trim().split("\n\n") {
         if !row.starts_with('#') {
             check_row(rt, name, &policy, row)?;
             count = count.saturating_add(1);
         }
     }
-    Ok(count)
+    println!(rt; "{name}: {count} rows")?;
+    Ok(())
 }
 
 fn check_row<R: Print + AllocGlobal>(rt: &R, name: &str, policy: &Policy, row: &str) -> Result<()> {
@@ -36,23 +38,6 @@ fn check_row<R: Print + AllocGlobal>(rt: &R, name: &str, policy: &Policy, row: &
         println!(rt; "{name}: {remark}\nfound    {listed}\nexpected {expected}")?;
     }
     Ok(())
-}
-
-/// What is listed, as a row has it.
-fn line_of(found: &Vec<Broken>, alloc: Global) -> Result<String> {
-    let mut line = String::new(alloc);
-    for it in found {
-        if !line.is_empty() {
-            line.push_str("  ")?;
-        }
-        line.push_str(it.rule.name)?;
-        line.push(' ')?;
-        line.push_str(it.pointer.as_str())?;
-    }
-    if line.is_empty() {
-        line.push('-')?;
-    }
-    Ok(line)
 }
 
 /// Checks a row of a text that is no policy: what is said of it, and the text.
