@@ -2,13 +2,14 @@
 ghost use Rattle.oci_json_model.specs.WellFormed.{WellFormed};
 ghost use Rattle.oci_schema_types.specs.Shapes.{schema_shape};
 
-use anyhow::Result;
+use anyhow::{Result, bail};
 use oci_image::OciLayout;
 use oci_json_io::{from_slice, to_string};
 use oci_json_model::OciRecord;
 use oci_spec::schema::{
-    Records, Schema, is_valid, is_valid_as, normalize, normalize_pretty, normalize_pretty_as,
-    normalize_value, normalize_value_as, violations, violations_as,
+    Records, Schema, Workspace, is_valid, is_valid_as, is_valid_bytes, normalize, normalize_bytes,
+    normalize_pretty, normalize_pretty_as, normalize_pretty_bytes, normalize_value,
+    normalize_value_as, violations, violations_as, violations_in_bytes,
 };
 use oci_text_base::{OciSpecError, SerDeError};
 use serde_json::Value;
@@ -63,6 +64,7 @@ pub fn by_schema<T: Records>(
     schema: &Schema,
     alloc: Global,
     text: &str,
+    workspace: &mut Workspace,
 ) -> Result<String>
     requires { WellFormed (schema_shape (T.shape_at records.now) schema.now) }
 {
@@ -71,10 +73,13 @@ pub fn by_schema<T: Records>(
         Err(fault) => return refused(alloc, &OciSpecError::from(fault)),
     };
     let valid = is_valid(records, schema, &value);
-    let found = violations(records, schema, &value, alloc)?;
+    let count = violations(records, schema, &value, alloc)?.len();
     let answer = normalize_value(records, schema, value, alloc);
-    if valid != found.is_empty() || valid != answer.is_ok() {
+    if valid != (count == 0) || valid != answer.is_ok() {
         return Ok(String::from_str(alloc, "violations are listed, or not")?);
+    }
+    if judged(records, schema, alloc, text, workspace)? != (valid, count) {
+        return Ok(String::from_str(alloc, "the bytes are judged otherwise")?);
     }
     match answer {
         Ok(normal) => {
@@ -90,7 +95,44 @@ pub fn by_schema<T: Records>(
     }
 }
 
-/// What a writer is given of a text that the schema allows, compact and indented.
+/// The same straight from the bytes.
+pub fn by_bytes<T: Records>(
+    records: &T,
+    schema: &Schema,
+    alloc: Global,
+    text: &str,
+    workspace: &mut Workspace,
+) -> Result<String>
+    requires { WellFormed (schema_shape (T.shape_at records.now) schema.now) }
+{
+    let bytes = text.as_bytes();
+    let mut out = Vec::new(alloc);
+    match normalize_bytes(records, schema, alloc, bytes, workspace, &mut out) {
+        Ok(()) => {
+            let compact = text_of(alloc, &out)?;
+            Ok(format!(in alloc; "= {compact}")?)
+        }
+        Err(fault) => refused(alloc, &fault),
+    }
+}
+
+/// Whether the bytes of a text are valid, and how many violations they have.
+fn judged<T: Records>(
+    records: &T,
+    schema: &Schema,
+    alloc: Global,
+    text: &str,
+    workspace: &mut Workspace,
+) -> Result<(bool, usize)>
+    requires { WellFormed (schema_shape (T.shape_at records.now) schema.now) }
+{
+    let bytes = text.as_bytes();
+    let valid = is_valid_bytes(records, schema, alloc, bytes, workspace)?;
+    let found = violations_in_bytes(records, schema, alloc, bytes, workspace)?;
+    Ok((valid, found.len()))
+}
+
+/// What a writer is given of a text that the schema allows, compact and indented. The indented text is made of the bytes too.
 fn streamed<T: Records>(
     records: &T,
     schema: &Schema,
@@ -102,6 +144,11 @@ fn streamed<T: Records>(
     let (mut compact, mut pretty) = (Vec::new(alloc), Vec::new(alloc));
     normalize(records, schema, alloc, text.as_bytes(), &mut compact)?;
     normalize_pretty(records, schema, alloc, text.as_bytes(), &mut pretty)?;
+    let mut again = Vec::new(alloc);
+    normalize_pretty_bytes(records, schema, alloc, text.as_bytes(), &mut again)?;
+    if again != pretty {
+        bail!("two pretty texts");
+    }
     Ok((text_of(alloc, &compact)?, text_of(alloc, &pretty)?))
 }
 

@@ -2,10 +2,10 @@
 ghost use Rattle.oci_json_model.specs.WellFormed.{WellFormed};
 ghost use Rattle.oci_schema_types.specs.Shapes.{schema_shape};
 
-use crate::found::{Reading, by_schema, by_type};
+use crate::found::{Reading, by_bytes, by_schema, by_type};
 use anyhow::{Context, Result};
 use oci_json_model::OciRecord;
-use oci_spec::schema::{HasSchema, Records, Schema};
+use oci_spec::schema::{HasSchema, Records, Schema, Workspace};
 use std::fs;
 use std::rt::Files;
 
@@ -78,14 +78,43 @@ fn check_schema<T: Records, R: Files + Print + AllocGlobal>(
     requires { WellFormed (schema_shape (T.shape_at records.now) schema.now) }
 {
     let text = read(rt, record)?;
+    let mut workspace = Workspace::new(rt.alloc());
     for row in text.as_str().trim().split("\n\n") {
         if !row.starts_with('#') {
-            let (text, expected) = row.rsplit_once('\n').context("a row has one line")?;
-            let found = by_schema(records, schema, rt.alloc(), text)?;
-            if found.as_str() != expected {
-                println!(rt; "{record}: by its schema, of {text}\nfound {found}")?;
-            }
+            check_row_of(rt, record, records, schema, row, &mut workspace)?;
         }
+    }
+    Ok(())
+}
+
+fn check_row_of<T: Records, R: Print + AllocGlobal>(
+    rt: &R,
+    record: &str,
+    records: &T,
+    schema: &Schema,
+    row: &str,
+    workspace: &mut Workspace,
+) -> Result<()>
+    requires { WellFormed (schema_shape (T.shape_at records.now) schema.now) }
+{
+    let (text, expected) = row.rsplit_once('\n').context("a row has one line")?;
+    let found = by_schema(records, schema, rt.alloc(), text, workspace)?;
+    tell(rt, record, "by its schema", text, found.as_str(), expected)?;
+    let found = by_bytes(records, schema, rt.alloc(), text, workspace)?;
+    tell(rt, record, "from bytes", text, found.as_str(), expected)
+}
+
+/// Prints what is found of a text, unless it is what its row expects.
+fn tell<R: Print>(
+    rt: &R,
+    record: &str,
+    way: &str,
+    text: &str,
+    found: &str,
+    expected: &str,
+) -> Result<()> {
+    if found != expected {
+        println!(rt; "{record}: {way}, of {text}\nfound {found}")?;
     }
     Ok(())
 }
