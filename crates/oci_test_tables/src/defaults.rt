@@ -1,6 +1,6 @@
 //! The defaults of all records and enums, and what a builder makes that is given nothing, where that is not the default.
 
-use crate::documents::{copied, document, report_count};
+use crate::documents::{document, report_count};
 use crate::rows::{ask, count, read};
 use anyhow::Result;
 use oci_spec::{distribution, image, runtime};
@@ -16,18 +16,18 @@ macro_rules! enums {
 
 /// Compares copies of the defaults of some records.
 macro_rules! records {
-    ($rt:expr, $rows:expr, $group:expr, $($from:ident $name:ident)*) => {
+    ($rt:expr, $rows:expr, $group:expr, $($from:ident $name:ident)*) => {{
         $(
-            copied(
+            document(
                 $rt,
                 $rows,
                 stringify!($name),
-                $from::$name::try_default($rt.alloc()),
-                $from::$name::clone,
+                $from::$name::try_default($rt.alloc())?.clone($rt.alloc()),
             );
         )*
         report_count($rt, $group, [$(stringify!($name)),*].len());
-    };
+        Ok(())
+    }};
 }
 
 /// Compares what the builders make that are given nothing, where that is not the default: `oci_test_memory` compares those of which it is.
@@ -43,14 +43,14 @@ pub fn all(rt: &HostRuntime) -> Result<()> {
     let rows = read(rt, "defaults")?;
     let rows = rows.as_str();
     enums(rt, rows);
-    image(rt, rows);
-    linux(rt, rows);
-    control_groups(rt, rows);
-    process(rt, rows);
-    platforms(rt, rows);
-    windows(rt, rows);
-    features(rt, rows);
-    containers(rt, rows);
+    image(rt, rows)?;
+    linux(rt, rows)?;
+    control_groups(rt, rows)?;
+    process(rt, rows)?;
+    platforms(rt, rows)?;
+    windows(rt, rows)?;
+    features(rt, rows)?;
+    containers(rt, rows)?;
     builders(rt, rows);
     calls(rt, rows);
     saved(rt, rows)
@@ -75,7 +75,7 @@ fn enums(rt: &HostRuntime, rows: &str) {
     );
 }
 
-fn image(rt: &HostRuntime, rows: &str) {
+fn image(rt: &HostRuntime, rows: &str) -> oci_spec::Result<()> {
     records!(rt, rows, "image",
         image ImageConfiguration
         image Config
@@ -83,10 +83,10 @@ fn image(rt: &HostRuntime, rows: &str) {
         image History
         image Platform
         image ImageIndex
-    );
+    )
 }
 
-fn linux(rt: &HostRuntime, rows: &str) {
+fn linux(rt: &HostRuntime, rows: &str) -> oci_spec::Result<()> {
     records!(rt, rows, "linux",
         runtime Linux
         runtime LinuxIdMapping
@@ -100,10 +100,10 @@ fn linux(rt: &HostRuntime, rows: &str) {
         runtime LinuxPersonality
         runtime LinuxMemoryPolicy
         runtime LinuxTimeOffset
-    );
+    )
 }
 
-fn control_groups(rt: &HostRuntime, rows: &str) {
+fn control_groups(rt: &HostRuntime, rows: &str) -> oci_spec::Result<()> {
     records!(rt, rows, "control groups",
         runtime LinuxDeviceCgroup
         runtime LinuxMemory
@@ -117,10 +117,10 @@ fn control_groups(rt: &HostRuntime, rows: &str) {
         runtime LinuxNetwork
         runtime LinuxResources
         runtime LinuxRdma
-    );
+    )
 }
 
-fn process(rt: &HostRuntime, rows: &str) {
+fn process(rt: &HostRuntime, rows: &str) -> oci_spec::Result<()> {
     records!(rt, rows, "process",
         runtime Process
         runtime Box
@@ -130,10 +130,10 @@ fn process(rt: &HostRuntime, rows: &str) {
         runtime LinuxIOPriority
         runtime Scheduler
         runtime ExecCPUAffinity
-    );
+    )
 }
 
-fn platforms(rt: &HostRuntime, rows: &str) {
+fn platforms(rt: &HostRuntime, rows: &str) -> oci_spec::Result<()> {
     records!(rt, rows, "platforms",
         runtime Solaris
         runtime SolarisAnet
@@ -145,10 +145,10 @@ fn platforms(rt: &HostRuntime, rows: &str) {
         runtime VMImage
         runtime ZOS
         runtime ZOSNamespace
-    );
+    )
 }
 
-fn windows(rt: &HostRuntime, rows: &str) {
+fn windows(rt: &HostRuntime, rows: &str) -> oci_spec::Result<()> {
     records!(rt, rows, "windows",
         runtime Windows
         runtime WindowsDevice
@@ -158,10 +158,10 @@ fn windows(rt: &HostRuntime, rows: &str) {
         runtime WindowsStorageResources
         runtime WindowsHyperV
         runtime WindowsNetwork
-    );
+    )
 }
 
-fn features(rt: &HostRuntime, rows: &str) {
+fn features(rt: &HostRuntime, rows: &str) -> oci_spec::Result<()> {
     records!(rt, rows, "features",
         runtime Features
         runtime LinuxFeature
@@ -174,10 +174,10 @@ fn features(rt: &HostRuntime, rows: &str) {
         runtime MountExtensions
         runtime NetDevices
         runtime IDMap
-    );
+    )
 }
 
-fn containers(rt: &HostRuntime, rows: &str) {
+fn containers(rt: &HostRuntime, rows: &str) -> oci_spec::Result<()> {
     records!(rt, rows, "containers",
         runtime Hooks
         runtime Hook
@@ -186,7 +186,7 @@ fn containers(rt: &HostRuntime, rows: &str) {
         runtime Spec
         runtime State
         runtime ContainerProcessState
-    );
+    )
 }
 
 fn builders(rt: &HostRuntime, rows: &str) {

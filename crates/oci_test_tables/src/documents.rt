@@ -6,14 +6,9 @@ use oci_json_model::OciMember;
 use oci_spec::OciSpecError;
 use std::alloc::Global;
 use std::fmt::Debug;
-use std::rt::Files;
 
 /// Compares constants with their rows, `NAME VALUE`.
-pub fn constants<T: Debug, R: Files + Print + AllocGlobal>(
-    rt: &R,
-    kind: &str,
-    all: &[(&str, T)],
-) -> Result<()> {
+pub fn constants<T: Debug>(rt: &HostRuntime, kind: &str, all: &[(&str, T)]) -> Result<()> {
     let rows = read(rt, "constants")?;
     for (name, value) in all {
         let here = format!(in rt.alloc(); "{name} {value:?}")?;
@@ -23,39 +18,17 @@ pub fn constants<T: Debug, R: Files + Print + AllocGlobal>(
 }
 
 /// Compares a default, or what a builder makes that is given nothing, with its row: `NAME JSON` or `NAME ! FIELD`.
-pub fn document<T: OciMember, R: Print + AllocGlobal>(
-    rt: &R,
-    rows: &str,
-    name: &str,
-    made: oci_spec::Result<T>,
-) {
+pub fn document<T: OciMember>(rt: &HostRuntime, rows: &str, name: &str, made: oci_spec::Result<T>) {
     report(rt, name, ask_document(rt, rows, name, made));
 }
 
-/// Compares a copy of a default with its row.
-pub fn copied<T: OciMember, F: Fn(&T, Global) -> oci_spec::Result<T>, R: Print + AllocGlobal>(
-    rt: &R,
-    rows: &str,
-    name: &str,
-    made: oci_spec::Result<T>,
-    copy: F,
-)
-    requires { F.IsAlwaysCallable copy }
-{
-    let copied = match made {
-        Ok(x) => copy(&x, rt.alloc()),
-        Err(fault) => Err(fault),
-    };
-    document(rt, rows, name, copied);
-}
-
 /// Prints how many defaults of a group were compared.
-pub fn report_count<R: Print>(rt: &R, group: &str, rows: usize) {
+pub fn report_count(rt: &HostRuntime, group: &str, rows: usize) {
     report(rt, group, count(rt, "defaults", group, rows));
 }
 
-fn ask_document<T: OciMember, R: Print + AllocGlobal>(
-    rt: &R,
+fn ask_document<T: OciMember>(
+    rt: &HostRuntime,
     rows: &str,
     name: &str,
     made: oci_spec::Result<T>,

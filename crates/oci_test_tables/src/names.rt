@@ -1,6 +1,8 @@
-//! The enums, a few lines each.
+//! The enums, a line or two each.
 
-use crate::closed::{closed, displayed, json, made, named, numbers, spelled, written};
+use crate::closed::{
+    FromText, Numbered, ask_number, closed, displayed, json, made, numbers, spelled, written,
+};
 use crate::extensible::{docker, lengths, texts};
 use crate::rows::{ask, count_variants, read, report};
 use anyhow::Result;
@@ -14,108 +16,144 @@ use oci_spec::runtime::{
     LinuxSeccompAction, LinuxSeccompFilterFlag, LinuxSeccompOperator, MemoryPolicyFlagType,
     MemoryPolicyModeType, PosixRlimitType, ZOSNamespaceType,
 };
-use std::fmt::Debug;
-use std::rt::Files;
+use std::alloc::Global;
+
+/// Enums that `from_str` reads.
+macro_rules! read_by_from_str {
+    ($($name:ident)*) => {
+        $(
+            impl FromText for $name {
+                fn read(_alloc: Global, text: &str) -> Option<Self> {
+                    $name::from_str(text).ok()
+                }
+            }
+        )*
+    };
+}
+
+/// Enums that a call reads which may be out of memory.
+macro_rules! read_in_memory {
+    ($($name:ident $call:ident)*) => {
+        $(
+            impl FromText for $name {
+                fn read(alloc: Global, text: &str) -> Option<Self> {
+                    $name::$call(alloc, text).ok()
+                }
+            }
+        )*
+    };
+}
+
+macro_rules! numbered {
+    ($($name:ident)*) => {
+        $(
+            impl Numbered for $name {
+                fn number_of(&self) -> u32 {
+                    self.number()
+                }
+            }
+        )*
+    };
+}
+
+read_by_from_str!(
+    LinuxDeviceType
+    LinuxPersonalityDomain
+    MemoryPolicyModeType
+    MemoryPolicyFlagType
+    LinuxSeccompAction
+    SArch
+    LinuxSeccompOperator
+    LinuxSeccompFilterFlag
+    PosixRlimitType
+    IOPriorityClass
+    LinuxSchedulerPolicy
+    LinuxSchedulerFlag
+    Capability
+    ErrorCode
+);
+
+read_in_memory!(
+    LinuxNamespaceType try_from
+    ZOSNamespaceType try_from
+    MediaType from_text
+    Os from_text
+    Arch from_text
+    DigestAlgorithm from_text
+);
+
+numbered!(LinuxNamespaceType SArch LinuxSeccompOperator);
 
 /// Those of the Linux part but seccomp's.
 pub fn linux(rt: &HostRuntime) {
-    closed(
-        rt,
-        "LinuxNamespaceType",
-        |alloc, text: &str| LinuxNamespaceType::try_from(alloc, text).ok(),
-    );
-    let types = LinuxNamespaceType::all();
-    numbered(rt, "LinuxNamespaceType", types, LinuxNamespaceType::number);
+    closed::<LinuxNamespaceType>(rt, "LinuxNamespaceType");
+    both_numbers::<LinuxNamespaceType>(rt, "LinuxNamespaceType");
     report(rt, "LinuxDeviceType", device_types(rt));
-    named(
-        rt,
-        "LinuxPersonalityDomain",
-        LinuxPersonalityDomain::from_str,
-    );
-    named(rt, "MemoryPolicyModeType", MemoryPolicyModeType::from_str);
-    named(rt, "MemoryPolicyFlagType", MemoryPolicyFlagType::from_str);
+    closed::<LinuxPersonalityDomain>(rt, "LinuxPersonalityDomain");
+    closed::<MemoryPolicyModeType>(rt, "MemoryPolicyModeType");
+    closed::<MemoryPolicyFlagType>(rt, "MemoryPolicyFlagType");
 }
 
 // `as_str`, in place of a Display
 fn device_types(rt: &HostRuntime) -> Result<()> {
-    let all = LinuxDeviceType::all();
-    json(rt, "LinuxDeviceType", all)?;
+    json(rt, "LinuxDeviceType", LinuxDeviceType::all())?;
     let rows = read(rt, "LinuxDeviceType")?;
-    for x in all {
+    for x in LinuxDeviceType::all() {
         let text = x.as_str();
         let here = format!(in rt.alloc(); "display {x:?} {text}")?;
         ask(rt, "LinuxDeviceType", rows.as_str(), here.as_str())?;
     }
-    count_variants(rt, "LinuxDeviceType", "display", all.len())?;
-    made(
-        rt,
-        "LinuxDeviceType",
-        "from_str",
-        |_, text: &str| LinuxDeviceType::from_str(text).ok(),
-    )
+    let count = LinuxDeviceType::all().len();
+    count_variants(rt, "LinuxDeviceType", "display", count)?;
+    made::<LinuxDeviceType>(rt, "LinuxDeviceType", "from_str")
 }
 
 /// Compares each variant's number with the crate's and with the kernel's.
-fn numbered<T: Debug, F: Fn(&T) -> u32, R: Files + Print + AllocGlobal>(
-    rt: &R,
-    table: &str,
-    all: &[T],
-    number: F,
-)
-    requires { F.IsAlwaysCallable number }
-{
-    report(rt, table, numbers(rt, table, "number", all, &number));
-    report(rt, table, numbers(rt, table, "kernel", all, &number));
+fn both_numbers<T: Numbered + 'static>(rt: &HostRuntime, table: &str) {
+    report(rt, table, numbers::<T>(rt, table, "number"));
+    report(rt, table, numbers::<T>(rt, table, "kernel"));
 }
 
 /// Those of seccomp.
 pub fn seccomp(rt: &HostRuntime) {
-    named(rt, "LinuxSeccompAction", LinuxSeccompAction::from_str);
+    closed::<LinuxSeccompAction>(rt, "LinuxSeccompAction");
     report(rt, "LinuxSeccompAction", actions(rt));
-    named(rt, "SArch", SArch::from_str);
-    numbered(rt, "SArch", SArch::all(), SArch::number);
-    named(rt, "LinuxSeccompOperator", LinuxSeccompOperator::from_str);
-    let operators = LinuxSeccompOperator::all();
-    numbered(
-        rt,
-        "LinuxSeccompOperator",
-        operators,
-        LinuxSeccompOperator::number,
-    );
-    named(
-        rt,
-        "LinuxSeccompFilterFlag",
-        LinuxSeccompFilterFlag::from_str,
-    );
+    closed::<SArch>(rt, "SArch");
+    both_numbers::<SArch>(rt, "SArch");
+    closed::<LinuxSeccompOperator>(rt, "LinuxSeccompOperator");
+    both_numbers::<LinuxSeccompOperator>(rt, "LinuxSeccompOperator");
+    closed::<LinuxSeccompFilterFlag>(rt, "LinuxSeccompFilterFlag");
 }
 
 fn actions(rt: &HostRuntime) -> Result<()> {
-    let all = LinuxSeccompAction::all();
-    let table = "LinuxSeccompAction";
-    numbers(rt, table, "number", all, |x| u32::from(*x))?;
-    numbers(rt, table, "as_u32", all, |x| x.as_u32(Some(42)))?;
-    numbers(rt, table, "kernel", all, |x| x.as_u32(Some(0)))
+    let (table, all) = ("LinuxSeccompAction", LinuxSeccompAction::all());
+    let rows = read(rt, table)?;
+    let rows = rows.as_str();
+    for x in all {
+        ask_number(rt, table, rows, "number", x, u32::from(*x))?;
+        ask_number(rt, table, rows, "as_u32", x, x.as_u32(Some(42)))?;
+        ask_number(rt, table, rows, "kernel", x, x.as_u32(Some(0)))?;
+    }
+    for kind in ["number", "as_u32", "kernel"] {
+        count_variants(rt, table, kind, all.len())?;
+    }
+    Ok(())
 }
 
 /// Those of a process but capabilities.
 pub fn process(rt: &HostRuntime) {
-    named(rt, "PosixRlimitType", PosixRlimitType::from_str);
-    named(rt, "IOPriorityClass", IOPriorityClass::from_str);
-    named(rt, "LinuxSchedulerPolicy", LinuxSchedulerPolicy::from_str);
-    named(rt, "LinuxSchedulerFlag", LinuxSchedulerFlag::from_str);
+    closed::<PosixRlimitType>(rt, "PosixRlimitType");
+    closed::<IOPriorityClass>(rt, "IOPriorityClass");
+    closed::<LinuxSchedulerPolicy>(rt, "LinuxSchedulerPolicy");
+    closed::<LinuxSchedulerFlag>(rt, "LinuxSchedulerFlag");
 }
 
 /// Capabilities, which JSON texts spell in more ways than one.
 pub fn capabilities(rt: &HostRuntime) -> Result<()> {
     json(rt, "Capability", &capability::ALL)?;
-    spelled::<Capability, HostRuntime>(rt, "Capability", "from_json")?;
+    spelled::<Capability>(rt, "Capability", "from_json")?;
     displayed(rt, "Capability", &capability::ALL)?;
-    made(
-        rt,
-        "Capability",
-        "from_str",
-        |_, text: &str| Capability::from_str(text).ok(),
-    )?;
+    made::<Capability>(rt, "Capability", "from_str")?;
     written(rt, "Capability", "header", &capability::ALL)
 }
 
@@ -133,13 +171,9 @@ static PARSE_ERRORS: [ParseError; 8] = [
 
 /// Those of z/OS, of states and of a registry's errors.
 pub fn others(rt: &HostRuntime) {
-    closed(
-        rt,
-        "ZOSNamespaceType",
-        |alloc, text: &str| ZOSNamespaceType::try_from(alloc, text).ok(),
-    );
+    closed::<ZOSNamespaceType>(rt, "ZOSNamespaceType");
     report(rt, "ContainerState", states(rt));
-    named(rt, "ErrorCode", ErrorCode::from_str);
+    closed::<ErrorCode>(rt, "ErrorCode");
     report(rt, "ParseError", displayed(rt, "ParseError", &PARSE_ERRORS));
 }
 
@@ -150,26 +184,10 @@ fn states(rt: &HostRuntime) -> Result<()> {
 
 /// Those that have other texts too.
 pub fn extensible(rt: &HostRuntime) -> Result<()> {
-    texts(
-        rt,
-        "MediaType",
-        |alloc, text: &str| MediaType::from_text(alloc, text).ok(),
-    )?;
+    texts::<MediaType>(rt, "MediaType")?;
     docker(rt)?;
-    texts(
-        rt,
-        "Os",
-        |alloc, text: &str| Os::from_text(alloc, text).ok(),
-    )?;
-    texts(
-        rt,
-        "Arch",
-        |alloc, text: &str| Arch::from_text(alloc, text).ok(),
-    )?;
-    texts(
-        rt,
-        "DigestAlgorithm",
-        |alloc, text: &str| DigestAlgorithm::from_text(alloc, text).ok(),
-    )?;
+    texts::<Os>(rt, "Os")?;
+    texts::<Arch>(rt, "Arch")?;
+    texts::<DigestAlgorithm>(rt, "DigestAlgorithm")?;
     lengths(rt)
 }

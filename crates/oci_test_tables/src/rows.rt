@@ -2,10 +2,9 @@
 
 use anyhow::Result;
 use std::fs;
-use std::rt::Files;
 
 /// The rows of a table.
-pub fn read<R: Files + AllocGlobal>(rt: &R, table: &str) -> Result<String> {
+pub fn read(rt: &HostRuntime, table: &str) -> Result<String> {
     let path = format!(in rt.alloc(); "{table}.rows")?;
     Ok(fs::read_to_string(rt, path.as_str())?)
 }
@@ -21,7 +20,7 @@ pub fn text_of<'a>(row: &'a str, kind: &str) -> Option<&'a str> {
 }
 
 /// Prints what is here of a row, unless it is the row.
-pub fn compare<R: Print>(rt: &R, table: &str, row: &str, here: &str) -> Result<()> {
+pub fn compare(rt: &HostRuntime, table: &str, row: &str, here: &str) -> Result<()> {
     if here != row {
         println!(rt; "{table}: {row}; here {here}")?;
     }
@@ -29,7 +28,7 @@ pub fn compare<R: Print>(rt: &R, table: &str, row: &str, here: &str) -> Result<(
 }
 
 /// Prints a row that is made here, unless it is one of these.
-pub fn ask<R: Print>(rt: &R, table: &str, rows: &str, here: &str) -> Result<()> {
+pub fn ask(rt: &HostRuntime, table: &str, rows: &str, here: &str) -> Result<()> {
     for row in rows.split('\n') {
         if here == row {
             return Ok(());
@@ -40,19 +39,19 @@ pub fn ask<R: Print>(rt: &R, table: &str, rows: &str, here: &str) -> Result<()> 
 }
 
 /// Prints how many rows of a kind were compared.
-pub fn count<R: Print>(rt: &R, table: &str, kind: &str, rows: usize) -> Result<()> {
+pub fn count(rt: &HostRuntime, table: &str, kind: &str, rows: usize) -> Result<()> {
     println!(rt; "{table}, {kind}: {rows} rows")?;
     Ok(())
 }
 
 /// Prints of how many variants a row of a kind was asked for.
-pub fn count_variants<R: Print>(rt: &R, table: &str, kind: &str, variants: usize) -> Result<()> {
+pub fn count_variants(rt: &HostRuntime, table: &str, kind: &str, variants: usize) -> Result<()> {
     println!(rt; "{table}, {kind}: {variants} variants")?;
     Ok(())
 }
 
 /// Prints what did not end as it should.
-pub fn report<R: Print>(rt: &R, table: &str, outcome: Result<()>) {
+pub fn report(rt: &HostRuntime, table: &str, outcome: Result<()>) {
     if let Err(fault) = outcome {
         let _ = println!(rt; "{table}: {fault}");
     }
