@@ -13,6 +13,7 @@ mod defaults;
 mod documents;
 mod extensible;
 mod names;
+mod reads;
 mod rows;
 mod values;
 

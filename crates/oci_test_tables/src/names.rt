@@ -1,7 +1,7 @@
 //! The enums, a line or two each.
 
 use crate::closed::{
-    FromText, Numbered, ask_number, closed, displayed, json, made, numbers, spelled, written,
+    Numbered, ask_number, closed, displayed, json, made, numbers, spelled, written,
 };
 use crate::extensible::{docker, lengths, texts};
 use crate::rows::{ask, count_variants, read, report};
@@ -16,73 +16,6 @@ use oci_spec::runtime::{
     LinuxSeccompAction, LinuxSeccompFilterFlag, LinuxSeccompOperator, MemoryPolicyFlagType,
     MemoryPolicyModeType, PosixRlimitType, ZOSNamespaceType,
 };
-use std::alloc::Global;
-
-/// Enums that `from_str` reads.
-macro_rules! read_by_from_str {
-    ($($name:ident)*) => {
-        $(
-            impl FromText for $name {
-                fn read(_alloc: Global, text: &str) -> Option<Self> {
-                    $name::from_str(text).ok()
-                }
-            }
-        )*
-    };
-}
-
-/// Enums that a call reads which may be out of memory.
-macro_rules! read_in_memory {
-    ($($name:ident $call:ident)*) => {
-        $(
-            impl FromText for $name {
-                fn read(alloc: Global, text: &str) -> Option<Self> {
-                    $name::$call(alloc, text).ok()
-                }
-            }
-        )*
-    };
-}
-
-macro_rules! numbered {
-    ($($name:ident)*) => {
-        $(
-            impl Numbered for $name {
-                fn number_of(&self) -> u32 {
-                    self.number()
-                }
-            }
-        )*
-    };
-}
-
-read_by_from_str!(
-    LinuxDeviceType
-    LinuxPersonalityDomain
-    MemoryPolicyModeType
-    MemoryPolicyFlagType
-    LinuxSeccompAction
-    SArch
-    LinuxSeccompOperator
-    LinuxSeccompFilterFlag
-    PosixRlimitType
-    IOPriorityClass
-    LinuxSchedulerPolicy
-    LinuxSchedulerFlag
-    Capability
-    ErrorCode
-);
-
-read_in_memory!(
-    LinuxNamespaceType try_from
-    ZOSNamespaceType try_from
-    MediaType from_text
-    Os from_text
-    Arch from_text
-    DigestAlgorithm from_text
-);
-
-numbered!(LinuxNamespaceType SArch LinuxSeccompOperator);
 
 /// Those of the Linux part but seccomp's.
 pub fn linux(rt: &HostRuntime) {
