@@ -77,14 +77,24 @@ fn verify_layout<L: ImageLayout, C: Watch, W: Write, E: Write>(
             )
         }
         Top::TooLarge => {
-            let text = "too large to be read as a document";
-            let finding = Finding::at(alloc, "too-large", false, "index.json", text)?;
-            told.tell(alloc, options, &finding, writer)?;
-            told.finish(alloc, options, 0, 0, writer)?;
+            tell_too_large(alloc, options, told, writer)?;
             Ok(false)
         }
         Top::Missing | Top::Unreadable => Err(OciSpecError::Other(String::new(alloc))),
     }
+}
+
+/// Reports that `index.json` is too large to be looked at, and ends.
+fn tell_too_large<W: Write>(
+    alloc: Global,
+    options: &Options,
+    mut told: Told,
+    writer: &mut W,
+) -> Result<()> {
+    let text = "too large to be read as a document";
+    let finding = Finding::at(alloc, "too-large", false, "index.json", text)?;
+    told.tell(alloc, options, &finding, writer)?;
+    told.finish(alloc, options, 0, 0, writer)
 }
 
 /// The same, from the bytes of `index.json` on.

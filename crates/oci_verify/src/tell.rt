@@ -78,25 +78,34 @@ impl Told {
         bytes: u64,
         writer: &mut W,
     ) -> Result<()> {
+        if options.json {
+            let text = self.document(alloc, claims, bytes)?;
+            write_text(text.as_bytes(), writer)?;
+        }
+        Ok(())
+    }
+
+    /// The document of all that was reported, and a newline.
+    fn document(self, alloc: Global, claims: u64, bytes: u64) -> Result<String> {
         let Told {
             findings,
             notes,
             listed,
         } = self;
-        if !options.json {
-            return Ok(());
-        }
         let mut members = Map::new(alloc);
         put(alloc, &mut members, "claims", Value::from(claims))?;
         put(alloc, &mut members, "bytes", Value::from(bytes))?;
         put(alloc, &mut members, "findings", Value::from(findings))?;
         put(alloc, &mut members, "notes", Value::from(notes))?;
         put(alloc, &mut members, "list", Value::Array(listed))?;
-        let mut text = Value::Object(members).to_string(alloc)?;
-        text.push_str("\n")?;
-        write_text(text.as_bytes(), writer)?;
-        Ok(())
+        line_of(alloc, &Value::Object(members))
     }
+}
+
+fn line_of(alloc: Global, value: &Value) -> Result<String> {
+    let mut text = value.to_string(alloc)?;
+    text.push_str("\n")?;
+    Ok(text)
 }
 
 fn put(alloc: Global, members: &mut Map<String, Value>, name: &str, value: Value) -> Result<()> {
@@ -108,26 +117,26 @@ fn text_of(alloc: Global, text: &str) -> Result<Value> {
     Ok(Value::String(String::from_str(alloc, text)?))
 }
 
-fn json_of(alloc: Global, finding: &Finding) -> Result<Value> {
+fn put_text(alloc: Global, members: &mut Map<String, Value>, name: &str, text: &str) -> Result<()> {
+    put(alloc, members, name, text_of(alloc, text)?)
+}
+
+/// The places by which a finding was reached.
+fn path_of(alloc: Global, finding: &Finding) -> Result<Value> {
     let mut path = Vec::new(alloc);
     for place in &finding.claimed_by {
         path.push(text_of(alloc, place.as_str())?)?;
     }
+    Ok(Value::Array(path))
+}
+
+fn json_of(alloc: Global, finding: &Finding) -> Result<Value> {
+    let path = path_of(alloc, finding)?;
     let mut members = Map::new(alloc);
-    put(alloc, &mut members, "kind", text_of(alloc, finding.kind)?)?;
+    put_text(alloc, &mut members, "kind", finding.kind)?;
     put(alloc, &mut members, "note", Value::Bool(finding.is_note))?;
-    put(
-        alloc,
-        &mut members,
-        "place",
-        text_of(alloc, finding.place.as_str())?,
-    )?;
-    put(
-        alloc,
-        &mut members,
-        "text",
-        text_of(alloc, finding.text.as_str())?,
-    )?;
-    put(alloc, &mut members, "claimedBy", Value::Array(path))?;
+    put_text(alloc, &mut members, "place", finding.place.as_str())?;
+    put_text(alloc, &mut members, "text", finding.text.as_str())?;
+    put(alloc, &mut members, "claimedBy", path)?;
     Ok(Value::Object(members))
 }
