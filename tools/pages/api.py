@@ -147,10 +147,11 @@ def call_lines(call):
 
 
 def implements(item):
-    """A line on the traits that a type has: those that are derived, and the others with what their ghost members say."""
+    """A line on the traits that a type has for a user: those that are derived, and the others with what their ghost members say. A trait
+    of a program is its own."""
     told = [f"`{word}`" for word in item.derives() if word != "Error"]
     for impl in sources.impls_by_type().get(item, ()):
-        if " for " not in impl.head():
+        if " for " not in impl.head() or sources.crate(impl.crate).is_program:
             continue
         name = re.sub(r"^impl(<.*?>)? ", "", impl.head().partition(" for ")[0]).replace("fmt::", "")
         texts = [re.sub(r"\s+", " ", " ".join(it.lines)) for it in impl.inner() if it.kind == "ghost"]
