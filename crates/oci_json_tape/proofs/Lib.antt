@@ -1,5 +1,10 @@
 pub mod Bridge
+pub mod Containers
 pub mod Fitting
+pub mod Kept
 pub mod LookUps
+pub mod Made
+pub mod Nesting
+pub mod Ordered
 pub mod Passes
 pub mod Walks

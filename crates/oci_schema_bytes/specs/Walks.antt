@@ -14,7 +14,7 @@ use Rattle.oci_json.specs.Readable.{IsReadable, HoldReadable}
 use Rattle.oci_json_model.specs.Shape.{Shape, text, named, open_name, digest_text, cpu_text}
 use Rattle.oci_json_model.specs.Value.{capability_texts}
 use Rattle.oci_json_tape.specs.Elements.{BeginsWithData}
-pub use Rattle.oci_json_values.specs.Values.{IfDone}
+pub use Rattle.oci_json_tape.specs.Values.{IfDone}
 use Rattle.oci_process_names.specs.Capability.{capability_table}
 use Rattle.oci_process_names.specs.CpuScan.{is_cpu_text}
 use Rattle.oci_schema_walks.specs.Allows.{is_digest_text, is_in_range}

@@ -9,7 +9,7 @@ ghost use Rattle.oci_schema_bytes.specs.Fields.{written_for};
 ghost use Rattle.oci_schema_bytes.specs.Walks.{IfDone, WritesTree};
 
 use crate::scalar::{write_boolean, write_signed, write_string, write_unsigned};
-use oci_json_text::CompactWriter;
+use oci_json_tape::CompactWriter;
 use oci_schema_types::{DefaultValue, Member, Part, Presence, Scalar, Schema};
 use std::alloc::AllocError;
 

@@ -7,8 +7,7 @@ ghost use Rattle.oci_schema_walks.specs.Normalized.{IsSound};
 ghost use Rattle.oci_schema_bytes.specs.Walks.{IfDone, WritesNormal};
 
 use json::Element;
-use oci_json_text::CompactWriter;
-use oci_json_values::{value_of, write_value};
+use oci_json_tape::{CompactWriter, value_of, write_value};
 use oci_schema_types::{Part, Records, Scalar, Schema};
 use oci_schema_walks::normal_value::normal_value;
 use oci_text_base::OciSpecError;

@@ -8,8 +8,7 @@ ghost use Rattle.oci_schema_bytes.specs.Walks.{IfDone, WritesNormal, IsNormalSet
 use crate::scalar::write_scalar;
 use json::Element;
 use oci_json_model::JsonName;
-use oci_json_tape::{items, next_item, text};
-use oci_json_text::CompactWriter;
+use oci_json_tape::{CompactWriter, items, next_item, text};
 use oci_process_names::capability::ALL;
 use oci_schema_types::Scalar;
 use std::alloc::AllocError;

@@ -10,8 +10,7 @@ ghost use Rattle.oci_schema_bytes.specs.Texts.{IsNormalText};
 
 use crate::walk::write_value;
 use json::{Error, Scratch, Tape};
-use oci_json_tape::open;
-use oci_json_text::CompactWriter;
+use oci_json_tape::{CompactWriter, open};
 use oci_schema_types::{Records, Schema};
 use std::alloc::{AllocError, Global};
 

@@ -10,8 +10,7 @@ ghost use Rattle.oci_json_tape.specs.Numbers.{num_of};
 ghost use Rattle.oci_schema_bytes.specs.Walks.{IfDone, WritesTree, WritesNormal, IsTextOf, WritesWhole};
 
 use json::Element;
-use oci_json_tape::{Number, boolean, number, text};
-use oci_json_text::CompactWriter;
+use oci_json_tape::{CompactWriter, Number, boolean, number, text};
 use oci_process_names::is_cpu_list;
 use oci_schema_types::Scalar;
 use oci_text::is_digest;

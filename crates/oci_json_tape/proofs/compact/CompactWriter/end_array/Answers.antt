@@ -1,9 +1,9 @@
 -- What was begun is closed.
 use Rattle.std.proofs.Common.{sym, subst}
 use Rattle.std.proofs.lemmas.Result.{on_ok_weaker}
-use Rattle.oci_json_text.specs.Tokens.{IsOpenArray}
-use Rattle.oci_json_text.proofs.Open.{closed_array}
-use Rattle.oci_json_text.proofs.compact.CompactWriter.end_array.Goals as goal
+use Rattle.oci_json_tape.specs.Tokens.{IsOpenArray}
+use Rattle.oci_json_tape.proofs.Containers.{closed_array}
+use Rattle.oci_json_tape.proofs.compact.CompactWriter.end_array.Goals as goal
 
 pub returns-clause-closed : goal.returns-clause-closed
 returns-clause-closed c =

@@ -5,10 +5,10 @@ ghost use Rattle.serde_json.specs.Find.{is_float};
 ghost use Rattle.serde_json.specs.View.{view, number_view, items_view, members_view};
 ghost use Rattle.serde_json.specs.Written.{has_float, items_have_float, members_have_float};
 ghost use Rattle.oci_json.specs.Readable.{IsHeld, IsReadable, AreReadable, IsInOrder, HoldReadable};
-ghost use Rattle.oci_json_text.specs.Tokens.{data_tokens};
-ghost use Rattle.oci_json_values.specs.Values.{IfDone};
+ghost use Rattle.oci_json_tape.specs.Tokens.{data_tokens};
+ghost use Rattle.oci_json_tape.specs.Values.{IfDone};
 
-use oci_json_text::CompactWriter;
+use crate::compact::CompactWriter;
 use serde_json::{Map, Number, Value};
 use std::alloc::AllocError;
 

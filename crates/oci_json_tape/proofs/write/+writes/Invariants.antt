@@ -4,8 +4,8 @@ use Rattle.serde_json.specs.Data.{array, object}
 use Rattle.serde_json.specs.View.{items_view, members_view}
 use Rattle.serde_json.specs.Written.{items_outline, members_outline, items_have_float, members_have_float}
 use Rattle.oci_json.specs.Readable.{AreReadable, HoldReadable}
-use Rattle.oci_json_text.specs.Tokens.{data_tokens}
-use Rattle.oci_json_values.proofs.write.+writes.Given as goal
+use Rattle.oci_json_tape.specs.Tokens.{data_tokens}
+use Rattle.oci_json_tape.proofs.write.+writes.Given as goal
 
 abbrev pub invariant-write_items-loop-item : goal.invariant-write_items-loop-item
 invariant-write_items-loop-item l =

@@ -2,8 +2,8 @@ use Rattle.std.proofs.Common.{◌+◌, ◌*◌, ◌≤◌, length}
 use Rattle.serde_json.specs.Data.{Items, items_depth, Members, members_depth, no_members}
 use Rattle.serde_json.specs.View.{items_view, members_view}
 use Rattle.oci_json_tape.specs.Walked.{InItemsData, InMembersData}
-use Rattle.oci_json_values.proofs.Made.{ItemsMade}
-use Rattle.oci_json_values.proofs.read.+reads.Given as goal
+use Rattle.oci_json_tape.proofs.Made.{ItemsMade}
+use Rattle.oci_json_tape.proofs.read.+reads.Given as goal
 
 abbrev pub decreases-value_of : goal.decreases-value_of
 decreases-value_of l = 2 * l.depth

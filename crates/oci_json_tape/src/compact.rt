@@ -4,7 +4,7 @@ ghost use Rattle.json.specs.Token.{Token, key as key_token};
 ghost use Rattle.serde_json.specs.Data.{Data, unsigned as unsigned_number, null as null_data, boolean as boolean_data, number, string as string_data, array, object, no_items, no_members, Items, Members};
 ghost use Rattle.serde_json.specs.Find.{of_integer};
 ghost use Rattle.serde_json.specs.Written.{compact_text};
-ghost use Rattle.oci_json_text.specs.Tokens.{data_tokens, IsOpenArray, IsOpenObject};
+ghost use Rattle.oci_json_tape.specs.Tokens.{data_tokens, IsOpenArray, IsOpenObject};
 
 use json::Writer;
 use std::alloc::{AllocError, Global};
@@ -44,7 +44,7 @@ impl CompactWriter {
     }
 
     /// The text.
-    #[tactic(auto, using(crate::proofs::Open::text_of))]
+    #[tactic(auto, using(crate::proofs::Containers::text_of))]
     pub fn into_bytes(self) -> Vec<u8>
         ensures text { (d : Data) → self ≡ data_tokens d → result.items ≡ compact_text d }
         ensures utf8 { IsUtf8 result.items }

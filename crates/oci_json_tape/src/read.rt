@@ -5,12 +5,12 @@ ghost use Rattle.serde_json.specs.View.{view};
 ghost use Rattle.oci_json_tape.specs.Elements.{BeginsWithData};
 ghost use Rattle.oci_json_tape.specs.Numbers.{num_of};
 ghost use Rattle.oci_json_tape.specs.Walked.{InItemsData, InMembersData};
-ghost use Rattle.oci_json_values.specs.Values.{IfMade};
+ghost use Rattle.oci_json_tape.specs.Values.{IfMade};
 
+use crate::element::{boolean, is_null, number, text};
+use crate::numeral::Number;
+use crate::walk::{items, members, next_item, next_member};
 use json::{Element, Items, Members};
-use oci_json_tape::{
-    Number, boolean, is_null, items, members, next_item, next_member, number, text,
-};
 use serde_json::{Map, Value};
 use std::alloc::{AllocError, Global};
 

@@ -3,9 +3,9 @@ use Rattle.serde_json.specs.Data.{Data, depth, items_depth, array, object}
 use Rattle.serde_json.specs.View.{items_view}
 use Rattle.serde_json.proofs.Views.{view-Array, view-Object}
 use Rattle.oci_json_tape.specs.Elements.{BeginsWithData}
-use Rattle.oci_json_values.proofs.Made.{ItemsMade, made_value, array_made, object_made, items_more, items_over, members_more, members_over}
-use Rattle.oci_json_values.proofs.Nesting.{item_nests, member_nests}
-use Rattle.oci_json_values.proofs.read.+reads.Goals as goal
+use Rattle.oci_json_tape.proofs.Made.{ItemsMade, made_value, array_made, object_made, items_more, items_over, members_more, members_over}
+use Rattle.oci_json_tape.proofs.Nesting.{item_nests, member_nests}
+use Rattle.oci_json_tape.proofs.read.+reads.Goals as goal
 
 pub value_of-returns-in-Some-clause-value : goal.value_of-returns-in-Some-clause-value
 value_of-returns-in-Some-clause-value t c = array_made c.array_of.result c.args.element.now c.in-Some.rest c.in-Some.ensures c.array_of.ensures.value

@@ -9,7 +9,7 @@ use Rattle.serde_json.specs.declared.value.Value.{Value}
 use Rattle.serde_json.proofs.Views.{Entry, members_view-insert_entry}
 use Rattle.oci_json_tape.specs.Elements.{BeginsWithData}
 use Rattle.oci_json_tape.specs.Walked.{InItemsData, InMembersData, NextItemData, NextMemberData}
-use Rattle.oci_json_values.specs.Values.{IfMade}
+use Rattle.oci_json_tape.specs.Values.{IfMade}
 
 -- what is said of the value that was made
 pub made_value : (o : Option Value) (v : Value) (P : Data → Type 0) → o ≡ Some v → IfSome o (λ w. P (view w)) → P (view v)

@@ -6,7 +6,7 @@ use Rattle.json.specs.Tree.{items_tokens, members_tokens}
 use Rattle.serde_json.specs.Data.{Data, array, object, Items, no_items, item, Members, no_members, member}
 use Rattle.serde_json.specs.Written.{compact_text, items_outline, members_outline}
 use Rattle.serde_json.proofs.Texts.{print-outline}
-use Rattle.oci_json_text.specs.Tokens.{data_tokens, item_tokens, member_tokens, with_last_item, with_last_member, IsOpenArray, IsOpenObject}
+use Rattle.oci_json_tape.specs.Tokens.{data_tokens, item_tokens, member_tokens, with_last_item, with_last_member, IsOpenArray, IsOpenObject}
 
 -- the text of a tree's tokens
 pub text_of : (ts : List Token) (bytes : List ℕ) (d : Data) → bytes ≡ [] ++ print ts → ts ≡ data_tokens d → bytes ≡ compact_text d

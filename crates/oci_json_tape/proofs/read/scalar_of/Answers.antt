@@ -2,8 +2,8 @@ use Rattle.std.proofs.Common.{◌≡◌, ◌∙◌, sym, rules}
 use Rattle.serde_json.specs.Data.{null, boolean, string}
 use Rattle.serde_json.specs.View.{view}
 use Rattle.serde_json.specs.declared.value.Value.{String, Bool, Null, the_lemmas}
-use Rattle.oci_json_values.proofs.Kept.{string_kept, boolean_kept, null_kept, number_made}
-use Rattle.oci_json_values.proofs.read.scalar_of.Goals as goal
+use Rattle.oci_json_tape.proofs.Kept.{string_kept, boolean_kept, null_kept, number_made}
+use Rattle.oci_json_tape.proofs.read.scalar_of.Goals as goal
 
 pub returns-in-Some-clause-value : goal.returns-in-Some-clause-value
 returns-in-Some-clause-value c d b =

@@ -1,4 +1,0 @@
-pub mod Kept
-pub mod Made
-pub mod Nesting
-pub mod Ordered
