@@ -129,6 +129,10 @@ fn run(rt: &HostRuntime, asked: &Asked<'_>) -> u8 {
 }
 
 fn verify(rt: &HostRuntime, options: &Options, root: &str) -> u8 {
+    if let Err(fault) = fs::read_dir(rt, root) {
+        let _ = eprintln!(rt; "ciderglen: {root}: {fault}");
+        return 3;
+    }
     let folder = Folder { rt, root };
     let mut writer = rt.stdout();
     let mut errors = rt.stderr();

@@ -15,15 +15,15 @@ use oci_layout::{
     findings_at, is_sound_walk, read_document, read_top, walk_all,
 };
 use oci_text_base::{OciSpecError, Result};
-use std::alloc::Global;
-use std::io::Write;
+use std::alloc::{AllocError, Global};
+use std::io::{ErrorKind, Write};
 
 /// How many bytes are read at once.
 const PIECE: usize = 65536;
 
 /// Verifies all that the index of a layout reaches, reports what it finds, and returns the exit status: 0 if nothing stands against the
-/// layout, 1 if something does, and 3 if it has no index that can be read, if a write failed, or if out of memory; a line on the
-/// standard error then says which.
+/// layout, 1 if something does, and 3 if it has no index that can be read, if a write failed, or if out of memory. A line on the
+/// standard error then says which, but where the reader of what is written has gone away.
 pub fn run<L: ImageLayout, C: Watch, W: Write, E: Write>(
     layout: &L,
     options: &Options,
@@ -39,18 +39,24 @@ pub fn run<L: ImageLayout, C: Watch, W: Write, E: Write>(
         Ok(true) => 0,
         Ok(false) => 1,
         Err(refusal) => {
-            let _ = write_text(refusal_line(&refusal).as_bytes(), errors);
+            complain(&refusal, alloc, errors);
             3
         }
     }
 }
 
-fn refusal_line(refusal: &OciSpecError) -> &'static str {
-    match refusal {
-        OciSpecError::Memory => "ciderglen: out of memory\n",
-        OciSpecError::Io(_) => "ciderglen: the findings cannot be written\n",
-        _ => "ciderglen: index.json cannot be read\n",
-    }
+/// Says why a verification ended before its end. Nothing is said of a reader that has gone away, as `head` does.
+fn complain<E: Write>(refusal: &OciSpecError, alloc: Global, errors: &mut E) {
+    let line = match refusal {
+        OciSpecError::Io(fault) if fault.kind() == ErrorKind::BrokenPipe => return,
+        OciSpecError::Io(fault) => format!(in alloc; "ciderglen: cannot write: {fault}\n"),
+        OciSpecError::Other(text) => format!(in alloc; "ciderglen: {text}\n"),
+        _ => Err(AllocError),
+    };
+    let _ = match line {
+        Ok(line) => write_text(line.as_bytes(), errors),
+        Err(_) => write_text(b"ciderglen: out of memory\n", errors),
+    };
 }
 
 /// Whether nothing stands against the layout; what does is reported.
@@ -80,7 +86,16 @@ fn verify_layout<L: ImageLayout, C: Watch, W: Write, E: Write>(
             tell_too_large(alloc, options, told, writer)?;
             Ok(false)
         }
-        Top::Missing | Top::Unreadable => Err(OciSpecError::Other(String::new(alloc))),
+        Top::Missing => Err(no_index(alloc, "there is no index.json")),
+        Top::Unreadable => Err(no_index(alloc, "index.json cannot be read")),
+    }
+}
+
+/// Why no index was read, or that memory ran out.
+fn no_index(alloc: Global, text: &str) -> OciSpecError {
+    match String::from_str(alloc, text) {
+        Ok(text) => OciSpecError::Other(text),
+        Err(_) => OciSpecError::Memory,
     }
 }
 
