@@ -1,5 +1,5 @@
 -- What holds of the bytes of a file, where they are known.
-use Rattle.std.proofs.Common.{◌≡◌, ℕ, List, Bool, true, false, Option, Some, None, Result, Ok, Err, subst}
+use Rattle.std.proofs.Common.{◌≡◌, ◌⊎◌, inl, inr, ℕ, List, Bool, true, false, Option, Some, None, Result, Ok, Err, subst}
 use Rattle.std.specs.Prelude.{IfSome, OnOk}
 use Rattle.oci_json_model.specs.Shape.{Shape}
 use Rattle.oci_json_io.specs.Engines.{WritesDocument}
@@ -24,10 +24,10 @@ pub on_any : {A E : Type 0} (r : Result A E) {P : Type 0} → P → OnOk r P
 on_any (Ok x) h = h
 on_any (Err e) h = tt
 
-document_written : (s : Shape) (input : Option (List ℕ)) (W V : List ℕ → Type 0) → ((t : List ℕ) → W t → V t) → WritesDocument s input W → WritesDocument s input V
+pub document_written : (s : Shape) (input : Option (List ℕ)) (W V : List ℕ → Type 0) → ((t : List ℕ) → W t → V t) → WritesDocument s input W → WritesDocument s input V
 document_written s input W V f h = let (p, means, wrote) = h in (p, means, f _ wrote)
 
-pretty_written : (s : Shape) (input : Option (List ℕ)) (W V : List ℕ → Type 0) → ((t : List ℕ) → W t → V t) → WritesPretty s input W → WritesPretty s input V
+pub pretty_written : (s : Shape) (input : Option (List ℕ)) (W V : List ℕ → Type 0) → ((t : List ℕ) → W t → V t) → WritesPretty s input W → WritesPretty s input V
 pretty_written s input W V f h = let (p, means, rest) = h in let (text, is, wrote) = rest in (p, means, (text, is, f text wrote))
 
 -- the canonical form of the kind that was found is that of the kind that was asked for
@@ -52,3 +52,8 @@ formats_held asked true known bytes Writes is h = let (kind, fits, writes) = h i
 pub pinned_held : (text : List ℕ) (known : Option (List ℕ)) (bytes : List ℕ) (Writes : List ℕ → Type 0) → IfSome known (λ b. bytes ≡ b) → WritesPinned text (Some bytes) Writes → WritesPinned text known Writes
 pinned_held text None bytes Writes is h = let (parts, d, accepted, means, wrote) = h in (parts, d, accepted, tt, wrote)
 pinned_held text (Some b) bytes Writes is h = subst (λ x. WritesPinned text (Some x) Writes) is h
+
+-- what is at fault in the bytes that were read, or elsewhere
+pub fault_held : (N : Type 0) (P : List ℕ → Type 0) (known : Option (List ℕ)) (bytes : List ℕ) → IfSome known (λ b. bytes ≡ b) → N ⊎ P bytes → N ⊎ IfSome known P
+fault_held N P known bytes is (inl none) = inl none
+fault_held N P known bytes is (inr h) = inr (held P known bytes is h)

@@ -1,6 +1,7 @@
 -- What a command has done, by its exit status.
 use Rattle.std.specs.Prelude.{◌≡◌, ◌⊎◌, ◌<◌, ℕ, List, length, true, false, Option, Some, None, IfSome, ⊤}
 use Rattle.std.specs.List.{All, HoldsAt}
+use Rattle.std.specs.Borrow.{Bor}
 use Rattle.std.specs.Io.KnownBytes.{Appends}
 use Rattle.oci_doc_run.specs.Outputs.{WritesPinned}
 use Rattle.oci_kinds.specs.declared.kind.Kind.{Kind}
@@ -8,12 +9,26 @@ use Rattle.oci_rules.specs.Rules.{Rule}
 use Rattle.oci_tool.specs.declared.asked.Asked.{Asked}
 use Rattle.oci_tool.specs.declared.asked.Asked.TheVariants.{Check, Format, Compare, Reference, Digest, FileDigests, Pin, Tree, Rules, Schema}
 use Rattle.oci_check.specs.Checks.{IsRight, IsWrong}
-use Rattle.oci_tool.specs.Formats.{Formats}
-use Rattle.oci_tool.specs.Texts.{IsReference, IsSomeDigest, AreDigestLines}
+use Rattle.oci_tool.specs.Compared.{HoldSame}
+use Rattle.oci_tool.specs.Formats.{Formats, IsUnformatted}
+use Rattle.oci_check.specs.declared.asked.Style.{Style}
+use Rattle.oci_check.specs.declared.asked.Style.TheVariants.{Text, Json, Sarif}
+use Rattle.oci_tool.specs.Refused.{IsNoReference, IsNoDigest, IsNoDescriptor, HasNone}
+use Rattle.oci_tool.specs.Texts.{IsReference, AreReferenceLines, AreDigestLines, IsFileLine, Joins}
 
 -- the exit statuses of a command: done, the input is wrong, something could not be read or written
 abbrev pub IsStatus : ℕ → Type 0
 IsStatus status = (status ≡ 0) ⊎ ((status ≡ 1) ⊎ (status ≡ 3))
+
+-- what is written of each item was appended
+abbrev pub AppendsEach : {A : Type 0} → (A → List ℕ → Type 0) → List A → Option (List ℕ) → Option (List ℕ) → Type 0
+AppendsEach Is items old new = (text : List ℕ) × Joins Is items text × Appends old new text
+
+-- each text is a reference, and its lines were written where they are lines
+abbrev pub WroteReferences : Style → List (Bor (List ℕ)) → Option (List ℕ) → Option (List ℕ) → Type 0
+WroteReferences Text texts old new = AppendsEach AreReferenceLines texts old new
+WroteReferences Json texts old new = All (λ t. IsReference t.now) texts
+WroteReferences Sarif texts old new = AppendsEach AreReferenceLines texts old new
 
 -- after status 0, where `books` are the rules of the specifications by kinds, `holds` are the bytes of files, and `old` and `new` is what was written before and after, where they are known
 abbrev pub IsDone : (Kind → List Rule) → (List ℕ → Option (List ℕ)) → Option (List ℕ) → Option (List ℕ) → Asked → Type 0
@@ -23,12 +38,13 @@ IsDone books holds old new (Check a) = All (λ f. IfSome (holds f.now) (IsRight 
 IsDone books holds old new (Format a) =
     (a.check ≡ true → IfSome (holds a.file.now) (λ bytes. Formats a.kind a.pretty (Some bytes) (λ text. text ≡ bytes)))
     × (a.check ≡ false → a.output ≡ None → Formats a.kind a.pretty (holds a.file.now) (Appends old new))
-IsDone books holds old new (Compare a) = ⊤
--- each text is a reference, or a digest
-IsDone books holds old new (Reference style texts) = All (λ t. IsReference t.now) texts.now
-IsDone books holds old new (Digest texts) = All (λ t. IsSomeDigest t.now) texts.now
+-- the two files hold the same document
+IsDone books holds old new (Compare a) = HoldSame a.kind (holds a.before.now) (holds a.after.now)
+-- each text is a reference, or a digest, and its parts were written
+IsDone books holds old new (Reference style texts) = WroteReferences style texts.now old new
+IsDone books holds old new (Digest texts) = AppendsEach AreDigestLines texts.now old new
 -- the digests of the files were written
-IsDone books holds old new (FileDigests algorithm files) = (text : List ℕ) × AreDigestLines algorithm holds files.now text × Appends old new text
+IsDone books holds old new (FileDigests algorithm files) = AppendsEach (λ f. IsFileLine algorithm (holds f.now)) files.now old new
 -- the reference with the digest of the descriptor was written
 IsDone books holds old new (Pin text file) = WritesPinned text.now (holds file.now) (Appends old new)
 IsDone books holds old new (Tree file) = ⊤
@@ -39,7 +55,14 @@ IsDone books holds old new (Schema kind) = ⊤
 abbrev pub IsRejected : (Kind → List Rule) → (List ℕ → Option (List ℕ)) → Asked → Type 0
 -- something is wrong with one of the files
 IsRejected books holds (Check a) = (i : ℕ) × (i < length a.files.now) × HoldsAt (λ f. IfSome (holds f.now) (IsWrong books a)) a.files.now i
+-- the file has no canonical form, or is not that
+IsRejected books holds (Format a) = IfSome (holds a.file.now) (IsUnformatted a)
+-- one of the texts is no reference, or no digest
+IsRejected books holds (Reference style texts) = HasNone IsNoReference texts.now
+IsRejected books holds (Digest texts) = HasNone IsNoDigest texts.now
 IsRejected books holds (FileDigests algorithm files) = ⊥
+-- the text is no reference, or the file holds no descriptor
+IsRejected books holds (Pin text file) = IsNoReference text.now ⊎ IfSome (holds file.now) IsNoDescriptor
 IsRejected books holds _ = ⊤
 
 -- the command writes neither output nor file

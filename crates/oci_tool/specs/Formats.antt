@@ -1,12 +1,38 @@
--- What `fmt` writes.
-use Rattle.std.specs.Prelude.{ℕ, List, Bool, true, false, Option}
-use Rattle.oci_json_io.specs.Engines.{WritesDocument}
+-- What `fmt` writes, and what it does not accept.
+use Rattle.std.specs.Prelude.{◌≡◌, ◌⊎◌, ⊤, ℕ, List, Bool, true, false, Option, Some, IfSome}
+use Rattle.oci_json_model.specs.Plain.{Plain}
+use Rattle.oci_json_model.specs.Writable.{Writable}
+use Rattle.oci_json_io.specs.Engines.{MeansBytes, WritesDocument}
 use Rattle.oci_schema.specs.Normalizes.{WritesPretty}
 use Rattle.oci_kinds.specs.declared.kind.Kind.{Kind}
 use Rattle.oci_kinds.specs.Kinds.{shape_of}
 use Rattle.oci_check.specs.Checks.{IsAsked}
+use Rattle.oci_text_base.specs.declared.error.OciSpecError.{OciSpecError}
+use Rattle.oci_text_base.specs.declared.error.OciSpecError.TheVariants.{SerDe}
+use Rattle.oci_tool.specs.declared.asked.Format.{Format}
 
 -- the canonical text of the document in the input, compact or indented, is written
 abbrev pub Formats : Option Kind → Bool → Option (List ℕ) → (List ℕ → Type 0) → Type 0
 Formats asked false input Writes = (kind : Kind) × IsAsked asked kind × WritesDocument (shape_of kind) input Writes
 Formats asked true input Writes = (kind : Kind) × IsAsked asked kind × WritesPretty (shape_of kind) input Writes
+
+-- the bytes hold no document of the kind that has a canonical form
+abbrev pub HasNoForm : Kind → List ℕ → Type 0
+HasNoForm kind bytes = (p : Plain) → MeansBytes (shape_of kind) bytes p → ¬ Writable (shape_of kind) p
+
+-- what was read is no JSON, or no such document
+abbrev pub IsSerDe : OciSpecError → Type 0
+IsSerDe (SerDe e) = ⊤
+IsSerDe _ = ⊥
+
+-- they are not the compact text of such a document
+abbrev pub IsNotCompact : Kind → List ℕ → Type 0
+IsNotCompact kind bytes = ¬ Formats (Some kind) false (Some bytes) (λ text. text ≡ bytes)
+
+-- they hold none, or were to be its canonical form and are not; of indented text nothing more is said
+abbrev pub IsUnformattedAs : Kind → Format → List ℕ → Type 0
+IsUnformattedAs kind a bytes = HasNoForm kind bytes ⊎ ((a.check ≡ true) × (a.pretty ≡ false → IsNotCompact kind bytes))
+
+-- where a kind is asked for
+abbrev pub IsUnformatted : Format → List ℕ → Type 0
+IsUnformatted a bytes = IfSome a.kind (λ kind. IsUnformattedAs kind a bytes)

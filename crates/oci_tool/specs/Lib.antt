@@ -1,3 +1,5 @@
+pub mod Compared
 pub mod Done
 pub mod Formats
+pub mod Refused
 pub mod Texts

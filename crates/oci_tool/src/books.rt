@@ -3,8 +3,11 @@ use oci_check::RuleBooks;
 use oci_kinds::Kind;
 use oci_report::render::word_of;
 use oci_report::{KINDS, title_of};
-use oci_rules::{Rule, Step};
+use oci_rules::{Platform, Rule, Step};
 use std::alloc::{AllocError, Global};
+
+/// How many platforms there are.
+const PLATFORMS: usize = 6;
 
 /// The rules of a kind of documents: a line for each, with its name, level and section, and what it wants.
 pub fn rules_of_kind<B: RuleBooks>(
@@ -65,26 +68,49 @@ fn add_of_kind<B: RuleBooks>(
     text: &mut String,
     alloc: Global,
 ) -> Result<(), AllocError> {
-    let mut found = false;
+    let mut last = String::new(alloc);
     for book in books.books_of(kind, alloc)? {
         for rule in book {
             if rule.name == name {
-                if !found {
-                    found = true;
+                if last.is_empty() {
                     text.push_str(title_of(kind))?;
                     text.push_str("\n")?;
                     push_rule(text, rule, alloc)?;
                 }
-                push_place(text, rule.place)?;
+                let line = place_line(rule, alloc)?;
+                if line != last {
+                    text.push_str(line.as_str())?;
+                    last = line;
+                }
             }
         }
     }
     Ok(())
 }
 
-/// Adds the line of a place: `*` is each item of an array, `{}` each member of an object.
-fn push_place(text: &mut String, place: &[Step<'_>]) -> Result<(), AllocError> {
-    text.push_str("    at /")?;
+/// The line of a rule's place, and of the platforms that it is for, unless it is for all of them.
+fn place_line(rule: &Rule<'_>, alloc: Global) -> Result<String, AllocError> {
+    let mut line = String::from_str(alloc, "    at /")?;
+    push_place(&mut line, rule.place)?;
+    if rule.platforms.len() < PLATFORMS {
+        push_platforms(&mut line, rule.platforms)?;
+    }
+    line.push_str("\n")?;
+    Ok(line)
+}
+
+fn push_platforms(line: &mut String, platforms: &[Platform]) -> Result<(), AllocError> {
+    let mut mark = " on ";
+    for platform in platforms {
+        line.push_str(mark)?;
+        line.push_str(platform_word(*platform))?;
+        mark = ", ";
+    }
+    Ok(())
+}
+
+/// Adds a place: `*` is each item of an array, `{}` each member of an object, and `{name}` the name of each.
+fn push_place(line: &mut String, place: &[Step<'_>]) -> Result<(), AllocError> {
     let mut mark = "";
     for step in place {
         let word = match step {
@@ -94,9 +120,20 @@ fn push_place(text: &mut String, place: &[Step<'_>]) -> Result<(), AllocError> {
             Step::EachName => "{name}",
             Step::When(_) => continue,
         };
-        text.push_str(mark)?;
-        text.push_str(word)?;
+        line.push_str(mark)?;
+        line.push_str(word)?;
         mark = "/";
     }
-    text.push_str("\n")
+    Ok(())
+}
+
+fn platform_word(platform: Platform) -> &'static str {
+    match platform {
+        Platform::Linux => "linux",
+        Platform::Windows => "windows",
+        Platform::Solaris => "solaris",
+        Platform::Vm => "vm",
+        Platform::Zos => "zos",
+        Platform::FreeBsd => "freebsd",
+    }
 }

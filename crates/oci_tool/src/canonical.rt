@@ -1,11 +1,16 @@
 //! The command `fmt`.
-ghost use Rattle.std.specs.Prelude.{◌≡◌, true, false, Some, None, IfOk, IfSome, string_bytes};
+ghost use Rattle.std.specs.Prelude.{◌≡◌, ◌≢◌, true, false, Some, None, IfOk, IfErr, IfSome, string_bytes};
 ghost use Rattle.std.specs.Io.KnownBytes.{Appends, Keeps};
 ghost use Rattle.oci_json_io.specs.Engines.{WritesDocument};
 ghost use Rattle.oci_schema.specs.Normalizes.{WritesPretty};
 ghost use Rattle.oci_kinds.specs.Kinds.{shape_of};
 ghost use Rattle.oci_check.specs.Checks.{IsAsked};
-ghost use Rattle.oci_tool.specs.Formats.{Formats};
+ghost use Rattle.oci_tool.specs.Formats.{Formats, HasNoForm, IsSerDe, IsUnformatted, IsUnformattedAs};
+ghost use Rattle.oci_json_io.specs.Engines.{MeansBytes};
+ghost use Rattle.oci_json_model.specs.Plain.{Plain};
+ghost use Rattle.oci_json_model.specs.Value.{value as json_of};
+ghost use Rattle.oci_json_model.specs.Writable.{Writable};
+ghost use Rattle.serde_json.specs.View.{view};
 ghost use Rattle.oci_tool.specs.Done.{IsStatus};
 
 use crate::asked::Format;
@@ -36,7 +41,8 @@ pub struct Canonical {
 
 /// The canonical form of the document in these bytes. Fails as `normalize` does.
 pub fn canonical_form(kind: Kind, pretty: bool, bytes: &[u8], alloc: Global) -> Result<Canonical>
-    ensures { IfOk result (λ c. Formats (Some kind) pretty (Some bytes.now) (λ t. t ≡ string_bytes c.text)) }
+    ensures ok { IfOk result (λ c. Formats (Some kind) pretty (Some bytes.now) (λ t. t ≡ string_bytes c.text)) }
+    ensures none { IfErr result (λ e. IsSerDe e → HasNoForm kind bytes.now) }
 {
     if pretty {
         pretty_form(kind, bytes, alloc)
@@ -45,20 +51,28 @@ pub fn canonical_form(kind: Kind, pretty: bool, bytes: &[u8], alloc: Global) -> 
     }
 }
 
-fn compact_form(kind: Kind, bytes: &[u8], alloc: Global) -> Result<Canonical>
-    ensures { IfOk result (λ c. WritesDocument (shape_of kind) (Some bytes.now) (λ t. t ≡ string_bytes c.text)) }
+/// The value of the canonical form. Fails as `normalize` does.
+pub fn normal_value(kind: Kind, bytes: &[u8], alloc: Global) -> Result<Value>
+    ensures ok { IfOk result (λ v. (p : Plain) × MeansBytes (shape_of kind) bytes.now p × Writable (shape_of kind) p × (view v ≡ json_of (shape_of kind) p)) }
+    ensures none { IfErr result (λ e. IsSerDe e → HasNoForm kind bytes.now) }
 {
-    let schema = kind.schema();
-    let value = normal_value_from_reader(&OciRecords, schema, alloc, bytes)?;
+    normal_value_from_reader(&OciRecords, kind.schema(), alloc, bytes)
+}
+
+fn compact_form(kind: Kind, bytes: &[u8], alloc: Global) -> Result<Canonical>
+    ensures ok { IfOk result (λ c. WritesDocument (shape_of kind) (Some bytes.now) (λ t. t ≡ string_bytes c.text)) }
+    ensures none { IfErr result (λ e. IsSerDe e → HasNoForm kind bytes.now) }
+{
+    let value = normal_value(kind, bytes, alloc)?;
     let text = value.to_string(alloc)?;
     Ok(Canonical { value, text })
 }
 
 fn pretty_form(kind: Kind, bytes: &[u8], alloc: Global) -> Result<Canonical>
-    ensures { IfOk result (λ c. WritesPretty (shape_of kind) (Some bytes.now) (λ t. t ≡ string_bytes c.text)) }
+    ensures ok { IfOk result (λ c. WritesPretty (shape_of kind) (Some bytes.now) (λ t. t ≡ string_bytes c.text)) }
+    ensures none { IfErr result (λ e. IsSerDe e → HasNoForm kind bytes.now) }
 {
-    let schema = kind.schema();
-    let value = normal_value_from_reader(&OciRecords, schema, alloc, bytes)?;
+    let value = normal_value(kind, bytes, alloc)?;
     let text = value.to_string_pretty(alloc)?;
     Ok(Canonical { value, text })
 }
@@ -77,6 +91,7 @@ pub fn format<S: Store, W: Write, E: Write>(
     ensures untouched { asked.now.check ≡ true → Keeps (W.contents writer.old) (W.contents writer.new) × (S.holds store.new ≡ S.holds store.old) }
     ensures canonical { IfOk result (λ s. s ≡ 0 → asked.now.check ≡ true → IfSome (S.holds store.old asked.now.file.now) (λ bytes. Formats asked.now.kind asked.now.pretty (Some bytes) (λ t. t ≡ bytes))) }
     ensures written { IfOk result (λ s. s ≡ 0 → asked.now.check ≡ false → asked.now.output ≡ None → Formats asked.now.kind asked.now.pretty (S.holds store.old asked.now.file.now) (Appends (W.contents writer.old) (W.contents writer.new))) }
+    ensures refused { IfOk result (λ s. s ≡ 1 → IfSome (S.holds store.old asked.now.file.now) (IsUnformatted asked.now)) }
 {
     match store.read(alloc, asked.file) {
         Ok(bytes) => format_bytes(asked, bytes.as_slice(), alloc, store, writer, errors),
@@ -99,6 +114,7 @@ fn format_bytes<S: Store, W: Write, E: Write>(
     ensures untouched { asked.now.check ≡ true → Keeps (W.contents writer.old) (W.contents writer.new) × (S.holds store.new ≡ S.holds store.old) }
     ensures canonical { IfOk result (λ s. s ≡ 0 → asked.now.check ≡ true → Formats asked.now.kind asked.now.pretty (Some bytes.now) (λ t. t ≡ bytes.now)) }
     ensures written { IfOk result (λ s. s ≡ 0 → asked.now.check ≡ false → asked.now.output ≡ None → Formats asked.now.kind asked.now.pretty (Some bytes.now) (Appends (W.contents writer.old) (W.contents writer.new))) }
+    ensures refused { IfOk result (λ s. s ≡ 1 → IsUnformatted asked.now bytes.now) }
 {
     let found = inspect(asked.kind, asked.file, bytes, alloc)?;
     if !found.errors.is_empty() {
@@ -106,17 +122,32 @@ fn format_bytes<S: Store, W: Write, E: Write>(
         return Ok(1);
     }
     let before = Value::from_slice(alloc, bytes)?;
-    let Some(kind) = kind_of(asked.kind, asked.file, &before) else {
-        return Ok(1);
-    };
+    match kind_of(asked.kind, asked.file, &before) {
+        Some(kind) => format_as(kind, asked, &before, bytes, alloc, store, writer, errors),
+        None => Ok(1),
+    }
+}
+
+/// The same of a document of this kind, of which this is the value.
+fn format_as<S: Store, W: Write, E: Write>(
+    kind: Kind,
+    asked: &Format<'_>,
+    before: &Value,
+    bytes: &[u8],
+    alloc: Global,
+    store: &mut S,
+    writer: &mut W,
+    errors: &mut E,
+) -> Result<u8>
+    ensures status { IfOk result IsStatus }
+    ensures untouched { asked.now.check ≡ true → Keeps (W.contents writer.old) (W.contents writer.new) × (S.holds store.new ≡ S.holds store.old) }
+    ensures canonical { IfOk result (λ s. s ≡ 0 → asked.now.check ≡ true → Formats (Some kind) asked.now.pretty (Some bytes.now) (λ t. t ≡ bytes.now)) }
+    ensures written { IfOk result (λ s. s ≡ 0 → asked.now.check ≡ false → asked.now.output ≡ None → Formats (Some kind) asked.now.pretty (Some bytes.now) (Appends (W.contents writer.old) (W.contents writer.new))) }
+    ensures refused { IfOk result (λ s. s ≡ 1 → IsUnformattedAs kind asked.now bytes.now) }
+{
     match canonical_form(kind, asked.pretty, bytes, alloc) {
         Ok(after) => {
-            if !asked.quiet {
-                say_dropped(&before, &after.value, alloc, errors)?;
-            }
-            if asked.verbose {
-                say_digests(asked.file, bytes, after.text.as_bytes(), alloc, errors)?;
-            }
+            say_what_changes(asked, before, bytes, &after, alloc, errors)?;
             finish(asked, bytes, &after.text, alloc, store, writer, errors)
         }
         Err(OciSpecError::SerDe(_)) => {
@@ -128,6 +159,24 @@ fn format_bytes<S: Store, W: Write, E: Write>(
         }
         Err(error) => Err(error),
     }
+}
+
+/// Says which members are left out, and the digests before and after, where that is asked for.
+fn say_what_changes<E: Write>(
+    asked: &Format<'_>,
+    before: &Value,
+    bytes: &[u8],
+    after: &Canonical,
+    alloc: Global,
+    errors: &mut E,
+) -> Result<()> {
+    if !asked.quiet {
+        say_dropped(before, &after.value, alloc, errors)?;
+    }
+    if asked.verbose {
+        say_digests(asked.file, bytes, after.text.as_bytes(), alloc, errors)?;
+    }
+    Ok(())
 }
 
 /// Writes the text where it belongs, or compares it.
@@ -144,6 +193,7 @@ fn finish<S: Store, W: Write, E: Write>(
     ensures untouched { asked.now.check ≡ true → Keeps (W.contents writer.old) (W.contents writer.new) × (S.holds store.new ≡ S.holds store.old) }
     ensures same { IfOk result (λ s. s ≡ 0 → asked.now.check ≡ true → string_bytes text.now ≡ bytes.now) }
     ensures written { IfOk result (λ s. s ≡ 0 → asked.now.check ≡ false → asked.now.output ≡ None → Appends (W.contents writer.old) (W.contents writer.new) (string_bytes text.now)) }
+    ensures differs { IfOk result (λ s. s ≡ 1 → (asked.now.check ≡ true) × (string_bytes text.now ≢ bytes.now)) }
 {
     if asked.check {
         return Ok(if text.as_bytes() == bytes { 0 } else { 1 });

@@ -1,9 +1,12 @@
 //! The command `diff`.
-ghost use Rattle.std.specs.Prelude.{IfOk};
+ghost use Rattle.std.specs.Prelude.{◌≡◌, Some, IfOk};
+ghost use Rattle.serde_json.specs.View.{view};
+ghost use Rattle.oci_diff.specs.Same.{AreSame};
+ghost use Rattle.oci_tool.specs.Compared.{HoldSame, IsSide};
 ghost use Rattle.oci_tool.specs.Done.{IsStatus};
 
 use crate::asked::{Compare, Style};
-use crate::canonical::canonical_form;
+use crate::canonical::normal_value;
 use crate::store::Store;
 use crate::texts::{complain, complain_of, report_findings};
 use oci_check::inspect::{inspect, kind_of};
@@ -19,7 +22,7 @@ use std::io::Write;
 
 /// A document to compare, or why there is none.
 #[derive(Drop)]
-enum Side {
+pub enum Side {
     /// The document.
     Document(Kind, Value),
     /// The file holds no valid document.
@@ -37,7 +40,8 @@ pub fn compare<S: Store, W: Write, E: Write>(
     writer: &mut W,
     errors: &mut E,
 ) -> Result<u8>
-    ensures { IfOk result IsStatus }
+    ensures status { IfOk result IsStatus }
+    ensures same { IfOk result (λ s. s ≡ 0 → HoldSame asked.now.kind (S.holds store.old asked.now.before.now) (S.holds store.old asked.now.after.now)) }
 {
     let (kind, before) = match read_side(asked.kind, asked.before, alloc, store, errors)? {
         Side::Document(kind, value) => (kind, value),
@@ -49,14 +53,41 @@ pub fn compare<S: Store, W: Write, E: Write>(
         Side::Wrong => return Ok(1),
         Side::Unread => return Ok(3),
     };
-    if kind != other {
-        let (a, b) = (asked.before, asked.after);
-        let (first, second) = (title_of(kind), title_of(other));
-        let line = format!(in alloc; "ciderglen: {a} is {first}, and {b} is {second}\n")?;
-        complain(line.as_str(), errors);
-        return Ok(1);
+    if kind == other {
+        return write_differences(asked, &before, &after, alloc, writer);
     }
-    let found = differences(&before, &after, alloc)?;
+    say_kinds(asked, kind, other, alloc, errors)?;
+    Ok(1)
+}
+
+/// Says that the documents are of two kinds.
+fn say_kinds<E: Write>(
+    asked: &Compare<'_>,
+    kind: Kind,
+    other: Kind,
+    alloc: Global,
+    errors: &mut E,
+) -> Result<()> {
+    let before = on_a_line(asked.before, alloc)?;
+    let after = on_a_line(asked.after, alloc)?;
+    let (first, second) = (title_of(kind), title_of(other));
+    let line = format!(in alloc; "ciderglen: {before} is {first}, and {after} is {second}\n")?;
+    complain(line.as_str(), errors);
+    Ok(())
+}
+
+/// Writes what differs, and returns the status.
+fn write_differences<W: Write>(
+    asked: &Compare<'_>,
+    before: &Value,
+    after: &Value,
+    alloc: Global,
+    writer: &mut W,
+) -> Result<u8>
+    ensures status { IfOk result IsStatus }
+    ensures same { IfOk result (λ s. s ≡ 0 → AreSame (view before.now) (view after.now)) }
+{
+    let found = differences(before, after, alloc)?;
     if !asked.quiet {
         let lines = lines_of(asked.style, &found, alloc)?;
         write_text(lines.as_slice(), writer)?;
@@ -71,25 +102,39 @@ fn read_side<S: Store, E: Write>(
     alloc: Global,
     store: &mut S,
     errors: &mut E,
-) -> Result<Side> {
-    let bytes = match store.read(alloc, name) {
-        Ok(bytes) => bytes,
+) -> Result<Side>
+    ensures side { IfOk result (IsSide asked (S.holds store.old name.now)) }
+    ensures kept { S.holds store.new ≡ S.holds store.old }
+{
+    match store.read(alloc, name) {
+        Ok(bytes) => side_of(asked, name, bytes.as_slice(), alloc, errors),
         Err(fault) => {
             complain_of(name, &fault, alloc, errors);
-            return Ok(Side::Unread);
+            Ok(Side::Unread)
         }
-    };
-    let found = inspect(asked, name, bytes.as_slice(), alloc)?;
+    }
+}
+
+/// The canonical form of the document in these bytes.
+fn side_of<E: Write>(
+    asked: Option<Kind>,
+    name: &str,
+    bytes: &[u8],
+    alloc: Global,
+    errors: &mut E,
+) -> Result<Side>
+    ensures { IfOk result (IsSide asked (Some bytes.now)) }
+{
+    let found = inspect(asked, name, bytes, alloc)?;
     if !found.errors.is_empty() {
         report_findings(name, &found, alloc, errors)?;
         return Ok(Side::Wrong);
     }
-    let value = Value::from_slice(alloc, bytes.as_slice())?;
-    let Some(kind) = kind_of(asked, name, &value) else {
-        return Ok(Side::Wrong);
-    };
-    let made = canonical_form(kind, false, bytes.as_slice(), alloc)?;
-    Ok(Side::Document(kind, made.value))
+    let value = Value::from_slice(alloc, bytes)?;
+    match kind_of(asked, name, &value) {
+        Some(kind) => Ok(Side::Document(kind, normal_value(kind, bytes, alloc)?)),
+        None => Ok(Side::Wrong),
+    }
 }
 
 fn lines_of(style: Style, found: &Vec<Difference<'_>>, alloc: Global) -> Result<Vec<u8>> {

@@ -2,8 +2,8 @@
 ghost use Rattle.std.specs.Prelude.{◌≡◌, ◌++◌, ◌∷◌, [], List, ℕ, true, codes, IfOk, string_bytes};
 ghost use Rattle.std.specs.Io.KnownBytes.{Appends};
 ghost use Rattle.oci_content.specs.Content.{checksum_of, checksum_text};
-ghost use Rattle.oci_tool.specs.Done.{IsStatus};
-ghost use Rattle.oci_tool.specs.Texts.{IsDigestLine, AreDigestLines};
+ghost use Rattle.oci_tool.specs.Done.{IsStatus, AppendsEach};
+ghost use Rattle.oci_tool.specs.Texts.{IsFileLine};
 
 use crate::store::Store;
 use crate::texts::complain_of;
@@ -25,7 +25,7 @@ pub fn file_digests<S: Store, W: Write, E: Write>(
     errors: &mut E,
 ) -> Result<u8>
     ensures status { IfOk result IsStatus }
-    ensures done { IfOk result (λ s. s ≡ 0 → (text : List ℕ) × AreDigestLines algorithm (S.holds store.old) files.now text × Appends (W.contents writer.old) (W.contents writer.new) text) }
+    ensures done { IfOk result (λ s. s ≡ 0 → AppendsEach (λ f. IsFileLine algorithm (S.holds store.old f.now)) files.now (W.contents writer.old) (W.contents writer.new)) }
     ensures read { IfOk result (λ s. ¬ (s ≡ 1)) }
 {
     let mut unread = false;
@@ -46,7 +46,7 @@ fn file_digest<S: Store, W: Write, E: Write>(
     writer: &mut W,
     errors: &mut E,
 ) -> Result<bool>
-    ensures line { IfOk result (λ b. b ≡ true → (line : List ℕ) × IsDigestLine algorithm (S.holds store.old name.now) line × Appends (W.contents writer.old) (W.contents writer.new) line) }
+    ensures line { IfOk result (λ b. b ≡ true → (line : List ℕ) × IsFileLine algorithm (S.holds store.old name.now) line × Appends (W.contents writer.old) (W.contents writer.new) line) }
     ensures kept { S.holds store.new ≡ S.holds store.old }
 {
     match store.checksum(algorithm, name) {

@@ -3,7 +3,7 @@ ghost use Rattle.std.specs.Prelude.{IfOk};
 ghost use Rattle.oci_tool.specs.Done.{IsStatus};
 
 use crate::books::{all_rules, rules_of_kind, rules_of_name};
-use crate::texts::complain;
+use crate::texts::complain_of;
 use oci_check::RuleBooks;
 use oci_json_io::write_text;
 use oci_kinds::Kind;
@@ -37,10 +37,8 @@ pub fn rules<B: RuleBooks, W: Write, E: Write>(
             Ok(0)
         }
         None => {
-            complain(
-                "ciderglen: no kind of documents and no rule has this name\n",
-                errors,
-            );
+            let fault = "no kind of documents and no rule has this name";
+            complain_of(name.unwrap_or(""), &fault, alloc, errors);
             Ok(1)
         }
     }

@@ -1,11 +1,12 @@
 //! The commands on references and digests, and what is said on standard error.
-ghost use Rattle.std.specs.Prelude.{◌≡◌, true, false, [], Some, IfOk};
+ghost use Rattle.std.specs.Prelude.{◌≡◌, ◌⊎◌, true, false, [], Some, IfOk, IfSome};
 ghost use Rattle.std.specs.List.{All};
 ghost use Rattle.std.specs.Io.KnownBytes.{Appends};
-ghost use Rattle.oci_doc_run.specs.Commands.{asked as asked_of};
+ghost use Rattle.oci_doc_run.specs.Commands.{asked as asked_of, pin};
 ghost use Rattle.oci_doc_run.specs.Outputs.{Writes, WritesPinned};
-ghost use Rattle.oci_tool.specs.Texts.{IsReference, IsSomeDigest};
-ghost use Rattle.oci_tool.specs.Done.{IsStatus};
+ghost use Rattle.oci_tool.specs.Done.{IsStatus, AppendsEach, WroteReferences};
+ghost use Rattle.oci_tool.specs.Refused.{IsAtFault, IsFault, IsNoReference, IsNoDigest, IsNoDescriptor, HasNone};
+ghost use Rattle.oci_tool.specs.Texts.{IsReference, AreReferenceLines, AreDigestLines};
 
 use crate::asked::Style;
 use crate::store::Store;
@@ -64,31 +65,51 @@ pub fn references<W: Write, E: Write>(
     errors: &mut E,
 ) -> Result<u8>
     ensures status { IfOk result IsStatus }
-    ensures right { IfOk result (λ s. s ≡ 0 → All (λ t. IsReference t.now) texts.now) }
+    ensures right { IfOk result (λ s. s ≡ 0 → WroteReferences style texts.now (W.contents writer.old) (W.contents writer.new)) }
+    ensures wrong { IfOk result (λ s. s ≡ 1 → HasNone IsNoReference texts.now) }
+{
+    match style {
+        Style::Json => reference_objects(texts, alloc, writer, errors),
+        Style::Text | Style::Sarif => reference_lines(texts, alloc, writer, errors),
+    }
+}
+
+fn reference_lines<W: Write, E: Write>(
+    texts: &[&str],
+    alloc: Global,
+    writer: &mut W,
+    errors: &mut E,
+) -> Result<u8>
+    ensures status { IfOk result IsStatus }
+    ensures right { IfOk result (λ s. s ≡ 0 → AppendsEach AreReferenceLines texts.now (W.contents writer.old) (W.contents writer.new)) }
+    ensures wrong { IfOk result (λ s. s ≡ 1 → HasNone IsNoReference texts.now) }
 {
     let mut wrong = false;
     for text in texts {
-        if !reference(style, text, alloc, writer, errors)? {
+        if !perform(Command::Reference(text), text, alloc, writer, errors)? {
             wrong = true;
         }
     }
     Ok(if wrong { 1 } else { 0 })
 }
 
-/// Writes the parts of a reference, and returns whether it is one.
-fn reference<W: Write, E: Write>(
-    style: Style,
-    text: &str,
+fn reference_objects<W: Write, E: Write>(
+    texts: &[&str],
     alloc: Global,
     writer: &mut W,
     errors: &mut E,
-) -> Result<bool>
-    ensures { IfOk result (λ b. b ≡ true → IsReference text.now) }
+) -> Result<u8>
+    ensures status { IfOk result IsStatus }
+    ensures right { IfOk result (λ s. s ≡ 0 → All (λ t. IsReference t.now) texts.now) }
+    ensures wrong { IfOk result (λ s. s ≡ 1 → HasNone IsNoReference texts.now) }
 {
-    match style {
-        Style::Json => reference_as_json(text, alloc, writer, errors),
-        _ => perform(Command::Reference(text), text, alloc, writer, errors),
+    let mut wrong = false;
+    for text in texts {
+        if !reference_as_json(text, alloc, writer, errors)? {
+            wrong = true;
+        }
     }
+    Ok(if wrong { 1 } else { 0 })
 }
 
 fn reference_as_json<W: Write, E: Write>(
@@ -97,7 +118,8 @@ fn reference_as_json<W: Write, E: Write>(
     writer: &mut W,
     errors: &mut E,
 ) -> Result<bool>
-    ensures { IfOk result (λ b. b ≡ true → IsReference text.now) }
+    ensures right { IfOk result (λ b. b ≡ true → IsReference text.now) }
+    ensures wrong { IfOk result (λ b. b ≡ false → IsNoReference text.now) }
 {
     match Reference::from_str(alloc, text) {
         Ok(reference) => {
@@ -111,6 +133,7 @@ fn reference_as_json<W: Write, E: Write>(
 
 /// Writes what a command on a text alone writes, and returns whether that was done. If the text was refused, a line on standard error
 /// says why.
+#[tactic(auto, using(crate::proofs::Faults::at_fault))]
 fn perform<W: Write, E: Write>(
     command: Command<'_>,
     text: &str,
@@ -118,17 +141,22 @@ fn perform<W: Write, E: Write>(
     writer: &mut W,
     errors: &mut E,
 ) -> Result<bool>
-    ensures { IfOk result (λ b. b ≡ true → Writes (asked_of command.entry) (Some []) (Appends (W.contents writer.old) (W.contents writer.new))) }
+    ensures right { IfOk result (λ b. b ≡ true → Writes (asked_of command.entry) (Some []) (Appends (W.contents writer.old) (W.contents writer.new))) }
+    ensures wrong { IfOk result (λ b. b ≡ false → IsAtFault (asked_of command.entry) (Some [])) }
 {
-    match command.perform(alloc, &mut io::empty(), writer) {
-        Ok(()) => Ok(true),
+    let mut lines = Vec::new(alloc);
+    match command.perform(alloc, &mut io::empty(), &mut lines) {
+        Ok(()) => {
+            write_text(lines.as_slice(), writer)?;
+            Ok(true)
+        }
         Err(refusal) => refused(refusal, text, alloc, errors),
     }
 }
 
 /// Says why a text was refused; fails if out of memory, or if something could not be written.
 fn refused<E: Write>(refusal: Refusal, text: &str, alloc: Global, errors: &mut E) -> Result<bool>
-    ensures { IfOk result (λ b. b ≡ false) }
+    ensures { IfOk result (λ b. (b ≡ false) × IsFault refusal) }
 {
     match refusal {
         Refusal::Memory | Refusal::Reference(ParseError::Memory) => Err(OciSpecError::Memory),
@@ -191,27 +219,16 @@ pub fn digests<W: Write, E: Write>(
     errors: &mut E,
 ) -> Result<u8>
     ensures status { IfOk result IsStatus }
-    ensures right { IfOk result (λ s. s ≡ 0 → All (λ t. IsSomeDigest t.now) texts.now) }
+    ensures right { IfOk result (λ s. s ≡ 0 → AppendsEach AreDigestLines texts.now (W.contents writer.old) (W.contents writer.new)) }
+    ensures wrong { IfOk result (λ s. s ≡ 1 → HasNone IsNoDigest texts.now) }
 {
     let mut wrong = false;
     for text in texts {
-        if !digest(text, alloc, writer, errors)? {
+        if !perform(Command::Digest(text), text, alloc, writer, errors)? {
             wrong = true;
         }
     }
     Ok(if wrong { 1 } else { 0 })
-}
-
-/// Writes the parts of a digest, and returns whether the text is one.
-fn digest<W: Write, E: Write>(
-    text: &str,
-    alloc: Global,
-    writer: &mut W,
-    errors: &mut E,
-) -> Result<bool>
-    ensures { IfOk result (λ b. b ≡ true → IsSomeDigest text.now) }
-{
-    perform(Command::Digest(text), text, alloc, writer, errors)
 }
 
 /// Writes the reference with the digest of the descriptor in a file. Returns 0 if that was done, 1 if the text is no reference or the
@@ -227,6 +244,7 @@ pub fn pin<S: Store, W: Write, E: Write>(
 ) -> Result<u8>
     ensures status { IfOk result IsStatus }
     ensures right { IfOk result (λ s. s ≡ 0 → WritesPinned text.now (S.holds store.old file.now) (Appends (W.contents writer.old) (W.contents writer.new))) }
+    ensures wrong { IfOk result (λ s. s ≡ 1 → IsNoReference text.now ⊎ IfSome (S.holds store.old file.now) IsNoDescriptor) }
 {
     match store.read(alloc, file) {
         Ok(bytes) => {
@@ -243,6 +261,7 @@ pub fn pin<S: Store, W: Write, E: Write>(
     }
 }
 
+#[tactic(auto, using(crate::proofs::Faults::at_fault))]
 fn pin_bytes<W: Write, E: Write>(
     text: &str,
     file: &str,
@@ -251,16 +270,21 @@ fn pin_bytes<W: Write, E: Write>(
     writer: &mut W,
     errors: &mut E,
 ) -> Result<bool>
-    ensures { IfOk result (λ b. b ≡ true → WritesPinned text.now (Some bytes.now) (Appends (W.contents writer.old) (W.contents writer.new))) }
+    ensures right { IfOk result (λ b. b ≡ true → WritesPinned text.now (Some bytes.now) (Appends (W.contents writer.old) (W.contents writer.new))) }
+    ensures wrong { IfOk result (λ b. b ≡ false → IsAtFault (pin text.now) (Some bytes.now)) }
 {
-    let mut input = bytes;
-    match Command::Pin(text).perform(alloc, &mut input, writer) {
-        Ok(()) => Ok(true),
-        Err(Refusal::Json | Refusal::Schema) => {
-            let found = inspect(Some(Kind::Descriptor), file, bytes, alloc)?;
-            report_findings(file, &found, alloc, errors)?;
-            Ok(false)
+    let (mut input, mut line) = (bytes, Vec::new(alloc));
+    match Command::Pin(text).perform(alloc, &mut input, &mut line) {
+        Ok(()) => {
+            write_text(line.as_slice(), writer)?;
+            Ok(true)
         }
-        Err(refusal) => refused(refusal, text, alloc, errors),
+        Err(refusal) => {
+            if matches!(refusal, Refusal::Json | Refusal::Schema) {
+                let found = inspect(Some(Kind::Descriptor), file, bytes, alloc)?;
+                report_findings(file, &found, alloc, errors)?;
+            }
+            refused(refusal, text, alloc, errors)
+        }
     }
 }

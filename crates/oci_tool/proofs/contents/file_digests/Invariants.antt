@@ -1,11 +1,10 @@
-use Rattle.std.proofs.Common.{◌≡◌, ℕ, List, false, take}
-use Rattle.std.specs.Io.KnownBytes.{Appends}
-use Rattle.oci_tool.specs.Texts.{AreDigestLines}
+use Rattle.std.proofs.Common.{◌≡◌, false, take}
+use Rattle.oci_tool.specs.Done.{AppendsEach}
+use Rattle.oci_tool.specs.Texts.{IsFileLine}
 use Rattle.oci_tool.proofs.contents.file_digests.Given as goal
 
 abbrev pub invariant-loop-name : goal.invariant-loop-name
 invariant-loop-name g l = record {
-  done : l.unread ≡ false
-      → (text : List ℕ) × AreDigestLines l.algorithm (g.S.Store.holds l.initial.store) (take l.name-index l.files) text × Appends (g.W.Write.contents l.initial.writer) (g.W.Write.contents l.writer) text;
+  done : l.unread ≡ false → AppendsEach (λ f. IsFileLine l.algorithm (g.S.Store.holds l.initial.store f.now)) (take l.name-index l.files) (g.W.Write.contents l.initial.writer) (g.W.Write.contents l.writer);
   kept : g.S.Store.holds l.store ≡ g.S.Store.holds l.initial.store;
 }

@@ -1,7 +1,11 @@
-use Rattle.std.proofs.Common.{◌≡◌, ◌<◌, ℕ, false}
-use Rattle.std.specs.List.{HoldsAt}
-use Rattle.oci_tool.specs.Texts.{IsSomeDigest}
+use Rattle.std.proofs.Common.{◌≡◌, true, false, take}
+use Rattle.oci_tool.specs.Done.{AppendsEach}
+use Rattle.oci_tool.specs.Texts.{AreDigestLines}
+use Rattle.oci_tool.specs.Refused.{IsNoDigest, HasNone}
 use Rattle.oci_tool.proofs.texts.digests.Given as goal
 
 abbrev pub invariant-loop-text : goal.invariant-loop-text
-invariant-loop-text g l = l.wrong ≡ false → (k : ℕ) → k < l.text-index → HoldsAt (λ t. IsSomeDigest t.now) l.texts k
+invariant-loop-text g l = record {
+  right : l.wrong ≡ false → AppendsEach AreDigestLines (take l.text-index l.texts) (g.W.Write.contents l.initial.writer) (g.W.Write.contents l.writer);
+  wrong : l.wrong ≡ true → HasNone IsNoDigest l.texts;
+}

@@ -1,0 +1,32 @@
+use Rattle.std.proofs.Common.{◌≡◌, [], Some, rules}
+use Rattle.std.specs.Io.KnownBytes.{Appends}
+use Rattle.std.proofs.lemmas.Result.{IfOk-weaker}
+use Rattle.oci_tool.proofs.Forms.{unformatted_asked, unformatted_listed}
+use Rattle.oci_tool.proofs.Held.{formats_asked}
+use Rattle.oci_tool.proofs.canonical.format_bytes.Goals as goal
+
+pub returns-then-not-is_empty-clause-refused : goal.returns-then-not-is_empty-clause-refused
+returns-then-not-is_empty-clause-refused g c = λ one.
+    let not : ¬ (c.in_ok-found.found.errors.items ≡ []) = search rules in
+    unformatted_listed c.args.asked.now c.args.bytes.now (c.in_ok-found.found.errors.items ≡ []) c.in_ok-found.ensures.all not
+
+pub returns-in-Some-clause-canonical : goal.returns-in-Some-clause-canonical
+returns-in-Some-clause-canonical g c =
+    let a = c.args.asked.now in
+    IfOk-weaker c.format_as.result _ _
+    (λ s made zero checks. formats_asked a.kind c.in-Some.kind a.pretty (Some c.args.bytes.now) (λ t. t ≡ c.args.bytes.now) (λ t. t ≡ c.args.bytes.now) c.in-Some.ensures.kind (λ t h. h) (made zero checks))
+    c.format_as.ensures.canonical
+
+pub returns-in-Some-clause-written : goal.returns-in-Some-clause-written
+returns-in-Some-clause-written g c =
+    let a = c.args.asked.now in
+    let wrote = Appends (g.W.Write.contents c.args.writer.now) (g.W.Write.contents c.format_as.new.writer) in
+    IfOk-weaker c.format_as.result _ _
+    (λ s made zero checks none. formats_asked a.kind c.in-Some.kind a.pretty (Some c.args.bytes.now) wrote wrote c.in-Some.ensures.kind (λ t h. h) (made zero checks none))
+    c.format_as.ensures.written
+
+pub returns-in-Some-clause-refused : goal.returns-in-Some-clause-refused
+returns-in-Some-clause-refused g c =
+    IfOk-weaker c.format_as.result _ _
+    (λ s refused one. unformatted_asked c.args.asked.now c.in-Some.kind c.args.bytes.now c.in-Some.ensures.kind (refused one))
+    c.format_as.ensures.refused
