@@ -1,5 +1,5 @@
 //! Contents beside their descriptors.
-ghost use Rattle.std.specs.Prelude.{◌≡◌, ◌≤◌, IsUtf8, length};
+ghost use Rattle.std.specs.Prelude.{◌≡◌, ◌≤◌, ◌⊎◌, IsUtf8, length};
 ghost use Rattle.oci_text_base.specs.Digest.{IsDigestText};
 ghost use Rattle.oci_content.specs.Content.{IsBy, IsContentOf, IsOther};
 ghost use Rattle.oci_content.specs.declared.algorithm.Algorithm.{Algorithm};
@@ -24,7 +24,7 @@ pub extern "C" fn ciderglen_verify(digest: &[u8], size: u64, content: &[u8]) -> 
     ensures unknown { result ≡ UNKNOWN_ALGORITHM → (length content.now ≡ size) × ((a : Algorithm) → ¬ IsBy a digest.now) }
     ensures refused { result ≡ INVALID_DIGEST → ¬ IsDigestText digest.now }
     ensures utf8 { result ≡ INVALID_UTF8 → ¬ IsUtf8 digest.now }
-    ensures status { result ≤ UNKNOWN_ALGORITHM }
+    ensures status { (result ≡ DONE) ⊎ ((INVALID_UTF8 ≤ result) × (result ≤ UNKNOWN_ALGORITHM)) }
 {
     match str::from_utf8(digest) {
         Ok(digest) => {
@@ -46,7 +46,7 @@ fn verdict_status(digest: &str, size: u64, content: &[u8]) -> u32
     ensures unknown { result ≡ UNKNOWN_ALGORITHM → (length content.now ≡ size) × ((a : Algorithm) → ¬ IsBy a digest.now) }
     ensures refused { ¬ (result ≡ INVALID_DIGEST) }
     ensures utf8 { ¬ (result ≡ INVALID_UTF8) }
-    ensures status { result ≤ UNKNOWN_ALGORITHM }
+    ensures status { (result ≡ DONE) ⊎ ((INVALID_UTF8 ≤ result) × (result ≤ UNKNOWN_ALGORITHM)) }
 {
     match verify_bytes(digest, size, content) {
         Verdict::Same => DONE,
