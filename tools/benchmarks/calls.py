@@ -9,8 +9,8 @@ ROWS = [
     ("C", "c", "", (*CALLS, "none")),
     ("Rust", "rust", "", CALLS),
     ("Go", "go", "", CALLS),
-    ("Rattle, a workspace a call", "oci_lanes", "", ("manifest", "spec"), "fresh"),
-    ("Rattle", "oci_lanes", "", ("manifest", "spec"), "bytes"),
+    ("Rattle, a workspace a call", "oci_bench", "", ("manifest", "spec"), "fresh"),
+    ("Rattle", "oci_bench", "", ("manifest", "spec"), "bytes"),
     ("the crate `oci-spec`", "crate", "", CALLS),
     ("the same in byte order", "crate", "_ordered", ("manifest", "spec")),
     ("Go, `encoding/json`", "go_peers", "", ("manifest", "spec")),
@@ -46,7 +46,7 @@ def found_programs(bench):
     found = bench.programs.bindings()
     found |= {"crate": bench.programs.crate, "go_peers": bench.programs.go_peers}
     try:
-        found["oci_lanes"] = bench.programs.built("oci_lanes")
+        found["oci_bench"] = bench.programs.built("oci_bench")
     except Missing:
         pass
     return {name: program for name, program in found.items() if program}

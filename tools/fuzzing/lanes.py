@@ -1,6 +1,6 @@
 """Both lanes of the library on documents that were changed at random: straight from the bytes, and by way of a value.
 
-The program of crates/oci_lanes takes both ways on each document that it reads, and writes a line for it.
+The program of crates/oci_bench, with `lanes`, takes both ways on each document that it reads, and writes a line for it.
 """
 import multiprocessing
 import os
@@ -10,7 +10,7 @@ import sys
 import time
 
 TOP = os.path.dirname(os.path.dirname(os.path.dirname(os.path.realpath(__file__))))
-CRATE = f"{TOP}/crates/oci_lanes"
+CRATE = f"{TOP}/crates/oci_bench"
 BATCH = 500
 LINES = {b"same accepted": True, b"same rejected": False}
 
@@ -22,14 +22,14 @@ def build(folder):
         made = subprocess.run(["rt", "run", *flags], cwd=CRATE, stdin=subprocess.DEVNULL, capture_output=True, text=True, check=False)
         if made.returncode:
             sys.exit(f"rt run {' '.join(flags)}: {made.stdout}{made.stderr}")
-        built.append(shutil.copy(f"{CRATE}/out/oci_lanes", f"{folder}/oci_lanes_{name}"))
+        built.append(shutil.copy(f"{CRATE}/out/oci_bench", f"{folder}/oci_bench_{name}"))
     return built
 
 
 def answers(program, documents):
     """The lines that the program writes for the documents; those that are missing are empty."""
     given = b"".join(b"%s %d\n%s" % (kind, len(text), text) for kind, text in documents)
-    done = subprocess.run([program], input=given, capture_output=True, check=False)
+    done = subprocess.run([program, "lanes"], input=given, capture_output=True, check=False)
     lines = done.stdout.splitlines()[:len(documents)]
     if done.returncode not in (0, 1):
         print(f"{program}: ended with {done.returncode}, reported {done.stderr[-2000:]!r}", flush=True)

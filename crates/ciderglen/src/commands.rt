@@ -1,4 +1,4 @@
-//! The commands of the program, with their arguments and help texts.
+//! The commands of the program, with their arguments and help texts, as tables of which clap's commands are made.
 use clap::builder::ValueParser;
 use clap::{Arg, ArgAction, Command};
 use oci_report::sarif::VERSION;
@@ -10,8 +10,70 @@ const STATUS: &str =
 const ABOUT: &str =
     "Checks, formats, compares and shows JSON documents of the Open Container Initiative";
 
+/// What an argument takes.
+#[derive(Clone, Copy)]
+enum Takes {
+    /// Nothing: an option that is given or not.
+    Nothing,
+    /// The value of an option, by what help calls it.
+    Value(&'static str),
+    /// A word, which may be left out.
+    Maybe,
+    /// A word.
+    Word,
+    /// Words, one at least.
+    Words,
+    /// Words, or none.
+    Any,
+}
+
+/// What one argument says of another.
+#[derive(Clone, Copy)]
+enum Bond {
+    /// Nothing.
+    Free,
+    /// It cannot be given with that option.
+    Without(&'static str),
+    /// It has to be given with that option.
+    With(&'static str),
+}
+
+/// An argument of a command.
+#[derive(Clone, Copy)]
+struct Argument {
+    name: &'static str,
+    help: &'static str,
+    takes: Takes,
+    short: Option<char>,
+    /// The only values that it may have; any, where there are none.
+    values: &'static [&'static str],
+    /// The value that it has where it is not given; none, where there is none.
+    default: &'static [&'static str],
+    bond: Bond,
+}
+
+/// A command.
+#[derive(Clone, Copy)]
+struct Described {
+    name: &'static str,
+    about: &'static str,
+    example: &'static str,
+    arguments: &'static [Argument],
+}
+
+/// What most arguments are: an option that is given or not.
+const PLAIN: Argument = Argument {
+    name: "",
+    help: "",
+    takes: Takes::Nothing,
+    short: None,
+    values: &[],
+    default: &[],
+    bond: Bond::Free,
+};
+
 /// The names of the kinds of documents.
-static KIND_NAMES: [&str; 16] = [
+const KINDS: &[&str] = &[
     "manifest",
     "index",
     "config",
@@ -30,342 +92,354 @@ static KIND_NAMES: [&str; 16] = [
     "features",
 ];
 
-static CHECK_FORMATS: [&str; 3] = ["text", "json", "sarif"];
+const KIND: Argument = Argument {
+    name: "kind",
+    help: "The kind of the documents; without it, it is found out",
+    takes: Takes::Value("KIND"),
+    short: Some('k'),
+    values: KINDS,
+    ..PLAIN
+};
 
-static ALGORITHMS: [&str; 3] = ["sha256", "sha384", "sha512"];
+const QUIET: Argument = Argument {
+    name: "quiet",
+    short: Some('q'),
+    ..PLAIN
+};
 
-static FORMATS: [&str; 2] = ["text", "json"];
+const FORMAT: Argument = Argument {
+    name: "format",
+    help: "How to write the result",
+    takes: Takes::Value("FORMAT"),
+    values: &["text", "json"],
+    default: &["text"],
+    ..PLAIN
+};
 
-static LEVELS: [&str; 4] = ["must", "stated", "should", "host"];
+/// The one file that is read.
+const FILE: Argument = Argument {
+    name: "FILE",
+    help: "The file to read; - is standard input, and so is no FILE",
+    takes: Takes::Maybe,
+    ..PLAIN
+};
 
-static PLATFORMS: [&str; 6] = ["linux", "windows", "solaris", "vm", "zos", "freebsd"];
+/// All commands.
+static COMMANDS: [Described; 10] = [
+    Described {
+        name: "check",
+        about: "Lists what is wrong with documents",
+        example: "Example: ciderglen check --kind manifest image/manifest.json",
+        arguments: &[
+            KIND,
+            Argument {
+                name: "rules",
+                help: "Check the rules of the specifications beside the schema",
+                ..PLAIN
+            },
+            Argument {
+                name: "policy",
+                help: "Check the rules of the policy in this TOML file too",
+                takes: Takes::Value("FILE"),
+                ..PLAIN
+            },
+            Argument {
+                name: "level",
+                help: "The weakest level of rules that are checked; a document that breaks one of must or stated is wrong",
+                takes: Takes::Value("LEVEL"),
+                values: &["must", "stated", "should", "host"],
+                default: &["should"],
+                ..PLAIN
+            },
+            Argument {
+                name: "platform",
+                help: "The platform of the documents; without it, they say it",
+                takes: Takes::Value("PLATFORM"),
+                values: &["linux", "windows", "solaris", "vm", "zos", "freebsd"],
+                ..PLAIN
+            },
+            Argument {
+                name: "unknown",
+                help: "What is done with members that the schema does not list",
+                takes: Takes::Value("UNKNOWN"),
+                values: &["deny", "warn", "allow"],
+                default: &["allow"],
+                ..PLAIN
+            },
+            Argument {
+                values: &["text", "json", "sarif"],
+                ..FORMAT
+            },
+            Argument {
+                help: "Write no findings; the exit status says all",
+                ..QUIET
+            },
+            Argument {
+                help: "The files to check; - is standard input, and so is no FILE",
+                takes: Takes::Any,
+                ..FILE
+            },
+        ],
+    },
+    Described {
+        name: "fmt",
+        about: "Writes the canonical form of a document, and says what is left out of it",
+        example: "Example: ciderglen fmt --pretty config.json",
+        arguments: &[
+            KIND,
+            Argument {
+                name: "pretty",
+                help: "Indent the text by two spaces a level",
+                ..PLAIN
+            },
+            Argument {
+                name: "compact",
+                help: "Write no spaces; this is the default",
+                bond: Bond::Without("pretty"),
+                ..PLAIN
+            },
+            Argument {
+                name: "check",
+                help: "Write nothing; the exit status says whether the file is canonical",
+                ..PLAIN
+            },
+            Argument {
+                name: "output",
+                help: "Write to this file, which is replaced as a whole",
+                takes: Takes::Value("FILE"),
+                short: Some('o'),
+                bond: Bond::Without("check"),
+                ..PLAIN
+            },
+            Argument {
+                help: "Do not say what is left out",
+                ..QUIET
+            },
+            Argument {
+                name: "verbose",
+                help: "Say the digests before and after",
+                ..PLAIN
+            },
+            FILE,
+        ],
+    },
+    Described {
+        name: "verify",
+        about: "Verifies that all that an image layout reaches is there and is what it claims to be",
+        example: "Example: ciderglen verify image",
+        arguments: &[
+            FORMAT,
+            Argument {
+                name: "strict",
+                help: "Notes are wrong too",
+                ..PLAIN
+            },
+            Argument {
+                name: "quick",
+                help: "Look at the sizes of layers alone, and do not read them",
+                ..PLAIN
+            },
+            Argument {
+                name: "progress",
+                help: "Write a line a second of what was done on standard error",
+                ..PLAIN
+            },
+            Argument {
+                name: "DIR",
+                help: "The folder of the image layout",
+                takes: Takes::Word,
+                ..PLAIN
+            },
+        ],
+    },
+    Described {
+        name: "diff",
+        about: "Lists what differs between the canonical forms of two documents",
+        example: "Example: ciderglen diff old.json new.json",
+        arguments: &[
+            KIND,
+            FORMAT,
+            Argument {
+                help: "Write no differences; the exit status says all",
+                ..QUIET
+            },
+            Argument {
+                name: "A",
+                help: "The file before",
+                takes: Takes::Word,
+                ..PLAIN
+            },
+            Argument {
+                name: "B",
+                help: "The file after",
+                takes: Takes::Word,
+                ..PLAIN
+            },
+        ],
+    },
+    Described {
+        name: "tree",
+        about: "Shows an image index, a manifest or an image layout as a tree",
+        example: "Example: ciderglen tree index.json",
+        arguments: &[Argument {
+            help: "The file to read, or the folder of an image layout; - is standard input, and so is no FILE",
+            ..FILE
+        }],
+    },
+    Described {
+        name: "ref",
+        about: "Writes the parts of image references",
+        example: "Example: ciderglen ref busybox:1",
+        arguments: &[
+            FORMAT,
+            Argument {
+                name: "TEXT",
+                help: "The references",
+                takes: Takes::Words,
+                ..PLAIN
+            },
+        ],
+    },
+    Described {
+        name: "digest",
+        about: "Writes the digests of files, or the parts of digests",
+        example: "Example: ciderglen digest blob.tar.gz",
+        arguments: &[
+            Argument {
+                name: "algorithm",
+                help: "The algorithm",
+                takes: Takes::Value("ALGORITHM"),
+                short: Some('a'),
+                values: &["sha256", "sha384", "sha512"],
+                default: &["sha256"],
+                ..PLAIN
+            },
+            Argument {
+                name: "parse",
+                help: "Take digests in place of files, and write their parts",
+                ..PLAIN
+            },
+            Argument {
+                help: "The files, or the digests; - is standard input, and so is no FILE",
+                takes: Takes::Any,
+                bond: Bond::With("parse"),
+                ..FILE
+            },
+        ],
+    },
+    Described {
+        name: "pin",
+        about: "Writes an image reference with the digest of a descriptor",
+        example: "Example: ciderglen pin busybox:1 descriptor.json",
+        arguments: &[
+            Argument {
+                name: "TEXT",
+                help: "The reference",
+                takes: Takes::Word,
+                ..PLAIN
+            },
+            Argument {
+                help: "The descriptor; - is standard input, and so is no FILE",
+                ..FILE
+            },
+        ],
+    },
+    Described {
+        name: "rules",
+        about: "Lists the rules of the specifications",
+        example: "Example: ciderglen rules image-config",
+        arguments: &[Argument {
+            name: "NAME",
+            help: "A kind of documents, or the name of a rule",
+            takes: Takes::Maybe,
+            ..PLAIN
+        }],
+    },
+    Described {
+        name: "schema",
+        about: "Lists the members of a kind of documents",
+        example: "Example: ciderglen schema manifest",
+        arguments: &[Argument {
+            name: "KIND",
+            help: "The kind of documents",
+            takes: Takes::Word,
+            values: KINDS,
+            ..PLAIN
+        }],
+    },
+];
 
-static UNKNOWN: [&str; 3] = ["deny", "warn", "allow"];
-
-/// A command, or that memory ran out while it was made.
-type Made<'a> = Result<Command<'a>, AllocError>;
-
-/// Adds an argument.
-fn with_arg<'a>(command: Made<'a>, arg: Arg<'a>) -> Made<'a> {
-    match command {
-        Ok(command) => command.arg(arg),
-        Err(error) => Err(error),
+/// Adds what the argument takes.
+fn taking<'a>(arg: Arg<'a>, it: &Argument) -> Arg<'a> {
+    match it.takes {
+        Takes::Nothing => arg.long(it.name).action(ArgAction::SetTrue),
+        Takes::Value(name) => arg.long(it.name).value_name(name),
+        Takes::Maybe => arg,
+        Takes::Word => arg.required(true),
+        Takes::Words => arg.required(true).num_args(1..),
+        Takes::Any => arg.num_args(0..),
     }
 }
 
-/// Adds an argument whose making may run out of memory.
-fn with_made_arg<'a>(command: Made<'a>, arg: Result<Arg<'a>, AllocError>) -> Made<'a> {
-    match arg {
-        Ok(arg) => with_arg(command, arg),
-        Err(error) => Err(error),
+/// Adds the short name.
+fn with_short<'a>(arg: Arg<'a>, it: &Argument) -> Arg<'a> {
+    match it.short {
+        Some(short) => arg.short(short),
+        None => arg,
     }
 }
 
-/// Adds a subcommand.
-fn with_subcommand<'a>(command: Made<'a>, subcommand: Made<'a>) -> Made<'a> {
-    match subcommand {
-        Ok(subcommand) => with_made(command, subcommand),
-        Err(error) => Err(error),
+/// Adds the values that it may have.
+fn with_values<'a>(arg: Arg<'a>, it: &Argument) -> Arg<'a> {
+    if it.values.is_empty() {
+        arg
+    } else {
+        arg.value_parser(ValueParser::Names(it.values))
     }
 }
 
-fn with_made<'a>(command: Made<'a>, subcommand: Command<'a>) -> Made<'a> {
-    match command {
-        Ok(command) => command.subcommand(subcommand),
-        Err(error) => Err(error),
+/// Adds what it says of another.
+fn with_bond<'a>(arg: Arg<'a>, it: &Argument) -> Result<Arg<'a>, AllocError> {
+    match it.bond {
+        Bond::Free => Ok(arg),
+        Bond::Without(other) => arg.conflicts_with(other),
+        Bond::With(other) => arg.required_if_eq(other, "true"),
     }
 }
 
-/// The program's command.
-pub fn ciderglen<'a>(alloc: Global) -> Made<'a> {
-    let command = Command::new(alloc, "ciderglen")
+fn arg_of<'a>(alloc: Global, it: &'static Argument) -> Result<Arg<'a>, AllocError> {
+    let arg = Arg::new(alloc, it.name)
+        .help(it.help)
+        .default_values(it.default);
+    with_bond(with_values(with_short(taking(arg, it), it), it), it)
+}
+
+fn command_of<'a>(alloc: Global, it: &'static Described) -> Result<Command<'a>, AllocError> {
+    let mut command = Command::new(alloc, it.name)
+        .about(it.about)
+        .after_help(it.example);
+    for it in it.arguments {
+        command = command.arg(arg_of(alloc, it)?)?;
+    }
+    Ok(command)
+}
+
+/// The program, with no commands yet.
+fn program<'a>(alloc: Global) -> Result<Command<'a>, AllocError> {
+    Command::new(alloc, "ciderglen")
         .version(VERSION)
         .about(ABOUT)
         .after_help(STATUS)
         .subcommand_required(true)
         .arg_required_else_help(true)
-        .bin_name("ciderglen");
-    let command = with_subcommand(command, check(alloc));
-    let command = with_subcommand(command, fmt(alloc));
-    let command = with_subcommand(command, verify(alloc));
-    let command = with_subcommand(command, diff(alloc));
-    let command = with_subcommand(command, tree(alloc));
-    let command = with_subcommand(command, reference(alloc));
-    let command = with_subcommand(command, digest(alloc));
-    let command = with_subcommand(command, pin(alloc));
-    let command = with_subcommand(command, rules(alloc));
-    with_subcommand(command, schema(alloc))
+        .bin_name("ciderglen")
 }
 
-fn kind<'a>(alloc: Global) -> Arg<'a> {
-    Arg::new(alloc, "kind")
-        .short('k')
-        .long("kind")
-        .value_name("KIND")
-        .value_parser(ValueParser::Names(&KIND_NAMES))
-        .help("The kind of the documents; without it, it is found out")
-}
-
-fn quiet<'a>(alloc: Global, help: &'a str) -> Arg<'a> {
-    Arg::new(alloc, "quiet")
-        .short('q')
-        .long("quiet")
-        .action(ArgAction::SetTrue)
-        .help(help)
-}
-
-fn style<'a>(alloc: Global, names: &'a [&'a str]) -> Arg<'a> {
-    Arg::new(alloc, "format")
-        .long("format")
-        .value_name("FORMAT")
-        .value_parser(ValueParser::Names(names))
-        .default_value("text")
-        .help("How to write the result")
-}
-
-fn flag<'a>(alloc: Global, name: &'a str, help: &'a str) -> Arg<'a> {
-    Arg::new(alloc, name)
-        .long(name)
-        .action(ArgAction::SetTrue)
-        .help(help)
-}
-
-fn file<'a>(alloc: Global, help: &'a str) -> Arg<'a> {
-    Arg::new(alloc, "FILE").help(help)
-}
-
-/// A command with what its help says.
-fn named<'a>(alloc: Global, name: &'a str, about: &'a str, example: &'a str) -> Made<'a> {
-    Ok(Command::new(alloc, name).about(about).after_help(example))
-}
-
-fn check<'a>(alloc: Global) -> Made<'a> {
-    let command = named(
-        alloc,
-        "check",
-        "Lists what is wrong with documents",
-        "Example: ciderglen check --kind manifest image/manifest.json",
-    );
-    let command = with_arg(command, kind(alloc));
-    let text = "Check the rules of the specifications beside the schema";
-    let command = with_arg(command, flag(alloc, "rules", text));
-    let command = with_arg(command, policy(alloc));
-    let command = with_arg(command, level(alloc));
-    let command = with_arg(command, platform(alloc));
-    let command = with_arg(command, unknown(alloc));
-    let command = with_arg(command, style(alloc, &CHECK_FORMATS));
-    let command = with_arg(
-        command,
-        quiet(alloc, "Write no findings; the exit status says all"),
-    );
-    let text = "The files to check; - is standard input, and so is no FILE";
-    with_arg(command, file(alloc, text).num_args(0..))
-}
-
-fn policy<'a>(alloc: Global) -> Arg<'a> {
-    Arg::new(alloc, "policy")
-        .long("policy")
-        .value_name("FILE")
-        .help("Check the rules of the policy in this TOML file too")
-}
-
-fn level<'a>(alloc: Global) -> Arg<'a> {
-    Arg::new(alloc, "level")
-        .long("level")
-        .value_name("LEVEL")
-        .value_parser(ValueParser::Names(&LEVELS))
-        .default_value("should")
-        .help(
-            "The weakest level of rules that are checked; a document that breaks one of must or stated is wrong",
-        )
-}
-
-fn platform<'a>(alloc: Global) -> Arg<'a> {
-    Arg::new(alloc, "platform")
-        .long("platform")
-        .value_name("PLATFORM")
-        .value_parser(ValueParser::Names(&PLATFORMS))
-        .help("The platform of the documents; without it, they say it")
-}
-
-fn unknown<'a>(alloc: Global) -> Arg<'a> {
-    Arg::new(alloc, "unknown")
-        .long("unknown")
-        .value_name("UNKNOWN")
-        .value_parser(ValueParser::Names(&UNKNOWN))
-        .default_value("allow")
-        .help("What is done with members that the schema does not list")
-}
-
-fn verify<'a>(alloc: Global) -> Made<'a> {
-    let command = named(
-        alloc,
-        "verify",
-        "Verifies that all that an image layout reaches is there and is what it claims to be",
-        "Example: ciderglen verify image",
-    );
-    let command = with_arg(command, style(alloc, &FORMATS));
-    let command = with_arg(command, flag(alloc, "strict", "Notes are wrong too"));
-    let text = "Look at the sizes of layers alone, and do not read them";
-    let command = with_arg(command, flag(alloc, "quick", text));
-    let text = "Write a line a second of what was done on standard error";
-    let command = with_arg(command, flag(alloc, "progress", text));
-    with_arg(
-        command,
-        required(alloc, "DIR", "The folder of the image layout"),
-    )
-}
-
-fn rules<'a>(alloc: Global) -> Made<'a> {
-    let command = named(
-        alloc,
-        "rules",
-        "Lists the rules of the specifications",
-        "Example: ciderglen rules image-config",
-    );
-    let text = "A kind of documents, or the name of a rule";
-    with_arg(command, Arg::new(alloc, "NAME").help(text))
-}
-
-fn fmt<'a>(alloc: Global) -> Made<'a> {
-    let command = named(
-        alloc,
-        "fmt",
-        "Writes the canonical form of a document, and says what is left out of it",
-        "Example: ciderglen fmt --pretty config.json",
-    );
-    let command = with_arg(command, kind(alloc));
-    let command = with_arg(
-        command,
-        flag(alloc, "pretty", "Indent the text by two spaces a level"),
-    );
-    let command = with_made_arg(command, compact(alloc));
-    let text = "Write nothing; the exit status says whether the file is canonical";
-    let command = with_arg(command, flag(alloc, "check", text));
-    let command = with_made_arg(command, output(alloc));
-    let command = with_arg(command, quiet(alloc, "Do not say what is left out"));
-    let command = with_arg(
-        command,
-        flag(alloc, "verbose", "Say the digests before and after"),
-    );
-    with_arg(command, input(alloc))
-}
-
-fn compact<'a>(alloc: Global) -> Result<Arg<'a>, AllocError> {
-    flag(alloc, "compact", "Write no spaces; this is the default").conflicts_with("pretty")
-}
-
-fn output<'a>(alloc: Global) -> Result<Arg<'a>, AllocError> {
-    Arg::new(alloc, "output")
-        .short('o')
-        .long("output")
-        .value_name("FILE")
-        .help("Write to this file, which is replaced as a whole")
-        .conflicts_with("check")
-}
-
-/// The one file that is read.
-fn input<'a>(alloc: Global) -> Arg<'a> {
-    file(
-        alloc,
-        "The file to read; - is standard input, and so is no FILE",
-    )
-}
-
-fn required<'a>(alloc: Global, name: &'a str, help: &'a str) -> Arg<'a> {
-    Arg::new(alloc, name).required(true).help(help)
-}
-
-fn diff<'a>(alloc: Global) -> Made<'a> {
-    let command = named(
-        alloc,
-        "diff",
-        "Lists what differs between the canonical forms of two documents",
-        "Example: ciderglen diff old.json new.json",
-    );
-    let command = with_arg(command, kind(alloc));
-    let command = with_arg(command, style(alloc, &FORMATS));
-    let text = "Write no differences; the exit status says all";
-    let command = with_arg(command, quiet(alloc, text));
-    let command = with_arg(command, required(alloc, "A", "The file before"));
-    with_arg(command, required(alloc, "B", "The file after"))
-}
-
-fn tree<'a>(alloc: Global) -> Made<'a> {
-    let command = named(
-        alloc,
-        "tree",
-        "Shows an image index, a manifest or an image layout as a tree",
-        "Example: ciderglen tree index.json",
-    );
-    let text =
-        "The file to read, or the folder of an image layout; - is standard input, and so is no FILE";
-    with_arg(command, file(alloc, text))
-}
-
-fn reference<'a>(alloc: Global) -> Made<'a> {
-    let command = named(
-        alloc,
-        "ref",
-        "Writes the parts of image references",
-        "Example: ciderglen ref busybox:1",
-    );
-    let command = with_arg(command, style(alloc, &FORMATS));
-    with_arg(
-        command,
-        required(alloc, "TEXT", "The references").num_args(1..),
-    )
-}
-
-fn digest<'a>(alloc: Global) -> Made<'a> {
-    let command = named(
-        alloc,
-        "digest",
-        "Writes the digests of files, or the parts of digests",
-        "Example: ciderglen digest blob.tar.gz",
-    );
-    let command = with_arg(command, algorithm(alloc));
-    let text = "Take digests in place of files, and write their parts";
-    let command = with_arg(command, flag(alloc, "parse", text));
-    with_made_arg(command, contents(alloc))
-}
-
-fn algorithm<'a>(alloc: Global) -> Arg<'a> {
-    Arg::new(alloc, "algorithm")
-        .short('a')
-        .long("algorithm")
-        .value_name("ALGORITHM")
-        .value_parser(ValueParser::Names(&ALGORITHMS))
-        .default_value("sha256")
-        .help("The algorithm")
-}
-
-fn contents<'a>(alloc: Global) -> Result<Arg<'a>, AllocError> {
-    let text = "The files, or the digests; - is standard input, and so is no FILE";
-    file(alloc, text)
-        .num_args(0..)
-        .required_if_eq("parse", "true")
-}
-
-fn pin<'a>(alloc: Global) -> Made<'a> {
-    let command = named(
-        alloc,
-        "pin",
-        "Writes an image reference with the digest of a descriptor",
-        "Example: ciderglen pin busybox:1 descriptor.json",
-    );
-    let command = with_arg(command, required(alloc, "TEXT", "The reference"));
-    let text = "The descriptor; - is standard input, and so is no FILE";
-    with_arg(command, file(alloc, text))
-}
-
-fn schema<'a>(alloc: Global) -> Made<'a> {
-    let command = named(
-        alloc,
-        "schema",
-        "Lists the members of a kind of documents",
-        "Example: ciderglen schema manifest",
-    );
-    let kind = required(alloc, "KIND", "The kind of documents");
-    with_arg(command, kind.value_parser(ValueParser::Names(&KIND_NAMES)))
+/// The program's command.
+pub fn ciderglen<'a>(alloc: Global) -> Result<Command<'a>, AllocError> {
+    let mut program = program(alloc)?;
+    for it in &COMMANDS {
+        program = program.subcommand(command_of(alloc, it)?)?;
+    }
+    Ok(program)
 }

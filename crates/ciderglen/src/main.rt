@@ -13,10 +13,12 @@ use line::{asked, matches_of, options_in, status_of, words_of};
 use oci_layout::Folder;
 use oci_policies::{Bump, Policy, PolicyError};
 use oci_rules::Rule;
+use oci_tool::texts::{complain, complain_of};
 use oci_tool::{Asked, Tree};
 use oci_verify::Options;
 use rules::Specifications;
 use std::alloc::AllocError;
+use std::fmt::Display;
 use std::fs;
 use std::process::ExitCode;
 use watch::Started;
@@ -27,7 +29,7 @@ fn main(rt: HostRuntime) -> ExitCode {
     let words = match words_of(&rt) {
         Ok(words) => words,
         Err(fault) => {
-            let _ = eprintln!(&rt; "ciderglen: cannot read the arguments: {fault}");
+            tell(&rt, "cannot read the arguments", &fault);
             return ExitCode::from(2);
         }
     };
@@ -68,11 +70,19 @@ fn run_asked(rt: &HostRuntime, asked: Result<Option<Asked<'_>>, AllocError>) -> 
     match asked {
         Ok(Some(asked)) => run(rt, &asked),
         Ok(None) => 2,
-        Err(_) => {
-            let _ = eprintln!(rt; "ciderglen: out of memory");
-            3
-        }
+        Err(_) => out_of_memory(rt),
     }
+}
+
+/// Says what is wrong with what is named on standard error.
+fn tell<D: Display>(rt: &HostRuntime, name: &str, fault: &D) {
+    complain_of(name, fault, rt.alloc(), &mut rt.stderr());
+}
+
+/// Says so, and returns the exit status.
+fn out_of_memory(rt: &HostRuntime) -> u8 {
+    complain("ciderglen: out of memory\n", &mut rt.stderr());
+    3
 }
 
 /// Shows a document or an image layout as a tree.
@@ -97,18 +107,15 @@ fn policy_of<'a>(
     let text = match fs::read_to_string(rt, file) {
         Ok(text) => text,
         Err(fault) => {
-            let _ = eprintln!(rt; "ciderglen: {file}: {fault}");
+            tell(rt, file, &fault);
             return Err(3);
         }
     };
     match Policy::from_toml(text.as_str(), arena, rt.alloc()) {
         Ok(policy) => Ok(policy.rules()),
-        Err(PolicyError::Memory) => {
-            let _ = eprintln!(rt; "ciderglen: out of memory");
-            Err(3)
-        }
+        Err(PolicyError::Memory) => Err(out_of_memory(rt)),
         Err(error) => {
-            let _ = eprintln!(rt; "ciderglen: {file}: {error}");
+            tell(rt, file, &error);
             Err(2)
         }
     }
@@ -130,7 +137,7 @@ fn run(rt: &HostRuntime, asked: &Asked<'_>) -> u8 {
 
 fn verify(rt: &HostRuntime, options: &Options, root: &str) -> u8 {
     if let Err(fault) = fs::read_dir(rt, root) {
-        let _ = eprintln!(rt; "ciderglen: {root}: {fault}");
+        tell(rt, root, &fault);
         return 3;
     }
     let folder = Folder { rt, root };

@@ -2,9 +2,10 @@
 ghost use Rattle.std.specs.Prelude.{IfSome, map, string_bytes};
 ghost use Rattle.oci_bench.specs.Words.{Names, NamesWords};
 
-use crate::documents::DocumentCall;
+use crate::documents::TypedCall;
 use crate::references::TextCall;
-use oci_doc_run::Kind;
+use crate::schemas::SchemaCall;
+use oci_kinds::Kind;
 
 /// A call, and how often it is made.
 #[derive(Clone, Copy)]
@@ -18,8 +19,10 @@ pub struct Run<C> {
 /// What to do.
 #[derive(Clone, Copy)]
 pub enum Task<'a> {
-    /// A call on a document of a kind, in a file.
-    Documents(Kind, &'a str, Run<DocumentCall>),
+    /// A call on a typed record of a kind, from a file.
+    Typed(Kind, &'a str, Run<TypedCall>),
+    /// A call by the schema of a kind on the bytes of a file.
+    Schema(Kind, &'a str, Run<SchemaCall>),
     /// A call on each reference in a file, one a line.
     Texts(&'a str, Run<TextCall>),
 }
@@ -45,8 +48,13 @@ impl<'a> Task<'a> {
             let call = TextCall::from_word(call)?;
             return Some(Task::Texts(path, Run { call, count }));
         }
-        let call = DocumentCall::from_word(call)?;
         let kind = Kind::from_word(kind)?;
-        Some(Task::Documents(kind, path, Run { call, count }))
+        match TypedCall::from_word(call) {
+            Some(call) => Some(Task::Typed(kind, path, Run { call, count })),
+            None => {
+                let call = SchemaCall::from_word(call)?;
+                Some(Task::Schema(kind, path, Run { call, count }))
+            }
+        }
     }
 }

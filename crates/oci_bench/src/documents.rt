@@ -1,91 +1,69 @@
-//! The calls that are made on a document.
+//! The calls that are made on a typed record.
 ghost use Rattle.std.specs.Prelude.{◌≡◌};
-ghost use Rattle.oci_bench.specs.Words.{document_call_of};
+ghost use Rattle.oci_bench.specs.Words.{typed_call_of};
 
 use crate::arguments::Run;
-use anyhow::{Context, Result};
+use anyhow::Result;
 use oci_distribution::{ErrorResponse, RepositoryList, TagList};
-use oci_doc_run::Kind;
 use oci_features::Features;
 use oci_image::ImageConfiguration;
 use oci_image_descriptor::Descriptor;
 use oci_image_manifest::{ArtifactManifest, ImageIndex, ImageManifest, OciLayout};
 use oci_json_io::{from_slice, to_string};
+use oci_json_model::OciRecord;
+use oci_kinds::Kind;
 use oci_reference::Reference;
 use oci_runtime::{ContainerProcessState, Spec, State};
-use oci_spec::schema::{HasSchema, normalize_as};
-use serde_json::Value;
 use std::alloc::Global;
 
-/// A call on the bytes of a document.
+/// A call on the record of a document.
 #[derive(Clone, Copy)]
-pub enum DocumentCall {
-    /// `floor`: the JSON reader's value of the bytes, and its compact text.
-    Floor,
-    /// `from_slice`: the document of the bytes.
+pub enum TypedCall {
+    /// `from_slice`: the record of the bytes.
     Read,
-    /// `to_value`: the document's value, and its compact text.
+    /// `to_value`: the record's value, and its compact text.
     Write,
-    /// `normalize`: from the bytes to those of the document's compact text.
-    Normalize,
 }
 
-impl DocumentCall {
+impl TypedCall {
     /// The call that a word names, if there is one.
-    pub fn from_word(word: &str) -> Option<DocumentCall>
-        ensures { result ≡ document_call_of word.now }
+    pub fn from_word(word: &str) -> Option<TypedCall>
+        ensures { result ≡ typed_call_of word.now }
     {
         match word {
-            "floor" => Some(DocumentCall::Floor),
-            "from_slice" => Some(DocumentCall::Read),
-            "to_value" => Some(DocumentCall::Write),
-            "normalize" => Some(DocumentCall::Normalize),
+            "from_slice" => Some(TypedCall::Read),
+            "to_value" => Some(TypedCall::Write),
             _ => None,
         }
     }
 }
 
-/// Makes the call once on the bytes, or on the document of them, and drops all that it made.
-fn make<T: HasSchema>(
-    alloc: Global,
-    call: DocumentCall,
-    bytes: &[u8],
-    read: &Option<T>,
-) -> Result<()> {
-    match call {
-        DocumentCall::Floor => {
-            let value = Value::from_slice(alloc, bytes)?;
-            let _text = value.to_string(alloc)?;
-        }
-        DocumentCall::Read => {
-            let _document: T = from_slice(alloc, bytes)?;
-        }
-        DocumentCall::Write => {
-            let document = read.as_ref().context("the document was not read")?;
-            let _text = to_string(document, alloc)?;
-        }
-        DocumentCall::Normalize => {
-            let mut written = Vec::new(alloc);
-            normalize_as::<T, _, _>(alloc, bytes, &mut written)?;
-        }
+fn read<T: OciRecord>(alloc: Global, bytes: &[u8], count: u32) -> Result<()> {
+    for _ in 0..count {
+        let _document: T = from_slice(alloc, bytes)?;
     }
     Ok(())
 }
 
-/// Makes the call as often as is asked. The document is read before only where the call writes it.
-fn repeat<T: HasSchema>(alloc: Global, bytes: &[u8], run: Run<DocumentCall>) -> Result<()> {
-    let read: Option<T> = match run.call {
-        DocumentCall::Write => Some(from_slice(alloc, bytes)?),
-        _ => None,
-    };
-    for _ in 0..run.count {
-        make(alloc, run.call, bytes, &read)?;
+/// Reads the record once, and writes it as often as is asked.
+fn write<T: OciRecord>(alloc: Global, bytes: &[u8], count: u32) -> Result<()> {
+    let document: T = from_slice(alloc, bytes)?;
+    for _ in 0..count {
+        let _text = to_string(&document, alloc)?;
     }
     Ok(())
 }
 
-/// Makes a call on a document of a kind.
-pub fn perform(alloc: Global, kind: Kind, bytes: &[u8], run: Run<DocumentCall>) -> Result<()> {
+/// Makes the call as often as is asked, and drops all that it made.
+fn repeat<T: OciRecord>(alloc: Global, bytes: &[u8], run: Run<TypedCall>) -> Result<()> {
+    match run.call {
+        TypedCall::Read => read::<T>(alloc, bytes, run.count),
+        TypedCall::Write => write::<T>(alloc, bytes, run.count),
+    }
+}
+
+/// Makes a call on the record of a kind.
+pub fn perform(alloc: Global, kind: Kind, bytes: &[u8], run: Run<TypedCall>) -> Result<()> {
     match kind {
         Kind::Manifest => repeat::<ImageManifest>(alloc, bytes, run),
         Kind::Index => repeat::<ImageIndex>(alloc, bytes, run),

@@ -1,40 +1,51 @@
-//! The program `oci_bench`: makes one of the library's calls, or the JSON reader's and writer's own, so often as is asked, for tools that
-//! count instructions, time or memory.
+//! The program `oci_bench`, for tools that measure and compare. It makes one of the library's calls, or the JSON reader's and
+//! writer's own, so often as is asked, for `tools/bench`, which counts instructions, time and memory. With `lanes` it reads
+//! documents and says of each whether both ways to its canonical form agree, for `tools/fuzz --lanes`.
 #![tactic(auto)]
 
 mod arguments;
+mod cases;
 mod documents;
-mod inputs;
+mod lanes;
 mod references;
+mod schemas;
+mod tape;
 
-use anyhow::Result;
+use anyhow::{Context, Result};
 use arguments::Task;
-use std::env;
 use std::process::ExitCode;
-use std::rt::Files;
+use std::{env, fs};
 
-const USAGE: &str = "usage: oci_bench KIND FILE COUNT floor | from_slice | to_value | normalize
+const USAGE: &str =
+    "usage: oci_bench KIND FILE COUNT floor | tape | value | normalize | bytes | fresh | from_slice | to_value
        oci_bench texts FILE COUNT from_str | parts | scanner
+       oci_bench lanes < DOCUMENTS
 KIND: manifest | index | config | artifact | layout | descriptor | error | repositories | tags | reference | spec | state | process-state | features
 FILE: a document of that kind, or for texts one reference a line
-COUNT: how often the call is made";
+COUNT: how often the call is made
+DOCUMENTS: documents, each behind a line with its kind and how many bytes it has";
+
+/// All bytes of a file.
+fn input(rt: &HostRuntime, path: &str) -> Result<Vec<u8>> {
+    fs::read(rt, path).context(format_args!("reading {path:?}"))
+}
 
 /// Does the task that the words ask for.
-fn perform<R: Files + AllocGlobal>(rt: &R, task: Task<'_>) -> Result<()> {
+fn perform(rt: &HostRuntime, task: Task<'_>) -> Result<()> {
+    let alloc = rt.alloc();
     match task {
-        Task::Documents(kind, path, run) => {
-            let bytes = inputs::bytes(rt, path)?;
-            documents::perform(rt.alloc(), kind, bytes.as_slice(), run)
+        Task::Typed(kind, path, run) => {
+            documents::perform(alloc, kind, input(rt, path)?.as_slice(), run)
         }
-        Task::Texts(path, run) => {
-            let bytes = inputs::bytes(rt, path)?;
-            references::perform(rt.alloc(), bytes.as_slice(), run)
+        Task::Schema(kind, path, run) => {
+            schemas::perform(alloc, kind, input(rt, path)?.as_slice(), run)
         }
+        Task::Texts(path, run) => references::perform(alloc, input(rt, path)?.as_slice(), run),
     }
 }
 
 /// All words behind the program's own name.
-fn words<R: std::rt::Env + AllocGlobal>(rt: &R) -> Result<Vec<String>> {
+fn words(rt: &HostRuntime) -> Result<Vec<String>> {
     let mut words = Vec::new(rt.alloc());
     for word in env::args(rt)?.skip(1) {
         words.push(word)?;
@@ -42,11 +53,12 @@ fn words<R: std::rt::Env + AllocGlobal>(rt: &R) -> Result<Vec<String>> {
     Ok(words)
 }
 
-fn run<R: std::rt::Runtime + AllocGlobal>(rt: &R) -> Result<ExitCode> {
+fn run(rt: &HostRuntime) -> Result<ExitCode> {
     let words = words(rt)?;
-    if words.is_empty() {
-        println!(rt; "{USAGE}")?;
-        return Ok(ExitCode::SUCCESS);
+    if let [word] = words.as_slice() {
+        if word.as_str() == "lanes" {
+            return lanes::compare_all(rt);
+        }
     }
     match Task::from_words(words.as_slice()) {
         Some(task) => {
@@ -65,7 +77,7 @@ fn main(rt: HostRuntime) -> ExitCode {
         Ok(status) => status,
         Err(fault) => {
             let _ = eprintln!(&rt; "refused: {fault}");
-            ExitCode::from(1)
+            ExitCode::from(2)
         }
     }
 }

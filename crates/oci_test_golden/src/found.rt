@@ -7,9 +7,9 @@ use oci_image::OciLayout;
 use oci_json_io::{from_slice, to_string};
 use oci_json_model::OciRecord;
 use oci_spec::schema::{
-    Records, Schema, Workspace, is_valid, is_valid_as, is_valid_bytes, normalize, normalize_bytes,
-    normalize_pretty, normalize_pretty_as, normalize_pretty_bytes, normalize_value,
-    normalize_value_as, violations, violations_as, violations_in_bytes,
+    Records, Schema, Workspace, is_valid, is_valid_as, is_valid_bytes, normalize, normalize_as,
+    normalize_bytes, normalize_pretty, normalize_pretty_as, normalize_pretty_bytes,
+    normalize_value, normalize_value_as, violations, violations_as, violations_in_bytes,
 };
 use oci_text_base::{OciSpecError, SerDeError};
 use serde_json::Value;
@@ -37,13 +37,13 @@ impl Reading {
             Reading::Bytes => from_slice(alloc, text.as_bytes()),
         }
     }
+}
 
-    /// The compact text of the document, or the place that refuses the text.
-    pub fn found<T: OciRecord>(self, alloc: Global, text: &str) -> Result<String> {
-        match self.read::<T>(alloc, text) {
-            Ok(document) => written(alloc, &document, text),
-            Err(fault) => refused(alloc, &fault),
-        }
+/// What is found of a text: the compact text of its document, or the place that refuses it.
+pub fn found<T: OciRecord>(reading: Reading, alloc: Global, text: &str) -> Result<String> {
+    match reading.read::<T>(alloc, text) {
+        Ok(document) => written(alloc, &document, text),
+        Err(fault) => refused(alloc, &fault),
     }
 }
 
@@ -167,10 +167,11 @@ pub fn by_type(alloc: Global) -> Result<String> {
     let more = Value::from_str(alloc, "{\"more\":1,\"imageLayoutVersion\":\"1.0.0\"}")?;
     let valid = is_valid_as::<OciLayout>(&empty) || !is_valid_as::<OciLayout>(&more);
     let normal = normalize_value_as::<OciLayout>(more, alloc)?.to_string(alloc)?;
-    let mut pretty = Vec::new(alloc);
+    let (mut compact, mut pretty) = (Vec::new(alloc), Vec::new(alloc));
+    normalize_as::<OciLayout, _, _>(alloc, normal.as_str().as_bytes(), &mut compact)?;
     normalize_pretty_as::<OciLayout, _, _>(alloc, normal.as_str().as_bytes(), &mut pretty)?;
-    let pretty = text_of(alloc, &pretty)?;
-    Ok(format!(in alloc; "{count} violation, {valid}, {normal}\n{pretty}")?)
+    let (compact, pretty) = (text_of(alloc, &compact)?, text_of(alloc, &pretty)?);
+    Ok(format!(in alloc; "{count} violation, {valid}, {normal}\n{compact}\n{pretty}")?)
 }
 
 /// The compact text of the document of a text.
@@ -178,10 +179,15 @@ fn written<T: OciRecord>(alloc: Global, document: &T, text: &str) -> Result<Stri
     let compact = to_string(document, alloc)?;
     let copied = *document == document.duplicate(alloc)?;
     if copied && is_of(alloc, document, text)? && is_of(alloc, document, compact.as_str())? {
-        Ok(format!(in alloc; "= {compact}")?)
+        row_of(alloc, compact.as_str())
     } else {
         Ok(format!(in alloc; "another document is {compact}")?)
     }
+}
+
+/// The row's last line for a text that is read.
+fn row_of(alloc: Global, compact: &str) -> Result<String> {
+    Ok(format!(in alloc; "= {compact}")?)
 }
 
 /// Whether the bytes of a text are read as this document.

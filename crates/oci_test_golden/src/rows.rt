@@ -2,29 +2,43 @@
 ghost use Rattle.oci_json_model.specs.WellFormed.{WellFormed};
 ghost use Rattle.oci_schema_types.specs.Shapes.{schema_shape};
 
-use crate::found::{Reading, by_bytes, by_schema, by_type};
+use crate::found::{Reading, by_bytes, by_schema, by_type, found};
 use anyhow::{Context, Result};
-use oci_json_model::OciRecord;
 use oci_spec::schema::{HasSchema, Records, Schema, Workspace};
+use std::alloc::Global;
 use std::fs;
 use std::rt::Files;
 
-/// Checks the rows of a record, by its schema too, and prints each that differs, and how many there are.
+/// What a way of reading finds of a text.
+type Finds = fn(Reading, Global, &str) -> Result<String>;
+
+/// Checks the rows of a record, by its schema too, and prints each that differs, and how many there are. What is made for each record
+/// anew is `found` alone.
 pub fn rows<T: HasSchema, R: Files + Print + AllocGlobal>(rt: &R, record: &str) {
-    if let Err(fault) = check_rows::<T, R>(rt, record) {
+    let (records, schema) = T::schema();
+    report_rows(rt, record, found::<T>);
+    report_schema(rt, record, records, schema);
+}
+
+fn report_rows<R: Files + Print + AllocGlobal>(rt: &R, record: &str, found: Finds)
+    requires { IsAlwaysCallable found }
+{
+    if let Err(fault) = check_rows(rt, record, found) {
         let _ = println!(rt; "{record}: {fault}");
-    }
-    if let Err(fault) = check_schema_of::<T, R>(rt, record) {
-        let _ = println!(rt; "{record}, by its schema: {fault}");
     }
 }
 
-fn check_schema_of<T: HasSchema, R: Files + Print + AllocGlobal>(
+fn report_schema<T: Records, R: Files + Print + AllocGlobal>(
     rt: &R,
     record: &str,
-) -> Result<()> {
-    let (records, schema) = T::schema();
-    check_schema(rt, record, records, schema)
+    records: &T,
+    schema: &Schema,
+)
+    requires { WellFormed (schema_shape (T.shape_at records.now) schema.now) }
+{
+    if let Err(fault) = check_schema(rt, record, records, schema) {
+        let _ = println!(rt; "{record}, by its schema: {fault}");
+    }
 }
 
 /// Prints what the calls by a record's type find; the rows make these calls by a record's schema.
@@ -40,12 +54,14 @@ fn read<R: Files + AllocGlobal>(rt: &R, record: &str) -> Result<String> {
     Ok(fs::read_to_string(rt, path.as_str())?)
 }
 
-fn check_rows<T: OciRecord, R: Files + Print + AllocGlobal>(rt: &R, record: &str) -> Result<()> {
+fn check_rows<R: Files + Print + AllocGlobal>(rt: &R, record: &str, found: Finds) -> Result<()>
+    requires { IsAlwaysCallable found }
+{
     let text = read(rt, record)?;
     let mut count = 0u64;
     for row in text.as_str().trim().split("\n\n") {
         if !row.starts_with('#') {
-            check_row::<T, R>(rt, record, row)?;
+            check_row(rt, record, row, found)?;
             count = count.saturating_add(1);
         }
     }
@@ -53,16 +69,14 @@ fn check_rows<T: OciRecord, R: Files + Print + AllocGlobal>(rt: &R, record: &str
     Ok(())
 }
 
-fn check_row<T: OciRecord, R: Files + Print + AllocGlobal>(
-    rt: &R,
-    record: &str,
-    row: &str,
-) -> Result<()> {
+fn check_row<R: Print + AllocGlobal>(rt: &R, record: &str, row: &str, found: Finds) -> Result<()>
+    requires { IsAlwaysCallable found }
+{
     let (text, expected) = row.rsplit_once('\n').context("a row has one line")?;
     for reading in Reading::ALL {
-        let found = reading.found::<T>(rt.alloc(), text)?;
-        if found.as_str() != expected {
-            println!(rt; "{record}: {reading:?} of {text}\nfound {found}")?;
+        let here = found(reading, rt.alloc(), text)?;
+        if here.as_str() != expected {
+            println!(rt; "{record}: {reading:?} of {text}\nfound {here}")?;
         }
     }
     Ok(())

@@ -1,8 +1,8 @@
 //! Enums with a text for each variant. What is found of a text or a value is made into a row, which has to be one of the table's.
 
-use crate::rows::{ask, compare, count, count_variants, read, report, text_of};
 use anyhow::Result;
 use oci_json_model::{ClosedName, JsonName};
+use oci_test_harness::rows::{ask, compare, count, count_variants, read, report, text_of};
 use std::alloc::Global;
 use std::fmt::{Debug, Display};
 

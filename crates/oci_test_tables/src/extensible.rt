@@ -1,9 +1,9 @@
 //! Enums that have other texts too.
 
 use crate::closed::{FromText, made};
-use crate::rows::{ask, count, read, text_of};
 use anyhow::Result;
 use oci_spec::image::{DigestAlgorithm, MediaType, ToDockerV2S2};
+use oci_test_harness::rows::{ask, count, read, text_of};
 use std::fmt::Display;
 
 /// Compares what each text of the table is read as, and what the value displays.

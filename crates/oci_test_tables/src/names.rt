@@ -4,7 +4,6 @@ use crate::closed::{
     Numbered, ask_number, closed, displayed, json, made, numbers, spelled, written,
 };
 use crate::extensible::{docker, lengths, texts};
-use crate::rows::{ask, count_variants, read, report};
 use anyhow::Result;
 use oci_json_model::ClosedName;
 use oci_process_names::capability;
@@ -16,6 +15,7 @@ use oci_spec::runtime::{
     LinuxSeccompAction, LinuxSeccompFilterFlag, LinuxSeccompOperator, MemoryPolicyFlagType,
     MemoryPolicyModeType, PosixRlimitType, ZOSNamespaceType,
 };
+use oci_test_harness::rows::{ask, count_variants, read, report};
 
 /// Those of the Linux part but seccomp's.
 pub fn linux(rt: &HostRuntime) {

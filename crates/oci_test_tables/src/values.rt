@@ -1,13 +1,13 @@
 //! The constants.
 
-use crate::documents;
-use crate::rows::{ask, count, read, report};
 use anyhow::Result;
 use oci_spec::distribution::Reference;
 use oci_spec::image::Digest;
 use oci_spec::runtime::{LinuxIdMapping, LinuxNamespaceType, MountBuilder, ZOSNamespaceType};
 use oci_spec::{distribution, image, runtime};
+use oci_test_harness::rows::{ask, count, read, report};
 use std::alloc::Global;
+use std::fmt::Debug;
 
 static TEXTS: [(&str, &str); 23] = [
     ("image::ANNOTATION_CREATED", image::ANNOTATION_CREATED),
@@ -62,11 +62,21 @@ static NUMBERS: [(&str, u32); 10] = [
 
 /// All public constants, and the texts that calls make of constants.
 pub fn constants(rt: &HostRuntime) -> Result<()> {
-    documents::constants(rt, "texts", &TEXTS)?;
-    documents::constants(rt, "numbers", &NUMBERS)?;
+    listed(rt, "texts", &TEXTS)?;
+    listed(rt, "numbers", &NUMBERS)?;
     versions(rt)?;
     made(rt)?;
     digests(rt)
+}
+
+/// Compares constants with their rows, `NAME VALUE`.
+fn listed<T: Debug>(rt: &HostRuntime, kind: &str, all: &[(&str, T)]) -> Result<()> {
+    let rows = read(rt, "constants")?;
+    for (name, value) in all {
+        let here = format!(in rt.alloc(); "{name} {value:?}")?;
+        ask(rt, "constants", rows.as_str(), here.as_str())?;
+    }
+    count(rt, "constants", kind, all.len())
 }
 
 fn versions(rt: &HostRuntime) -> Result<()> {

@@ -36,11 +36,21 @@ pub fn complain_of<D: fmt::Display, E: Write>(
     alloc: Global,
     errors: &mut E,
 ) {
-    if let Ok(shown) = on_a_line(name, alloc) {
-        if let Ok(line) = format!(in alloc; "ciderglen: {shown}: {fault}\n") {
-            complain(line.as_str(), errors);
-        }
+    if let Ok(line) = line_about(name, fault, alloc) {
+        complain(line.as_str(), errors);
     }
+}
+
+/// The line that says what is wrong with a name.
+fn line_about<D: fmt::Display>(
+    name: &str,
+    fault: &D,
+    alloc: Global,
+) -> std::result::Result<String, AllocError> {
+    let text = format!(in alloc; "ciderglen: {name}: {fault}")?;
+    let mut line = on_a_line(text.as_str(), alloc)?;
+    line.push('\n')?;
+    Ok(line)
 }
 
 /// Says what is wrong with a file on standard error.

@@ -16,46 +16,6 @@ fn check_shown<E: Error>(rt: &impl Abort, alloc: Global, error: &E, expected: &s
     check_is(rt, &shown.as_str(), &expected);
 }
 
-static PARSE_ERRORS: [(ParseError, &str); 9] = [
-    (
-        ParseError::DigestInvalidFormat,
-        "invalid checksum digest format",
-    ),
-    (
-        ParseError::DigestInvalidLength,
-        "invalid checksum digest length",
-    ),
-    (
-        ParseError::DigestUnsupported,
-        "unsupported digest algorithm",
-    ),
-    (
-        ParseError::NameContainsUppercase,
-        "repository name must be lowercase",
-    ),
-    (
-        ParseError::NameEmpty,
-        "repository name must have at least one component",
-    ),
-    (
-        ParseError::NameTooLong,
-        "repository name must not be more than 255 characters",
-    ),
-    (
-        ParseError::ReferenceInvalidFormat,
-        "invalid reference format",
-    ),
-    (ParseError::TagInvalidFormat, "invalid tag format"),
-    (ParseError::Memory, "out of memory"),
-];
-
-#[test]
-fn of_references(rt: HostRuntime) {
-    for (error, text) in &PARSE_ERRORS {
-        check_shown(&rt, rt.alloc(), error, text);
-    }
-}
-
 fn check_error(rt: &impl Abort, alloc: Global, error: OciSpecError, expected: &str) {
     check_shown(rt, alloc, &error, expected);
 }
@@ -68,6 +28,7 @@ fn of_calls(rt: HostRuntime) {
     let not_found = io::Error::from(io::ErrorKind::NotFound);
     check_error(&rt, alloc, not_found.into(), "io operation failed");
     check_error(&rt, alloc, OciSpecError::Memory, "out of memory");
+    check_shown(&rt, alloc, &ParseError::Memory, "out of memory");
 }
 
 #[test]

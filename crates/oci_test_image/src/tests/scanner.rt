@@ -277,3 +277,18 @@ fn many_letters(rt: HostRuntime) {
     };
     check_is(&rt, &scanner.finish(), &Ok(places));
 }
+
+fn copies<T: Copy>(x: T) -> (T, T) {
+    (x, x)
+}
+
+/// A copy of a scanner stays as it was.
+#[test]
+fn copied_scanners(rt: HostRuntime) {
+    let (mut one, other) = copies(Scanner::new());
+    if one.room() {
+        one.push(b'a');
+    }
+    check_is(&rt, &one.count(), &1);
+    check_is(&rt, &other.count(), &0);
+}

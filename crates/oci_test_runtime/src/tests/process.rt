@@ -1,20 +1,11 @@
-//! The default of a process, and CPU lists.
+//! CPU lists.
 
 use super::{check_is, check_written};
 use oci_json_io::{to_string, to_writer};
-use oci_process::{ExecCPUAffinity, ExecCPUAffinityBuilder, Process, is_cpu_list};
+use oci_process::{ExecCPUAffinity, ExecCPUAffinityBuilder, is_cpu_list};
 use oci_text_base::{OciSpecError, Result, SerDeError};
 use std::alloc::Global;
 use std::process::Abort;
-
-static DEFAULT: &str =
-    r#"{"args":["sh"],"capabilities":{"ambient":["CAP_AUDIT_WRITE","CAP_KILL","CAP_NET_BIND_SERVICE"],"bounding":["CAP_AUDIT_WRITE","CAP_KILL","CAP_NET_BIND_SERVICE"],"effective":["CAP_AUDIT_WRITE","CAP_KILL","CAP_NET_BIND_SERVICE"],"inheritable":["CAP_AUDIT_WRITE","CAP_KILL","CAP_NET_BIND_SERVICE"],"permitted":["CAP_AUDIT_WRITE","CAP_KILL","CAP_NET_BIND_SERVICE"]},"cwd":"/","env":["PATH=/usr/local/sbin:/usr/local/bin:/usr/sbin:/usr/bin:/sbin:/bin","TERM=xterm"],"noNewPrivileges":true,"rlimits":[{"hard":1024,"soft":1024,"type":"RLIMIT_NOFILE"}],"terminal":false,"user":{"gid":0,"uid":0}}"#;
-
-#[test]
-fn processes(rt: HostRuntime) {
-    let alloc = rt.alloc();
-    check_written(&rt, alloc, Process::try_default(alloc), DEFAULT);
-}
 
 #[test]
 fn affinities(rt: HostRuntime) {

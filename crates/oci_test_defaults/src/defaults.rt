@@ -1,9 +1,9 @@
 //! The defaults of all records and enums, and what a builder makes that is given nothing, where that is not the default.
 
 use crate::documents::{document, report_count};
-use crate::rows::{ask, count, read};
 use anyhow::Result;
 use oci_spec::{distribution, image, runtime};
+use oci_test_harness::rows::{ask, count, read};
 use std::fs;
 
 /// Compares the defaults of enums.

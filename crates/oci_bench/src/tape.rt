@@ -3,15 +3,15 @@ use anyhow::{Context, Result};
 use json::{Error, Node, Scratch, Tape, Writer, is_number};
 use std::alloc::Global;
 
-/// The compact text of a text. Fails if it is no JSON, or if out of memory.
-pub fn copy(alloc: Global, bytes: &[u8], scratch: &mut Scratch) -> Result<Vec<u8>> {
+/// Makes the compact text of a text, and drops it. Fails if it is no JSON, or if out of memory.
+pub fn copy(alloc: Global, bytes: &[u8], scratch: &mut Scratch) -> Result<()> {
     let text = simdutf8::compat::from_utf8(bytes).context("the text is not UTF-8")?;
     let tape = Tape::parse(text, scratch, Vec::new(alloc))?;
     let mut writer = Writer::new(Vec::with_capacity(alloc, text.len())?);
     for node in tape.nodes() {
         write_node(&mut writer, *node)?;
     }
-    Ok(writer.into_inner())
+    Ok(())
 }
 
 /// Writes the token of a node.

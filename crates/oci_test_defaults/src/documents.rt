@@ -1,21 +1,10 @@
-//! Constants and default documents.
+//! A default, as its row has it.
 
-use crate::rows::{ask, count, read, report};
 use anyhow::Result;
 use oci_json_model::OciMember;
 use oci_spec::OciSpecError;
+use oci_test_harness::rows::{ask, count, report};
 use std::alloc::Global;
-use std::fmt::Debug;
-
-/// Compares constants with their rows, `NAME VALUE`.
-pub fn constants<T: Debug>(rt: &HostRuntime, kind: &str, all: &[(&str, T)]) -> Result<()> {
-    let rows = read(rt, "constants")?;
-    for (name, value) in all {
-        let here = format!(in rt.alloc(); "{name} {value:?}")?;
-        ask(rt, "constants", rows.as_str(), here.as_str())?;
-    }
-    count(rt, "constants", kind, all.len())
-}
 
 /// Compares a default, or what a builder makes that is given nothing, with its row: `NAME JSON` or `NAME ! FIELD`.
 pub fn document<T: OciMember>(rt: &HostRuntime, rows: &str, name: &str, made: oci_spec::Result<T>) {

@@ -1,15 +1,21 @@
-//! Both lanes on one document.
-use crate::cases::Case;
+//! Both lanes, from a document's bytes to its canonical form: straight from the bytes, and by way of a value.
+use crate::cases::{Case, next_case};
+use anyhow::Result as Done;
 use oci_schema::{is_valid, normalize};
 use oci_schema_bytes::{Workspace, is_valid_bytes, normalize_bytes};
 use oci_schemas::OciRecords;
 use oci_text_base::{OciSpecError, Result, SerDeError};
 use serde_json::Value;
 use std::alloc::Global;
+use std::io::{BufWriter, Read, Write};
+use std::process::ExitCode;
+
+/// The status if a document was normalized or checked in two ways.
+const DIFFERENT: u8 = 1;
 
 /// What both lanes did.
 #[derive(Clone, Copy)]
-pub enum Verdict {
+enum Verdict {
     /// The same: the document was accepted, or rejected.
     Same(bool),
     /// Not the same.
@@ -37,7 +43,7 @@ fn outcome_of<T: Drop>(answer: &Result<T>) -> Outcome {
 }
 
 /// Normalizes and checks a document in both ways, and compares what was written and reported. Fails if out of memory.
-pub fn compare(alloc: Global, case: Case<'_>, workspace: &mut Workspace) -> Result<Verdict> {
+fn compare(alloc: Global, case: Case<'_>, workspace: &mut Workspace) -> Result<Verdict> {
     let schema = case.kind.schema();
     let mut by_value = Vec::new(alloc);
     let slow = normalize(&OciRecords, schema, alloc, case.bytes, &mut by_value);
@@ -72,4 +78,36 @@ fn same_validity(alloc: Global, case: Case<'_>, workspace: &mut Workspace) -> Re
         Err(_) => false,
     };
     Ok(fast == slow)
+}
+
+fn line_of(verdict: Verdict) -> &'static str {
+    match verdict {
+        Verdict::Same(true) => "same accepted\n",
+        Verdict::Same(false) => "same rejected\n",
+        Verdict::Different => "differs\n",
+    }
+}
+
+/// Compares both ways on each document of standard input, and writes a line a document.
+pub fn compare_all(rt: &HostRuntime) -> Done<ExitCode> {
+    let alloc = rt.alloc();
+    let mut input = Vec::new(alloc);
+    rt.stdin().read_to_end(&mut input)?;
+    let mut output = BufWriter::new(alloc, rt.stdout())?;
+    let mut workspace = Workspace::new(alloc);
+    let mut status = ExitCode::SUCCESS;
+    let mut rest = input.as_slice();
+    for _ in 0..input.len() {
+        let Some((case, later)) = next_case(rest) else {
+            break;
+        };
+        rest = later;
+        let verdict = compare(alloc, case, &mut workspace)?;
+        if matches!(verdict, Verdict::Different) {
+            status = ExitCode::from(DIFFERENT);
+        }
+        output.write_all(line_of(verdict).as_bytes())?;
+    }
+    output.flush()?;
+    Ok(status)
 }
