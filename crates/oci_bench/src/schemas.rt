@@ -72,6 +72,12 @@ fn by_bytes(alloc: Global, kind: Kind, bytes: &[u8], workspace: &mut Workspace) 
     Ok(())
 }
 
+fn by_fresh_bytes(alloc: Global, kind: Kind, bytes: &[u8]) -> Result<()> {
+    let mut workspace = Workspace::new(alloc);
+    by_bytes(alloc, kind, bytes, &mut workspace)?;
+    Ok(())
+}
+
 fn by_value(alloc: Global, kind: Kind, bytes: &[u8]) -> Result<()> {
     let mut written = Vec::new(alloc);
     oci_schema::normalize(&OciRecords, kind.schema(), alloc, bytes, &mut written)?;
@@ -92,7 +98,7 @@ fn make(alloc: Global, kind: Kind, bytes: &[u8], call: SchemaCall, kept: &mut Ke
         SchemaCall::Value => by_value(alloc, kind, bytes),
         SchemaCall::Normalize => by_streams(alloc, kind, bytes),
         SchemaCall::Bytes => by_bytes(alloc, kind, bytes, &mut kept.workspace),
-        SchemaCall::Fresh => by_bytes(alloc, kind, bytes, &mut Workspace::new(alloc)),
+        SchemaCall::Fresh => by_fresh_bytes(alloc, kind, bytes),
     }
 }
 
