@@ -37,13 +37,13 @@ impl Reading {
             Reading::Bytes => from_slice(alloc, text.as_bytes()),
         }
     }
-}
 
-/// What is found of a text: the compact text of its document, or the place that refuses it.
-pub fn found<T: OciRecord>(reading: Reading, alloc: Global, text: &str) -> Result<String> {
-    match reading.read::<T>(alloc, text) {
-        Ok(document) => written(alloc, &document, text),
-        Err(fault) => refused(alloc, &fault),
+    /// The compact text of the document, or the place that refuses the text.
+    pub fn found<T: OciRecord>(self, alloc: Global, text: &str) -> Result<String> {
+        match self.read::<T>(alloc, text) {
+            Ok(document) => written(alloc, &document, text),
+            Err(fault) => refused(alloc, &fault),
+        }
     }
 }
 
@@ -179,15 +179,10 @@ fn written<T: OciRecord>(alloc: Global, document: &T, text: &str) -> Result<Stri
     let compact = to_string(document, alloc)?;
     let copied = *document == document.duplicate(alloc)?;
     if copied && is_of(alloc, document, text)? && is_of(alloc, document, compact.as_str())? {
-        row_of(alloc, compact.as_str())
+        Ok(format!(in alloc; "= {compact}")?)
     } else {
         Ok(format!(in alloc; "another document is {compact}")?)
     }
-}
-
-/// The row's last line for a text that is read.
-fn row_of(alloc: Global, compact: &str) -> Result<String> {
-    Ok(format!(in alloc; "= {compact}")?)
 }
 
 /// Whether the bytes of a text are read as this document.

@@ -2,43 +2,29 @@
 ghost use Rattle.oci_json_model.specs.WellFormed.{WellFormed};
 ghost use Rattle.oci_schema_types.specs.Shapes.{schema_shape};
 
-use crate::found::{Reading, by_bytes, by_schema, by_type, found};
+use crate::found::{Reading, by_bytes, by_schema, by_type};
 use anyhow::{Context, Result};
+use oci_json_model::OciRecord;
 use oci_spec::schema::{HasSchema, Records, Schema, Workspace};
-use std::alloc::Global;
 use std::fs;
 use std::rt::Files;
 
-/// What a way of reading finds of a text.
-type Finds = fn(Reading, Global, &str) -> Result<String>;
-
-/// Checks the rows of a record, by its schema too, and prints each that differs, and how many there are. What is made for each record
-/// anew is `found` alone.
+/// Checks the rows of a record, by its schema too, and prints each that differs, and how many there are.
 pub fn rows<T: HasSchema, R: Files + Print + AllocGlobal>(rt: &R, record: &str) {
-    let (records, schema) = T::schema();
-    report_rows(rt, record, found::<T>);
-    report_schema(rt, record, records, schema);
-}
-
-fn report_rows<R: Files + Print + AllocGlobal>(rt: &R, record: &str, found: Finds)
-    requires { IsAlwaysCallable found }
-{
-    if let Err(fault) = check_rows(rt, record, found) {
+    if let Err(fault) = check_rows::<T, R>(rt, record) {
         let _ = println!(rt; "{record}: {fault}");
     }
-}
-
-fn report_schema<T: Records, R: Files + Print + AllocGlobal>(
-    rt: &R,
-    record: &str,
-    records: &T,
-    schema: &Schema,
-)
-    requires { WellFormed (schema_shape (T.shape_at records.now) schema.now) }
-{
-    if let Err(fault) = check_schema(rt, record, records, schema) {
+    if let Err(fault) = check_schema_of::<T, R>(rt, record) {
         let _ = println!(rt; "{record}, by its schema: {fault}");
     }
+}
+
+fn check_schema_of<T: HasSchema, R: Files + Print + AllocGlobal>(
+    rt: &R,
+    record: &str,
+) -> Result<()> {
+    let (records, schema) = T::schema();
+    check_schema(rt, record, records, schema)
 }
 
 /// Prints what the calls by a record's type find; the rows make these calls by a record's schema.
@@ -54,14 +40,12 @@ fn read<R: Files + AllocGlobal>(rt: &R, record: &str) -> Result<String> {
     Ok(fs::read_to_string(rt, path.as_str())?)
 }
 
-fn check_rows<R: Files + Print + AllocGlobal>(rt: &R, record: &str, found: Finds) -> Result<()>
-    requires { IsAlwaysCallable found }
-{
+fn check_rows<T: OciRecord, R: Files + Print + AllocGlobal>(rt: &R, record: &str) -> Result<()> {
     let text = read(rt, record)?;
     let mut count = 0u64;
     for row in text.as_str().trim().split("\n\n") {
         if !row.starts_with('#') {
-            check_row(rt, record, row, found)?;
+            check_row::<T, R>(rt, record, row)?;
             count = count.saturating_add(1);
         }
     }
@@ -69,14 +53,16 @@ fn check_rows<R: Files + Print + AllocGlobal>(rt: &R, record: &str, found: Finds
     Ok(())
 }
 
-fn check_row<R: Print + AllocGlobal>(rt: &R, record: &str, row: &str, found: Finds) -> Result<()>
-    requires { IsAlwaysCallable found }
-{
+fn check_row<T: OciRecord, R: Files + Print + AllocGlobal>(
+    rt: &R,
+    record: &str,
+    row: &str,
+) -> Result<()> {
     let (text, expected) = row.rsplit_once('\n').context("a row has one line")?;
     for reading in Reading::ALL {
-        let here = found(reading, rt.alloc(), text)?;
-        if here.as_str() != expected {
-            println!(rt; "{record}: {reading:?} of {text}\nfound {here}")?;
+        let found = reading.found::<T>(rt.alloc(), text)?;
+        if found.as_str() != expected {
+            println!(rt; "{record}: {reading:?} of {text}\nfound {found}")?;
         }
     }
     Ok(())
