@@ -1,5 +1,5 @@
 -- What `diff` compares.
-use Rattle.std.specs.Prelude.{◌≡◌, ⊤, ℕ, List, Option, IfSome}
+use Rattle.std.specs.Prelude.{◌≡◌, ◌⊎◌, ⊤, ℕ, List, Option, IfSome}
 use Rattle.serde_json.specs.Data.{Data}
 use Rattle.serde_json.specs.View.{view}
 use Rattle.oci_check.specs.Checks.{IsAsked}
@@ -20,8 +20,20 @@ IsFormOf kind held d = (p : Plain) × IfSome held (λ bytes. MeansBytes (shape_o
 abbrev pub HoldSame : Option Kind → Option (List ℕ) → Option (List ℕ) → Type 0
 HoldSame asked before after = (kind : Kind) × (d : Data) × (e : Data) × IsAsked asked kind × IsFormOf kind before d × IsFormOf kind after e × AreSame d e
 
+-- where a kind is asked for, the bytes hold no document of it
+abbrev pub HoldsNone : Option Kind → Option (List ℕ) → Type 0
+HoldsNone asked held = IfSome asked (λ kind. IfSome held (λ bytes. (p : Plain) → ¬ MeansBytes (shape_of kind) bytes p))
+
+-- the bytes hold documents of one kind, which is the one that is asked for, and their canonical forms are not the same
+abbrev pub HoldOther : Option Kind → Option (List ℕ) → Option (List ℕ) → Type 0
+HoldOther asked before after = (kind : Kind) × (d : Data) × (e : Data) × IsAsked asked kind × IsFormOf kind before d × IsFormOf kind after e × ¬ AreSame d e
+
+-- one holds none, or they hold other ones
+abbrev pub HoldUnequal : Option Kind → Option (List ℕ) → Option (List ℕ) → Type 0
+HoldUnequal asked before after = HoldsNone asked before ⊎ (HoldsNone asked after ⊎ HoldOther asked before after)
+
 -- what was read of a file
 abbrev pub IsSide : Option Kind → Option (List ℕ) → Side → Type 0
 IsSide asked held (Document kind value) = IsAsked asked kind × IsFormOf kind held (view value)
-IsSide asked held Wrong = ⊤
+IsSide asked held Wrong = HoldsNone asked held
 IsSide asked held Unread = ⊤

@@ -9,7 +9,7 @@ use Rattle.oci_rules.specs.Rules.{Rule}
 use Rattle.oci_tool.specs.declared.asked.Asked.{Asked}
 use Rattle.oci_tool.specs.declared.asked.Asked.TheVariants.{Check, Format, Compare, Reference, Digest, FileDigests, Pin, Tree, Rules, Schema}
 use Rattle.oci_check.specs.Checks.{IsRight, IsWrong}
-use Rattle.oci_tool.specs.Compared.{HoldSame}
+use Rattle.oci_tool.specs.Compared.{HoldSame, HoldUnequal}
 use Rattle.oci_tool.specs.Formats.{Formats, IsUnformatted}
 use Rattle.oci_check.specs.declared.asked.Style.{Style}
 use Rattle.oci_check.specs.declared.asked.Style.TheVariants.{Text, Json, Sarif}
@@ -57,6 +57,8 @@ abbrev pub IsRejected : (Kind → List Rule) → (List ℕ → Option (List ℕ)
 IsRejected books holds (Check a) = (i : ℕ) × (i < length a.files.now) × HoldsAt (λ f. IfSome (holds f.now) (IsWrong books a)) a.files.now i
 -- the file has no canonical form, or is not that
 IsRejected books holds (Format a) = IfSome (holds a.file.now) (IsUnformatted a)
+-- one of the files holds no document of the kind, or the two hold other ones
+IsRejected books holds (Compare a) = HoldUnequal a.kind (holds a.before.now) (holds a.after.now)
 -- one of the texts is no reference, or no digest
 IsRejected books holds (Reference style texts) = HasNone IsNoReference texts.now
 IsRejected books holds (Digest texts) = HasNone IsNoDigest texts.now

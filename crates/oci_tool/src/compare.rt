@@ -2,7 +2,7 @@
 ghost use Rattle.std.specs.Prelude.{◌≡◌, Some, IfOk};
 ghost use Rattle.serde_json.specs.View.{view};
 ghost use Rattle.oci_diff.specs.Same.{AreSame};
-ghost use Rattle.oci_tool.specs.Compared.{HoldSame, IsSide};
+ghost use Rattle.oci_tool.specs.Compared.{HoldSame, HoldUnequal, IsSide};
 ghost use Rattle.oci_tool.specs.Done.{IsStatus};
 
 use crate::asked::{Compare, Style};
@@ -42,6 +42,7 @@ pub fn compare<S: Store, W: Write, E: Write>(
 ) -> Result<u8>
     ensures status { IfOk result IsStatus }
     ensures same { IfOk result (λ s. s ≡ 0 → HoldSame asked.now.kind (S.holds store.old asked.now.before.now) (S.holds store.old asked.now.after.now)) }
+    ensures other { IfOk result (λ s. s ≡ 1 → HoldUnequal asked.now.kind (S.holds store.old asked.now.before.now) (S.holds store.old asked.now.after.now)) }
 {
     let (kind, before) = match read_side(asked.kind, asked.before, alloc, store, errors)? {
         Side::Document(kind, value) => (kind, value),
@@ -86,6 +87,7 @@ fn write_differences<W: Write>(
 ) -> Result<u8>
     ensures status { IfOk result IsStatus }
     ensures same { IfOk result (λ s. s ≡ 0 → AreSame (view before.now) (view after.now)) }
+    ensures other { IfOk result (λ s. s ≡ 1 → ¬ AreSame (view before.now) (view after.now)) }
 {
     let found = differences(before, after, alloc)?;
     if !asked.quiet {
