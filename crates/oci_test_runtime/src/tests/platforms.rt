@@ -1,9 +1,9 @@
-//! Objects of any values in documents of Windows.
+//! Objects of any values in documents of Windows, and the names of namespaces of z/OS.
 
 use super::{check_copy, check_is};
 use oci_json_io::to_string;
 use oci_json_model::OciRecord;
-use oci_platforms::{Windows, WindowsBuilder};
+use oci_platforms::{Windows, WindowsBuilder, ZOSNamespaceType};
 use oci_text_base::{OciSpecError, SerDeError};
 use serde_json::Value;
 use std::alloc::Global;
@@ -68,4 +68,25 @@ fn other_numbers_in_credentials(rt: HostRuntime) {
     let windows = of_number(&rt, alloc, "[1.5]");
     check_is(&rt, &place(alloc, &windows), &("Windows", "credentialSpec"));
     check_is(&rt, &windows, &of_number(&rt, alloc, "[1e300]"));
+}
+
+static NAMESPACES: [(&str, Result<ZOSNamespaceType, &str>); 7] = [
+    ("pid", Ok(ZOSNamespaceType::Pid)),
+    ("mount", Ok(ZOSNamespaceType::Mount)),
+    ("ipc", Ok(ZOSNamespaceType::Ipc)),
+    ("uts", Ok(ZOSNamespaceType::Uts)),
+    ("x", Err("unknown z/OS namespace x, could not convert")),
+    ("Pid", Err("unknown z/OS namespace Pid, could not convert")),
+    ("", Err("unknown z/OS namespace , could not convert")),
+];
+
+#[test]
+fn names_of_zos(rt: HostRuntime) {
+    for (text, expected) in &NAMESPACES {
+        match ZOSNamespaceType::try_from(rt.alloc(), text) {
+            Ok(found) => check_is(&rt, &Ok(found), expected),
+            Err(OciSpecError::Other(why)) => check_is(&rt, &Err(why.as_str()), expected),
+            Err(_) => check_is(&rt, &Err("another refusal"), expected),
+        }
+    }
 }
