@@ -1,5 +1,5 @@
 -- The steps of a walk.
-use Rattle.std.proofs.Common.{◌≡◌, ℕ, List, Option, Some, None, option_map, sym, ap, ◌∙◌}
+use Rattle.std.proofs.Common.{◌≡◌, ℕ, List, true, false, Option, Some, None, option_map, bytes_eq, refl, sym, ap, ◌∙◌, subst}
 use Rattle.std.specs.Prelude.{MatchOption}
 use Rattle.json.specs.Token.{Token}
 use Rattle.json.specs.Json as json
@@ -7,11 +7,11 @@ use Rattle.json.specs.Find.{BeginsWith, InItems, InMembers, NextItem, NextMember
 use Rattle.json.specs.Find as tape
 use Rattle.json.proofs.Found.{not_found, Some_inj}
 use Rattle.serde_json.specs.Data.{Data, null, boolean, number, string, array, object, Items, no_items, item, Members, no_members, put}
-use Rattle.serde_json.specs.Find.{as_array, as_object}
+use Rattle.serde_json.specs.Find.{as_array, as_object, get, get_member}
 use Rattle.serde_json.specs.Read.{number_of, of_json, of_items, of_members}
-use Rattle.oci_json_tape.specs.Elements.{BeginsWithData}
+use Rattle.oci_json_tape.specs.Elements.{BeginsWithData, FindsData}
 use Rattle.oci_json_tape.specs.Walked.{InItemsData, InMembersData, NextItemData, NextMemberData}
-use Rattle.oci_json_tape.proofs.LookUps.{parts, mapped_parts}
+use Rattle.oci_json_tape.proofs.LookUps.{parts, mapped_parts, get_member-put_here, get_member-put_there}
 
 pub next_item_data : (old : List Token) (r : Option (List Token)) (new : List Token) → NextItem old r new → NextItemData old r new
 next_item_data old None new h ds (js, at, e) =
@@ -63,3 +63,36 @@ members_data ts (Some rest) h d b =
     let s = h b.0 b.1 in
     let p = mapped_parts object (of_members s.0 no_members) d (ap of_json (sym s.1) ∙ b.2) in
     (p.0, p.2, (s.0, s.2, p.1))
+
+-- ---- a look-up: what was found among the members that were passed
+
+abbrev pub FoundSoFar : List ℕ → Data → List Token → Option (List Token) → Type 0
+FoundSoFar name d rest r = (out : Members) × (before : Members) × (d ≡ object out) × InMembersData rest before out × FindsData r (get_member name before)
+
+module _ (name : List ℕ) (d : Data) where
+  pub found_begin : (rest : List Token) → (out : Members) × (d ≡ object out) × InMembersData rest no_members out → FoundSoFar name d rest None
+  found_begin rest (out, is, left) = (out, no_members, is, left, refl)
+
+  pub found_here : (key : List ℕ) (rest left ts : List Token) (r : Option (List Token)) → bytes_eq key name ≡ true → NextMemberData rest (Some (key, ts)) left → FoundSoFar name d rest r → FoundSoFar name d left (Some ts)
+  found_here key rest left ts r same step (out, before, is, at, found) =
+      let p = step before out at in
+      (out, put key p.0 before, is, p.2, (p.0, get_member-put_here key name p.0 before same, p.1))
+
+  pub found_there : (key : List ℕ) (rest left ts : List Token) (r : Option (List Token)) → bytes_eq key name ≡ false → NextMemberData rest (Some (key, ts)) left → FoundSoFar name d rest r → FoundSoFar name d left r
+  found_there key rest left ts r other step (out, before, is, at, found) =
+      let p = step before out at in
+      (out, put key p.0 before, is, p.2, subst (FindsData r) (sym (get_member-put_there key name p.0 before other)) found)
+
+  pub found_end : (rest left : List Token) (r : Option (List Token)) → NextMemberData rest None left → FoundSoFar name d rest r → FindsData r (get name d)
+  found_end rest left r step (out, before, is, at, found) =
+      let over = step before out at in
+      subst (FindsData r) (ap (get_member name) over ∙ sym (ap (get name) is)) found
+
+-- what is no object has no members
+pub none_found : (name : List ℕ) (d : Data) → as_object d ≡ None → get name d ≡ None
+none_found name null e = refl
+none_found name (boolean b) e = refl
+none_found name (number n) e = refl
+none_found name (string s) e = refl
+none_found name (array ds) e = refl
+none_found name (object ms) e = not_found ms (sym e)

@@ -6,13 +6,24 @@ ghost use Rattle.oci_json_tape.specs.Elements.{BeginsWithData, FindsData};
 ghost use Rattle.oci_json_tape.specs.Numbers.{num_of};
 
 use crate::numeral::{Number, parse_number};
+use crate::walk::{members, next_member};
 use json::Element;
 
 /// Finds the member of this name; of equal names the last.
+#[inline(always)]
 pub fn find<'t, 'a>(element: &Element<'t, 'a>, name: &str) -> Option<Element<'t, 'a>>
     ensures { (d : Data) → BeginsWithData element.now d → FindsData result (get name.now d) }
 {
-    element.get(name)
+    let Some(mut rest) = members(element) else {
+        return None;
+    };
+    let mut found = None;
+    'each_member: while let Some((key, member)) = next_member(&mut rest) {
+        if key == name {
+            found = Some(member);
+        }
+    }
+    found
 }
 
 /// The content of a string.

@@ -4,6 +4,7 @@ pub mod FieldWalk
 pub mod Finding
 pub mod MapWalk
 pub mod NormalSets
+pub mod Objects
 pub mod Placing
 pub mod Presences
 pub mod Written

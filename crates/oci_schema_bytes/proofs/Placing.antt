@@ -1,5 +1,6 @@
 -- A field that is put in its place among the others.
-use Rattle.std.proofs.Common.{◌≡◌, ℕ, zero, suc, ◌+◌, ◌≤◌, List, [], ◌∷◌, length, refl, sym, ap, ◌∙◌, subst, arith, nat_cmp, Less, Greater}
+use Rattle.std.proofs.Common.{◌≡◌, ℕ, zero, suc, ◌+◌, ◌≤◌, List, [], ◌∷◌, ◌++◌, length, refl, sym, ap, ◌∙◌, subst, arith, nat_cmp, Less, Greater}
+use Rattle.std.proofs.lemmas.List.Edits.{insert_end}
 use Rattle.std.specs.List.{insert}
 use Rattle.std.specs.Ordering.{match_ordering}
 use Rattle.std.specs.Cmp.Lexicographic.{slice_cmp}
@@ -42,3 +43,12 @@ module _ (f : ℕ → Shape) (e : Field) where
   accepted_all [] (suc at) within h = absurd (omega arith)
   accepted_all (x ∷ xs) zero within h = (h.1, h.0)
   accepted_all (x ∷ xs) (suc at) within h = let rest = accepted_all xs at (omega arith) h.1 in ((h.0, rest.0), rest.1)
+
+  -- at the end
+  pub pushed : (n : Data) → FieldMeans f e n → (es more : List Field) (ms : Members) (at : ℕ) → IsPlaceOf e.member.now.name.now es at → at ≡ length es → more ≡ es ++ e ∷ [] → EachField f es ms
+      → EachField f more (put e.member.now.name.now n ms)
+  pushed n here es more ms at p end is each =
+      subst (λ xs. EachField f xs (put e.member.now.name.now n ms)) (insert_end es e ∙ sym is) (inserted n here es ms (length es) (subst (IsPlaceOf e.member.now.name.now es) end p) each)
+
+  pub accepted_pushed : (es more : List Field) → more ≡ es ++ e ∷ [] → AreAccepted f more → AreAccepted f es × FieldIsAccepted f e
+  accepted_pushed es more is h = accepted_all es (length es) (omega arith) (subst (AreAccepted f) (is ∙ sym (insert_end es e)) h)

@@ -11,7 +11,8 @@ use Rattle.oci_json_model.specs.Value.{value, with_member}
 use Rattle.oci_schema_types.specs.Shapes.{presence_of, alias_of, schema_shape}
 use Rattle.oci_schema_types.specs.declared.record.Member.{Member}
 use Rattle.oci_schema_types.specs.declared.scalar.Presence.{Presence}
-use Rattle.oci_schema_walks.specs.Allows.{member_allowed}
+use Rattle.oci_schema_types.specs.declared.scalar.Presence.TheVariants.{Optional}
+use Rattle.oci_schema_walks.specs.Allows.{member_allowed, either_allowed}
 use Rattle.oci_schema_walks.specs.Given.{given, may_be_null, unless_null_counts, written}
 use Rattle.oci_schema_walks.specs.Normalized.{accepts, normalized, normalized_member, unless_no_items, chosen, is_one_there, known_accepted, known_normalized}
 use Rattle.oci_schema_walks.proofs.Given.{one_allowed}
@@ -137,6 +138,21 @@ module _ (f : ℕ → Shape) (m : Member) (d : Data) where
 
   pub absent_accepted : one_there → given P here ≡ None → accepted_for f m None ≡ true → known_accepted f m d ≡ true
   absent_accepted one e h = one_allowed P (accepts s) _ _ here true one refl (allowed_none (value s) (normalized s) (accepts s) P here e ∙ h)
+
+-- ---- a member that may be absent, and is
+
+pub left_out : (f : ℕ → Shape) (m : Member) (d : Data) → m.presence ≡ Optional → m.alias ≡ None → get m.name.now d ≡ None
+    → (known_normalized f m d ≡ None) × (known_accepted f m d ≡ true)
+left_out f m d is plain absent =
+    let s = schema_shape f m.schema in
+    let other : get_second (alias_of m.alias) d ≡ None = ap (λ a. get_second (alias_of a) d) plain in (
+      ap (λ p. normalized_member (presence_of p) (value s) (normalized s) (chosen (get m.name.now d) (get_second (alias_of m.alias) d))) is
+          ∙ ap (λ o. normalized_member optional (value s) (normalized s) (chosen (get m.name.now d) o)) other
+          ∙ ap (λ o. normalized_member optional (value s) (normalized s) (chosen o None)) absent,
+      ap (λ p. either_allowed (presence_of p) (accepts s) (get m.name.now d) (get_second (alias_of m.alias) d)) is
+          ∙ ap (λ o. either_allowed optional (accepts s) (get m.name.now d) o) other
+          ∙ ap (λ o. either_allowed optional (accepts s) o None) absent,
+    )
 
 -- ---- by the presence that a member has
 

@@ -1,5 +1,5 @@
 //! The members of a record that are written, found in a tape.
-ghost use Rattle.std.specs.Prelude.{◌≡◌, ℕ, true, false, Option, Some, None, IfOk, IfSome, IsTrue};
+ghost use Rattle.std.specs.Prelude.{◌≡◌, ◌++◌, ◌∷◌, [], ℕ, true, false, Option, Some, None, IfOk, IfSome, IsTrue};
 ghost use Rattle.serde_json.specs.Data.{Data, Members, put as with};
 ghost use Rattle.serde_json.specs.Find.{get};
 ghost use Rattle.oci_json_model.specs.Means.{get_second};
@@ -10,9 +10,11 @@ ghost use Rattle.oci_schema_types.specs.Shapes.{alias_of, members_in, presence_o
 ghost use Rattle.oci_schema_walks.specs.Given.{given, may_be_null as null_counts, written};
 ghost use Rattle.oci_schema_walks.specs.Normalized.{accepts, chosen, is_one_there, known_accepted, known_normalized, normalized};
 ghost use Rattle.oci_schema_bytes.specs.Fields.{written_for, accepted_for, FieldMeans, EachField, FieldIsAccepted, AreAccepted, AreFieldsOf, IsPlaceOf};
+ghost use Rattle.oci_schema_bytes.specs.Objects.{IsObject};
 
+use crate::object::Object;
 use json::Element;
-use oci_json_tape::{find, is_null};
+use oci_json_tape::is_null;
 use oci_schema_types::{Member, Presence};
 use std::alloc::{AllocError, Global};
 use std::cmp::Ordering;
@@ -29,35 +31,53 @@ pub struct Field<'t, 'a> {
 /// The fields of an object, in byte order of their names; `None` if that was not found out. Fails if out of memory.
 pub fn fields_of<'t, 'a>(
     members: &'static [Member],
-    element: &Element<'t, 'a>,
+    object: &Object<'_, 't, 'a>,
     alloc: Global,
 ) -> Result<Option<Vec<Field<'t, 'a>>>, AllocError>
-    ensures { IfOk result (λ o. IfSome o (λ fields. (f : ℕ → Shape) (d : Data) → BeginsWithData element.now d
+    ensures { IfOk result (λ o. IfSome o (λ fields. (f : ℕ → Shape) (d : Data) → IsObject object.now d
         → AreFieldsOf f (members_in f members.now) d fields.items)) }
 {
     let mut fields = Vec::with_capacity(alloc, members.len())?;
     for member in members {
-        if !add_member(member, element, &mut fields) {
+        if is_left_out(member, object) {
+            continue;
+        }
+        if !add_member(member, object, &mut fields) {
             return Ok(None);
         }
     }
     Ok(Some(fields))
 }
 
+/// Whether the object lacks the member, which may be absent, so that nothing is written for it. Most members are left out so, without
+/// a look at the object's members.
+fn is_left_out(member: &Member, object: &Object<'_, '_, '_>) -> bool
+    ensures { IsTrue result → (f : ℕ → Shape) (d : Data) → IsObject object.now d
+        → (known_normalized f member.now d ≡ None) × (known_accepted f member.now d ≡ true) }
+{
+    match member.presence {
+        Presence::Optional => match member.alias {
+            None => object.lacks(member.name),
+            Some(_) => false,
+        },
+        _ => false,
+    }
+}
+
 /// Adds the member of an object to the fields, if it is written; `false` if that was not found out.
 fn add_member<'t, 'a>(
     member: &'static Member,
-    element: &Element<'t, 'a>,
+    object: &Object<'_, 't, 'a>,
     fields: &mut Vec<Field<'t, 'a>>,
 ) -> bool
-    ensures written { IsTrue result → (f : ℕ → Shape) (d : Data) (ms : Members) → BeginsWithData element.now d
+    ensures written { IsTrue result → (f : ℕ → Shape) (d : Data) (ms : Members) → IsObject object.now d
         → EachField f fields.old.items ms
         → EachField f fields.new.items (with_member member.now.name.now (known_normalized f member.now d) ms) }
-    ensures accepted { IsTrue result → (f : ℕ → Shape) (d : Data) → BeginsWithData element.now d
+    ensures accepted { IsTrue result → (f : ℕ → Shape) (d : Data) → IsObject object.now d
         → AreAccepted f fields.new.items
         → AreAccepted f fields.old.items × (known_accepted f member.now d ≡ true) }
 {
-    match find_member(member, element) {
+    match find_member(member, object) {
         Some(found) => match unless_null(&member.presence, found) {
             Some(value) => add_given(member, value, fields),
             None => add_absent(member, fields),
@@ -69,16 +89,16 @@ fn add_member<'t, 'a>(
 /// The value under the member's name or its alias, if any; `None` if it is under both.
 fn find_member<'t, 'a>(
     member: &Member,
-    element: &Element<'t, 'a>,
+    object: &Object<'_, 't, 'a>,
 ) -> Option<Option<Element<'t, 'a>>>
-    ensures { IfSome result (λ found. (d : Data) → BeginsWithData element.now d
+    ensures { IfSome result (λ found. (d : Data) → IsObject object.now d
         → FindsData found (chosen (get member.now.name.now d) (get_second (alias_of member.now.alias) d))
         × (is_one_there (get member.now.name.now d) (get_second (alias_of member.now.alias) d) ≡ true)) }
 {
-    let found = find(element, member.name);
+    let found = object.find(member.name);
     match member.alias {
         None => Some(found),
-        Some(alias) => match find(element, alias) {
+        Some(alias) => match object.find(alias) {
             None => Some(found),
             Some(other) => match found {
                 None => Some(Some(other)),
@@ -192,6 +212,7 @@ fn add_absent<'t, 'a>(member: &'static Member, fields: &mut Vec<Field<'t, 'a>>) 
 }
 
 /// Puts a field in its place by name; `false` if the name is there already, or if out of memory.
+#[inline(always)]
 fn add_field<'t, 'a>(fields: &mut Vec<Field<'t, 'a>>, field: Field<'t, 'a>) -> bool
     ensures written { IsTrue result → (f : ℕ → Shape) (n : Data) (ms : Members) → FieldMeans f field.entry n
         → EachField f fields.old.items ms
@@ -200,15 +221,32 @@ fn add_field<'t, 'a>(fields: &mut Vec<Field<'t, 'a>>, field: Field<'t, 'a>) -> b
         → AreAccepted f fields.old.items × FieldIsAccepted f field.entry }
 {
     match place_of(fields.as_slice(), field.member.name) {
-        Some(at) => match fields.insert(at, field) {
-            Ok(()) => true,
-            Err(_) => false,
-        },
+        Some(at) => {
+            if at == fields.len() {
+                return push_field(fields, field);
+            }
+            match fields.insert(at, field) {
+                Ok(()) => true,
+                Err(_) => false,
+            }
+        }
         None => false,
     }
 }
 
+/// Adds a field at the end; `false` if out of memory.
+#[inline(always)]
+fn push_field<'t, 'a>(fields: &mut Vec<Field<'t, 'a>>, field: Field<'t, 'a>) -> bool
+    ensures { IsTrue result → fields.new.items ≡ fields.old.items ++ field.entry ∷ [] }
+{
+    match fields.push(field) {
+        Ok(()) => true,
+        Err(_) => false,
+    }
+}
+
 /// Where a field of this name goes; `None` if one is there.
+#[inline(always)]
 fn place_of(fields: &[Field<'_, '_>], name: &str) -> Option<usize>
     ensures { IfSome result (IsPlaceOf name.now fields.now) }
 {

@@ -17,6 +17,10 @@ use std::alloc::{AllocError, Global};
 /// How deep arrays, maps and records nest at most: no deeper than a text may.
 const DEPTH: usize = 127;
 
+/// How many bytes the writer wants free behind the last one that it writes. With them a text as long as the one that was read is
+/// written where it is.
+const SPARE: usize = 2;
+
 /// The memory that reading needs. Keep one from call to call.
 #[derive(Drop)]
 pub struct Workspace {
@@ -84,18 +88,18 @@ fn normal_text_of<T: Records>(
     }
 }
 
-/// The same of a tape, into a buffer of this capacity.
+/// The same of the tape of a text of this length.
 fn write_tape<T: Records>(
     records: &T,
     schema: &Schema,
     alloc: Global,
     tape: &Tape<'_>,
-    capacity: usize,
+    len: usize,
 ) -> Result<Option<Vec<u8>>, AllocError>
     ensures { IfOk result (λ o. IfSome o (λ written. (d : Data) → BeginsWithData tape.now d
         → IsNormalText (schema_shape (T.shape_at records.now) schema.now) d written.items)) }
 {
-    let mut out = CompactWriter::with_capacity(alloc, capacity)?;
+    let mut out = CompactWriter::with_capacity(alloc, len.saturating_add(SPARE))?;
     let done = write_value(records, schema, &tape.root(), DEPTH, alloc, &mut out)?;
     if !done {
         return Ok(None);

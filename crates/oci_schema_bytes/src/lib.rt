@@ -9,6 +9,7 @@ mod capabilities;
 mod fields;
 mod lane;
 pub mod laws;
+mod object;
 mod pretty;
 mod scalar;
 mod streams;

@@ -2,7 +2,6 @@
 ghost use Rattle.std.specs.Prelude.{◌≡◌, IsTrue};
 ghost use Rattle.serde_json.specs.Data.{Data, Members};
 ghost use Rattle.oci_json_model.specs.Shape.{cap_set, list, map};
-ghost use Rattle.oci_json_model.specs.Means.{is_object as holds_members};
 ghost use Rattle.oci_json_tape.specs.Elements.{BeginsWithData};
 ghost use Rattle.oci_process_names.specs.Capability.{capability_table};
 ghost use Rattle.oci_schema_types.specs.Shapes.{part_shape, schema_shape};
@@ -13,6 +12,7 @@ use crate::absent::write_absent;
 use crate::by_value::{is_by_value, is_string, write_by_value};
 use crate::capabilities::{is_normal_set, write_strings};
 use crate::fields::{Field, fields_of};
+use crate::object::Object;
 use crate::scalar::write_scalar;
 use json::Element;
 use oci_json_tape::{CompactWriter, items, members, next_item, next_member};
@@ -23,6 +23,7 @@ use std::cmp::Ordering;
 /// Writes the normal form of what begins at the element; `false` if that was not found out, or if out of memory. What was written
 /// then is of no use. Arrays, maps and records nest no deeper than `depth`.
 #[cycle(writes)]
+#[inline(always)]
 pub fn write_value<T: Records>(
     records: &T,
     schema: &Schema,
@@ -45,6 +46,7 @@ pub fn write_value<T: Records>(
 
 /// Writes a value alone.
 #[cycle(writes)]
+#[inline(always)]
 fn write_part<T: Records>(
     records: &T,
     part: &Part,
@@ -181,6 +183,7 @@ fn comes_after(name: &str, last: Option<&str>) -> bool
 
 /// Writes a record.
 #[cycle(writes)]
+#[inline(never)]
 fn write_record<T: Records>(
     records: &T,
     place: usize,
@@ -192,21 +195,12 @@ fn write_record<T: Records>(
     ensures { IfDone result (WritesNormal (T.shape_at records.now place) element.now out.old out.new) }
 {
     let record = records.record(place);
-    if !is_object(element) {
+    let Some(object) = Object::open(element) else {
         return Ok(false);
-    }
-    match fields_of(record.members, element, alloc)? {
+    };
+    match fields_of(record.members, &object, alloc)? {
         Some(fields) => write_fields(records, fields.as_slice(), depth, alloc, out),
         None => Ok(false),
-    }
-}
-
-fn is_object(element: &Element<'_, '_>) -> bool
-    ensures { (d : Data) → BeginsWithData element.now d → result ≡ holds_members d }
-{
-    match members(element) {
-        Some(_) => true,
-        None => false,
     }
 }
 
@@ -237,6 +231,7 @@ fn write_fields<T: Records>(
 
 /// Writes the value of a field.
 #[cycle(writes)]
+#[inline(always)]
 fn write_field<T: Records>(
     records: &T,
     field: &Field<'_, '_>,

@@ -1,13 +1,18 @@
 use Rattle.std.proofs.Common.{sym, refl, subst, drop_of_length-le}
 use Rattle.serde_json.specs.Data.{no_members}
 use Rattle.oci_schema_types.specs.Shapes.{members_in}
-use Rattle.oci_schema_bytes.proofs.FieldWalk.{FieldsSoFar, fields_more, fields_end}
+use Rattle.oci_schema_bytes.proofs.FieldWalk.{FieldsSoFar, fields_more, fields_same, fields_end}
 use Rattle.oci_schema_bytes.proofs.fields.fields_of.Goals as goal
 
 pub loop-member-init : goal.loop-member-init
 loop-member-init c = λ f d b.
     let all = members_in f c.args.members.now in
     subst (FieldsSoFar f d all all) (sym c.in_ok-fields.ensures.items) (no_members, tt, refl, λ h e. e)
+
+pub loop-member-preserved-then-is_left_out : goal.loop-member-preserved-then-is_left_out
+loop-member-preserved-then-is_left_out c = λ f d b.
+    let l = c.loop-member in
+    fields_same f d (members_in f c.args.members.now) c.args.members.now l.member-index _ l.fields.items c.loop-member-test.true (c.is_left_out.ensures c.if-is_left_out.true f d b) (l.invariant f d b)
 
 pub loop-member-preserved : goal.loop-member-preserved
 loop-member-preserved c = λ f d b.

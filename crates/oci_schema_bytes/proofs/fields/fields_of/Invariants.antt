@@ -1,11 +1,11 @@
 use Rattle.std.proofs.Common.{ℕ, drop}
 use Rattle.serde_json.specs.Data.{Data}
 use Rattle.oci_json_model.specs.Shape.{Shape}
-use Rattle.oci_json_tape.specs.Elements.{BeginsWithData}
+use Rattle.oci_schema_bytes.specs.Objects.{IsObject}
 use Rattle.oci_schema_types.specs.Shapes.{members_in}
 use Rattle.oci_schema_bytes.proofs.FieldWalk.{FieldsSoFar}
 use Rattle.oci_schema_bytes.proofs.fields.fields_of.Given as goal
 
 abbrev pub invariant-loop-member : goal.invariant-loop-member
 invariant-loop-member l =
-    (f : ℕ → Shape) (d : Data) → BeginsWithData l.fn.element d → FieldsSoFar f d (members_in f l.members) (members_in f (drop l.member-index l.members)) l.fields.items
+    (f : ℕ → Shape) (d : Data) → IsObject l.fn.object d → FieldsSoFar f d (members_in f l.members) (members_in f (drop l.member-index l.members)) l.fields.items

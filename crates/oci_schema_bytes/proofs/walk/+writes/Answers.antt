@@ -1,11 +1,11 @@
-use Rattle.std.proofs.Common.{ℕ, ◌+◌, ◌∙◌, drop, sym, subst, drop_of_length-le}
+use Rattle.std.proofs.Common.{ℕ, ◌+◌, drop, sym, subst, drop_of_length-le}
 use Rattle.std.specs.Prelude.{IfSome}
 use Rattle.serde_json.specs.Data.{Data}
 use Rattle.oci_json_model.specs.Shape.{Shape}
-use Rattle.oci_json_tape.specs.Elements.{BeginsWithData}
 use Rattle.oci_schema_types.specs.Shapes.{part_shape, members_in}
 use Rattle.oci_schema_walks.proofs.Listed.{cut_at}
 use Rattle.oci_schema_bytes.specs.Fields.{AreAccepted, AreFieldsOf}
+use Rattle.oci_schema_bytes.specs.Objects.{IsObject}
 use Rattle.oci_schema_bytes.proofs.ArrayWalk.{items_begin, items_step, items_end}
 use Rattle.oci_schema_bytes.proofs.FieldWalk.{FieldsLeft, left_begin, left_step, left_end, record_written, value_accepted, value_written, none_accepted, none_means, if_done, if_both_done, done_anyway}
 use Rattle.oci_schema_bytes.proofs.MapWalk.{members_begin, members_step, members_end}
@@ -38,14 +38,16 @@ write_map-returns g t c = λ h d b.
     members_end (part_shape (g.T.Records.shape_at c.args.records.now) c.args.part.now) d c.args.out.now c.each_member.last c.each_member.rest c.each_member.out c.next_member.new.members c.end_object.new.self
     c.in_default-next_member.ensures.value c.in_ok-end_object.ensures.ok (c.each_member.invariant d b)
 
-pub write_record-returns-in-Some : goal.write_record-returns-in-Some
-write_record-returns-in-Some g t c =
+pub write_record-returns-in-Some-2 : goal.write_record-returns-in-Some-2
+write_record-returns-in-Some-2 g t c =
     let f = g.T.Records.shape_at c.args.records.now in
-    let found = subst (λ o. IfSome o (λ es. (h : ℕ → Shape) (d : Data) → BeginsWithData c.args.element.now d → AreFieldsOf h (members_in h c.record-record.result.now.members.now) d es.items)) c.in-Some.is c.in_ok-fields.ensures in
+    let rows = members_in f c.record-record.result.now.members.now in
+    let found = subst (λ o. IfSome o (λ es. (h : ℕ → Shape) (d : Data) → IsObject c.in-Some.object d → AreFieldsOf h (members_in h c.record-record.result.now.members.now) d es.items)) c.in-Some-2.is c.in_ok-fields.ensures in
     if_both_done c.write_fields.result _ _ _ c.write_fields.ensures.accepted c.write_fields.ensures.writes
     (λ accepted wrote d b.
-    record_written f (f c.args.place) (members_in f c.record-record.result.now.members.now) d c.as_slice.result.now c.args.out.now c.write_fields.new.out c.record-record.ensures (sym (c.is_object.ensures d b) ∙ c.if-not-is_object.false)
-    (subst (λ es. AreFieldsOf f (members_in f c.record-record.result.now.members.now) d es) (sym c.as_slice.ensures.value) (found f d b)) accepted wrote)
+    let is = c.in-Some.ensures d b in
+    record_written f (f c.args.place) rows d c.as_slice.result.now c.args.out.now c.write_fields.new.out c.record-record.ensures is.0
+    (subst (λ es. AreFieldsOf f rows d es) (sym c.as_slice.ensures.value) (found f d is.1)) accepted wrote)
 
 pub write_fields-loop-field-init : goal.write_fields-loop-field-init
 write_fields-loop-field-init g t c = record {
