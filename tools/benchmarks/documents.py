@@ -5,6 +5,7 @@ from benchmarks.tables import laid_out, microseconds, number, ratio
 
 # the inputs, and the kind of each
 DOCUMENTS = {
+    "spec_small": "spec",
     "manifest": "manifest",
     "manifest_1000": "manifest",
     "index_1000": "index",
