@@ -17,9 +17,8 @@ use Rattle.oci_schema_types.specs.declared.record.Member.{Member}
 use Rattle.oci_schema_walks.specs.Normalized.{accepts, rows_accept, normalized, normalized_member, normalized_rows, chosen, known_accepted, known_normalized}
 use Rattle.oci_schema_walks.proofs.Decides.{both}
 use Rattle.oci_schema_walks.proofs.Listed.{drop_at}
-use Rattle.oci_schema_bytes.specs.Fields.{written_for, FieldMeans, EachField, FieldIsAccepted, AreAccepted, AreFieldsOf}
+use Rattle.oci_schema_bytes.specs.Fields.{Field, written_for, FieldMeans, EachField, FieldIsAccepted, AreAccepted, AreFieldsOf}
 use Rattle.oci_schema_bytes.specs.Walks.{IfDone, WritesTree, WritesMembers, WritesNormal}
-use Rattle.oci_schema_bytes.specs.declared.fields.Field.{Field}
 
 -- with the rows that are left the fields are those of the object
 abbrev pub FieldsSoFar : (ℕ → Shape) → Data → Rows → Rows → List Field → Type 0
@@ -44,13 +43,6 @@ module _ (f : ℕ → Shape) (d : Data) (all : Rows) where
       → FieldsSoFar f d all (members_in f (drop i members)) es → FieldsSoFar f d all (members_in f (drop (i + 1) members)) more
   fields_more members i w es more below wrote accepts_it h =
       fields_step (slice_index_or members i w) (drop (i + 1) members) es more wrote accepts_it (subst (λ z. FieldsSoFar f d all (members_in f z) es) (drop_at members i w below) h)
-
-  -- nothing is written for the member
-  pub fields_same : (members : List Member) (i : ℕ) (w : Member) (es : List Field) → i < length members
-      → (known_normalized f (slice_index_or members i w) d ≡ None) × (known_accepted f (slice_index_or members i w) d ≡ true)
-      → FieldsSoFar f d all (members_in f (drop i members)) es → FieldsSoFar f d all (members_in f (drop (i + 1) members)) es
-  fields_same members i w es below left h =
-      fields_more members i w es es below (λ ms each. subst (λ o. EachField f es (with_member (slice_index_or members i w).name.now o ms)) (sym left.0) each) (λ k. (k, left.1)) h
 
   pub fields_end : (es : List Field) → FieldsSoFar f d all (members_in f []) es → AreFieldsOf f all d es
   fields_end es (ms, each, same, accepted) = (subst (EachField f es) same each, λ h. accepted h refl)

@@ -1,10 +1,10 @@
+pub mod Adding
 pub mod ArrayWalk
 pub mod Documents
 pub mod FieldWalk
-pub mod Finding
 pub mod MapWalk
 pub mod NormalSets
 pub mod Objects
-pub mod Placing
 pub mod Presences
+pub mod Slots
 pub mod Written

@@ -1,23 +1,20 @@
 -- What is written for a member by whether it is there.
-use Rattle.std.proofs.Common.{◌≡◌, ℕ, List, Bool, true, false, true≢false, Option, Some, None, is_some, option_map, refl, sym, ap, ◌∙◌, subst}
+use Rattle.std.proofs.Common.{◌≡◌, ℕ, Bool, true, false, true≢false, Option, Some, None, is_some, option_map, refl, sym, ap, ◌∙◌}
 use Rattle.std.specs.Prelude.{◌||◌, option_and_then, unwrap_or}
-use Rattle.serde_json.specs.Data.{Data, null, boolean, number, string, array, object, Members}
+use Rattle.serde_json.specs.Data.{Data, null, boolean, number, string, array, object}
 use Rattle.serde_json.specs.Find.{as_null, get}
 use Rattle.oci_json_model.specs.Plain.{Plain}
 use Rattle.oci_json_model.specs.Means.{get_second, unless_null}
 use Rattle.oci_json_model.specs.Shape as shape
 use Rattle.oci_json_model.specs.Shape.{Shape, required, defaulted, optional, nullable, unless_empty}
-use Rattle.oci_json_model.specs.Value.{value, with_member}
+use Rattle.oci_json_model.specs.Value.{value}
 use Rattle.oci_schema_types.specs.Shapes.{presence_of, alias_of, schema_shape}
 use Rattle.oci_schema_types.specs.declared.record.Member.{Member}
 use Rattle.oci_schema_types.specs.declared.scalar.Presence.{Presence}
-use Rattle.oci_schema_types.specs.declared.scalar.Presence.TheVariants.{Optional}
 use Rattle.oci_schema_walks.specs.Allows.{member_allowed, either_allowed}
 use Rattle.oci_schema_walks.specs.Given.{given, may_be_null, unless_null_counts, written}
-use Rattle.oci_schema_walks.specs.Normalized.{accepts, normalized, normalized_member, unless_no_items, chosen, is_one_there, known_accepted, known_normalized}
-use Rattle.oci_schema_walks.proofs.Given.{one_allowed}
-use Rattle.oci_schema_bytes.specs.Fields.{written_for, accepted_for, EachField}
-use Rattle.oci_schema_bytes.specs.declared.fields.Field.{Field}
+use Rattle.oci_schema_walks.specs.Normalized.{accepts, normalized, normalized_member, unless_no_items, chosen, known_accepted, known_normalized}
+use Rattle.oci_schema_bytes.specs.Fields.{written_for, accepted_for}
 
 -- ---- null
 
@@ -110,49 +107,32 @@ module _ (v : Plain → Data) (g : Data → Data) (A : Data → Bool) where
   allowed_none unless_empty None e = refl
   allowed_none unless_empty (Some c) e = null_allowed c e
 
--- ---- a member that is found and then added
+-- ---- a member that is not there under its alias
 
-module _ (f : ℕ → Shape) (m : Member) (d : Data) where
-  abbrev here : Option Data
-  here = chosen (get m.name.now d) (get_second (alias_of m.alias) d)
-
-  abbrev one_there : Type 0
-  one_there = is_one_there (get m.name.now d) (get_second (alias_of m.alias) d) ≡ true
-
+module _ (f : ℕ → Shape) (m : Member) (d : Data) (single : get_second (alias_of m.alias) d ≡ None) where
   abbrev P : shape.Presence
   P = presence_of m.presence
 
   abbrev s : Shape
   s = schema_shape f m.schema
 
-  pub given_member : (n : Data) (ms : Members) (es : List Field) → given P here ≡ Some n → EachField f es (with_member m.name.now (written P (normalized s n)) ms)
-      → EachField f es (with_member m.name.now (known_normalized f m d) ms)
-  given_member n ms es e h = subst (λ o. EachField f es (with_member m.name.now o ms)) (sym (by_given (value s) (normalized s) (accepts s) P here n e)) h
+  as_normalized : known_normalized f m d ≡ normalized_member P (value s) (normalized s) (get m.name.now d)
+  as_normalized = ap (λ o. normalized_member P (value s) (normalized s) (chosen (get m.name.now d) o)) single
 
-  pub absent_member : (ms : Members) (es : List Field) → given P here ≡ None → EachField f es (with_member m.name.now (written_for f m None) ms)
-      → EachField f es (with_member m.name.now (known_normalized f m d) ms)
-  absent_member ms es e h = subst (λ o. EachField f es (with_member m.name.now o ms)) (sym (by_none (value s) (normalized s) (accepts s) P here e)) h
+  as_accepted : known_accepted f m d ≡ member_allowed P (accepts s) (get m.name.now d)
+  as_accepted = ap (either_allowed P (accepts s) (get m.name.now d)) single
 
-  pub given_accepted : (n : Data) → one_there → given P here ≡ Some n → accepts s n ≡ true → known_accepted f m d ≡ true
-  given_accepted n one e h = one_allowed P (accepts s) _ _ here true one refl (allowed_given (value s) (normalized s) (accepts s) P here n e ∙ h)
+  pub given_normalized : (n : Data) → given P (get m.name.now d) ≡ Some n → known_normalized f m d ≡ written P (normalized s n)
+  given_normalized n e = as_normalized ∙ by_given (value s) (normalized s) (accepts s) P (get m.name.now d) n e
 
-  pub absent_accepted : one_there → given P here ≡ None → accepted_for f m None ≡ true → known_accepted f m d ≡ true
-  absent_accepted one e h = one_allowed P (accepts s) _ _ here true one refl (allowed_none (value s) (normalized s) (accepts s) P here e ∙ h)
+  pub absent_normalized : given P (get m.name.now d) ≡ None → known_normalized f m d ≡ written_for f m None
+  absent_normalized e = as_normalized ∙ by_none (value s) (normalized s) (accepts s) P (get m.name.now d) e
 
--- ---- a member that may be absent, and is
+  pub given_accepted : (n : Data) → given P (get m.name.now d) ≡ Some n → accepts s n ≡ true → known_accepted f m d ≡ true
+  given_accepted n e h = as_accepted ∙ allowed_given (value s) (normalized s) (accepts s) P (get m.name.now d) n e ∙ h
 
-pub left_out : (f : ℕ → Shape) (m : Member) (d : Data) → m.presence ≡ Optional → m.alias ≡ None → get m.name.now d ≡ None
-    → (known_normalized f m d ≡ None) × (known_accepted f m d ≡ true)
-left_out f m d is plain absent =
-    let s = schema_shape f m.schema in
-    let other : get_second (alias_of m.alias) d ≡ None = ap (λ a. get_second (alias_of a) d) plain in (
-      ap (λ p. normalized_member (presence_of p) (value s) (normalized s) (chosen (get m.name.now d) (get_second (alias_of m.alias) d))) is
-          ∙ ap (λ o. normalized_member optional (value s) (normalized s) (chosen (get m.name.now d) o)) other
-          ∙ ap (λ o. normalized_member optional (value s) (normalized s) (chosen o None)) absent,
-      ap (λ p. either_allowed (presence_of p) (accepts s) (get m.name.now d) (get_second (alias_of m.alias) d)) is
-          ∙ ap (λ o. either_allowed optional (accepts s) (get m.name.now d) o) other
-          ∙ ap (λ o. either_allowed optional (accepts s) o None) absent,
-    )
+  pub absent_accepted : given P (get m.name.now d) ≡ None → accepted_for f m None ≡ true → known_accepted f m d ≡ true
+  absent_accepted e h = as_accepted ∙ allowed_none (value s) (normalized s) (accepts s) P (get m.name.now d) e ∙ h
 
 -- ---- by the presence that a member has
 

@@ -1,8 +1,7 @@
 -- The members of a record that are written, in byte order of their names.
-use Rattle.std.specs.Prelude.{◌≡◌, ℕ, zero, suc, List, [], ◌∷◌, Bool, true, Option, Some, None, MatchOption, ⊤}
-use Rattle.std.specs.Ordering.{nat_cmp}
-use Rattle.std.specs.declared.cmp.Ordering.TheVariants.{Less, Greater}
-use Rattle.std.specs.Cmp.Lexicographic.{slice_cmp}
+use Rattle.std.specs.Prelude.{◌≡◌, ℕ, List, [], ◌∷◌, Bool, true, Option, Some, None, MatchOption, ⊤}
+use Rattle.std.specs.Borrow.{Bor}
+use Rattle.json.specs.Token.{Token}
 use Rattle.serde_json.specs.Data.{Data, Members, no_members, member}
 use Rattle.oci_json_model.specs.Shape.{Shape, Rows}
 use Rattle.oci_json_model.specs.Value.{value}
@@ -11,7 +10,11 @@ use Rattle.oci_schema_types.specs.Shapes.{presence_of, schema_shape}
 use Rattle.oci_schema_types.specs.declared.record.Member.{Member}
 use Rattle.oci_schema_walks.specs.Allows.{member_allowed}
 use Rattle.oci_schema_walks.specs.Normalized.{accepts, rows_accept, normalized, normalized_member, normalized_rows}
-use Rattle.oci_schema_bytes.specs.declared.fields.Field.{Field}
+
+-- A member that is written: where its value stands, or none if what is written is that of an absent member.
+pub record Field : Type 0 where
+  pub member : Bor Member
+  pub value : Option (List Token)
 
 -- what is written for a member by its found value
 abbrev pub written_for : (ℕ → Shape) → Member → Option Data → Option Data
@@ -43,9 +46,3 @@ AreAccepted f (e ∷ es) = FieldIsAccepted f e × AreAccepted f es
 -- the fields are what is written for the object d by the members rs, which accept it if each value is accepted
 abbrev pub AreFieldsOf : (ℕ → Shape) → Rows → Data → List Field → Type 0
 AreFieldsOf f rs d es = EachField f es (normalized_rows rs d no_members) × (AreAccepted f es → rows_accept rs d ≡ true)
-
--- the name comes at this place: after the names before it, and before the others
-abbrev pub IsPlaceOf : List ℕ → List Field → ℕ → Type 0
-IsPlaceOf name [] at = at ≡ 0
-IsPlaceOf name (e ∷ es) zero = slice_cmp nat_cmp name e.member.now.name.now ≡ Less
-IsPlaceOf name (e ∷ es) (suc at) = (slice_cmp nat_cmp name e.member.now.name.now ≡ Greater) × IsPlaceOf name es at

@@ -1,132 +1,84 @@
-//! The members of a record that are written, found in a tape.
-ghost use Rattle.std.specs.Prelude.{◌≡◌, ◌++◌, ◌∷◌, [], ℕ, true, false, Option, Some, None, IfOk, IfSome, IsTrue};
-ghost use Rattle.serde_json.specs.Data.{Data, Members, put as with};
+//! The members of an object that are written.
+ghost use Rattle.std.specs.Prelude.{◌≡◌, ◌<◌, ◌↔◌, [], ℕ, true, false, length, slice_set, Option, Some, None, IfSome, IsTrue};
+ghost use Rattle.serde_json.specs.Data.{Data, Members};
 ghost use Rattle.serde_json.specs.Find.{get};
 ghost use Rattle.oci_json_model.specs.Means.{get_second};
 ghost use Rattle.oci_json_model.specs.Shape.{Shape};
-ghost use Rattle.oci_json_model.specs.Value.{with_member};
-ghost use Rattle.oci_json_tape.specs.Elements.{BeginsWithData, FindsData};
-ghost use Rattle.oci_schema_types.specs.Shapes.{alias_of, members_in, presence_of, schema_shape};
-ghost use Rattle.oci_schema_walks.specs.Given.{given, may_be_null as null_counts, written};
-ghost use Rattle.oci_schema_walks.specs.Normalized.{accepts, chosen, is_one_there, known_accepted, known_normalized, normalized};
-ghost use Rattle.oci_schema_bytes.specs.Fields.{written_for, accepted_for, FieldMeans, EachField, FieldIsAccepted, AreAccepted, AreFieldsOf, IsPlaceOf};
-ghost use Rattle.oci_schema_bytes.specs.Objects.{IsObject};
+ghost use Rattle.oci_schema_types.specs.Shapes.{alias_of, members_in, presence_of};
+ghost use Rattle.oci_schema_walks.specs.Given.{may_be_null as null_counts, written};
+ghost use Rattle.oci_schema_walks.specs.Normalized.{known_accepted, known_normalized};
+ghost use Rattle.oci_schema_bytes.specs.Fields.{written_for, accepted_for, AreFieldsOf};
+ghost use Rattle.oci_schema_bytes.specs.Objects.{IsObject, IsAt, IsFoundAt, Adds, AddsField, fields_in};
 
-use crate::object::Object;
-use json::Element;
+use crate::object::{Object, put};
 use oci_json_tape::is_null;
 use oci_schema_types::{Member, Presence};
-use std::alloc::{AllocError, Global};
-use std::cmp::Ordering;
 
-/// A member that is written: where its value stands, or else what is written for an absent one.
-#[derive(Drop)]
-pub struct Field<'t, 'a> {
-    /// The member, as the schema has it.
-    pub member: &'static Member,
-    /// Its value.
-    pub value: Option<Element<'t, 'a>>,
-}
-
-/// The fields of an object, in byte order of their names; `None` if that was not found out. Fails if out of memory.
-pub fn fields_of<'t, 'a>(
-    members: &'static [Member],
-    object: &Object<'_, 't, 'a>,
-    alloc: Global,
-) -> Result<Option<Vec<Field<'t, 'a>>>, AllocError>
-    ensures { IfOk result (λ o. IfSome o (λ fields. (f : ℕ → Shape) (d : Data) → IsObject object.now d
-        → AreFieldsOf f (members_in f members.now) d fields.items)) }
+/// Finds out which members are written for an object that has nothing written; `false` if that was not found out.
+pub fn choose(members: &'static [Member], object: &mut Object<'_, '_>) -> bool
+    ensures { IsTrue result → fields_in object.old.slots.items ≡ [] → (f : ℕ → Shape) (d : Data) → IsObject object.old d
+        → AreFieldsOf f (members_in f members.now) d (fields_in object.new.slots.items) }
 {
-    let mut fields = Vec::with_capacity(alloc, members.len())?;
     for member in members {
-        if is_left_out(member, object) {
-            continue;
-        }
-        if !add_member(member, object, &mut fields) {
-            return Ok(None);
+        if !add_member(member, object) {
+            return false;
         }
     }
-    Ok(Some(fields))
+    true
 }
 
-/// Whether the object lacks the member, which may be absent, so that nothing is written for it. Most members are left out so, without
-/// a look at the object's members.
-fn is_left_out(member: &Member, object: &Object<'_, '_, '_>) -> bool
-    ensures { IsTrue result → (f : ℕ → Shape) (d : Data) → IsObject object.now d
-        → (known_normalized f member.now d ≡ None) × (known_accepted f member.now d ≡ true) }
+/// Adds what is written for the member; `false` if that was not found out. Most members of a schema are not there, and nothing is
+/// written for them.
+#[inline(always)]
+fn add_member(member: &'static Member, object: &mut Object<'_, '_>) -> bool
+    ensures { IsTrue result → (f : ℕ → Shape) (d : Data) → IsObject object.old d
+        → Adds f d member.now.name.now (known_normalized f member.now d) (known_accepted f member.now d ≡ true) object.old object.new }
 {
-    match member.presence {
-        Presence::Optional => match member.alias {
-            None => object.lacks(member.name),
-            Some(_) => false,
-        },
-        _ => false,
+    if has_alias(member, object) {
+        return false;
+    }
+    if object.lacks(member.name) {
+        return add_absent(member, object);
+    }
+    match object.find(member.name) {
+        Some(at) => add_found(member, at, object),
+        None => add_absent(member, object),
     }
 }
 
-/// Adds the member of an object to the fields, if it is written; `false` if that was not found out.
-fn add_member<'t, 'a>(
-    member: &'static Member,
-    object: &Object<'_, 't, 'a>,
-    fields: &mut Vec<Field<'t, 'a>>,
-) -> bool
-    ensures written { IsTrue result → (f : ℕ → Shape) (d : Data) (ms : Members) → IsObject object.now d
-        → EachField f fields.old.items ms
-        → EachField f fields.new.items (with_member member.now.name.now (known_normalized f member.now d) ms) }
-    ensures accepted { IsTrue result → (f : ℕ → Shape) (d : Data) → IsObject object.now d
-        → AreAccepted f fields.new.items
-        → AreAccepted f fields.old.items × (known_accepted f member.now d ≡ true) }
+/// Whether the object has the member under its alias.
+#[inline(always)]
+fn has_alias(member: &Member, object: &Object<'_, '_>) -> bool
+    ensures { (result ≡ false) → (d : Data) → IsObject object.now d → get_second (alias_of member.now.alias) d ≡ None }
 {
-    match find_member(member, object) {
-        Some(found) => match unless_null(&member.presence, found) {
-            Some(value) => add_given(member, value, fields),
-            None => add_absent(member, fields),
-        },
-        None => false,
-    }
-}
-
-/// The value under the member's name or its alias, if any; `None` if it is under both.
-fn find_member<'t, 'a>(
-    member: &Member,
-    object: &Object<'_, 't, 'a>,
-) -> Option<Option<Element<'t, 'a>>>
-    ensures { IfSome result (λ found. (d : Data) → IsObject object.now d
-        → FindsData found (chosen (get member.now.name.now d) (get_second (alias_of member.now.alias) d))
-        × (is_one_there (get member.now.name.now d) (get_second (alias_of member.now.alias) d) ≡ true)) }
-{
-    let found = object.find(member.name);
     match member.alias {
-        None => Some(found),
-        Some(alias) => match object.find(alias) {
-            None => Some(found),
-            Some(other) => match found {
-                None => Some(Some(other)),
-                Some(_) => None,
-            },
-        },
+        None => false,
+        Some(alias) => {
+            if object.lacks(alias) {
+                return false;
+            }
+            object.has(alias)
+        }
     }
 }
 
-/// The found value; none if it is null and null counts as absent.
-fn unless_null<'t, 'a>(
-    presence: &Presence,
-    found: Option<Element<'t, 'a>>,
-) -> Option<Element<'t, 'a>>
-    ensures { (o : Option Data) → FindsData found.entry o → FindsData result (given (presence_of presence.now) o) }
+/// Adds the member, which is at this place.
+fn add_found(member: &'static Member, at: usize, object: &mut Object<'_, '_>) -> bool
+    requires { IsFoundAt at member.now.name.now object.old }
+    ensures { IsTrue result → (f : ℕ → Shape) (d : Data) → IsObject object.old d → get_second (alias_of member.now.alias) d ≡ None
+        → Adds f d member.now.name.now (known_normalized f member.now d) (known_accepted f member.now d ≡ true) object.old object.new }
 {
-    match found {
-        Some(value) => {
-            if !may_be_null(presence) {
-                return Some(value);
-            }
-            if is_null(&value) {
-                return None;
-            }
-            Some(value)
-        }
-        None => None,
+    let Some(value) = object.unwritten(at) else {
+        return false;
+    };
+    if may_be_null(&member.presence) && is_null(value) {
+        return add_null(member, at, object);
     }
+    if is_unless_empty(&member.presence) {
+        return false;
+    }
+    object.write(at, member);
+    true
 }
 
 /// Whether null counts as absent.
@@ -143,31 +95,6 @@ fn may_be_null(presence: &Presence) -> bool
     }
 }
 
-/// Adds a member that has this value; not one that is omitted where it is empty.
-fn add_given<'t, 'a>(
-    member: &'static Member,
-    value: Element<'t, 'a>,
-    fields: &mut Vec<Field<'t, 'a>>,
-) -> bool
-    ensures written { IsTrue result → (f : ℕ → Shape) (d : Data) (ms : Members) → BeginsWithData value.entry d
-        → EachField f fields.old.items ms
-        → EachField f fields.new.items (with_member member.now.name.now (written (presence_of member.now.presence) (normalized (schema_shape f member.now.schema) d)) ms) }
-    ensures accepted { IsTrue result → (f : ℕ → Shape) (d : Data) → BeginsWithData value.entry d
-        → AreAccepted f fields.new.items
-        → AreAccepted f fields.old.items × (accepts (schema_shape f member.now.schema) d ≡ true) }
-{
-    if is_unless_empty(&member.presence) {
-        return false;
-    }
-    add_field(
-        fields,
-        Field {
-            member,
-            value: Some(value),
-        },
-    )
-}
-
 /// Whether a member is omitted where it is empty.
 fn is_unless_empty(presence: &Presence) -> bool
     ensures { (result ≡ false) → (d : Data) → written (presence_of presence.now) d ≡ Some d }
@@ -182,81 +109,59 @@ fn is_unless_empty(presence: &Presence) -> bool
     }
 }
 
-/// Adds a member that is absent, if it is written then.
-fn add_absent<'t, 'a>(member: &'static Member, fields: &mut Vec<Field<'t, 'a>>) -> bool
-    ensures written { IsTrue result → (f : ℕ → Shape) (ms : Members) → EachField f fields.old.items ms
-        → EachField f fields.new.items (with_member member.now.name.now (written_for f member.now None) ms) }
-    ensures accepted { IsTrue result → (f : ℕ → Shape) → AreAccepted f fields.new.items
-        → AreAccepted f fields.old.items × (accepted_for f member.now None ≡ true) }
+/// Adds what is written for the member, which is at this place and null, where it is absent.
+#[inline(never)]
+fn add_null(member: &'static Member, at: usize, object: &mut Object<'_, '_>) -> bool
+    requires { (s : _) × IsAt at s object.old.slots.items × (s.name.now ≡ member.now.name.now) × (s.member ≡ None) }
+    ensures { IsTrue result → (f : ℕ → Shape) (d : Data) → IsObject object.old d
+        → Adds f d member.now.name.now (written_for f member.now None) (accepted_for f member.now None ≡ true) object.old object.new }
 {
     match member.presence {
-        Presence::Required => false,
         Presence::Optional => true,
         Presence::UnlessEmpty => true,
-        Presence::Nullable => add_field(
-            fields,
-            Field {
-                member,
-                value: None,
-            },
-        ),
-        Presence::Defaulted(_) => add_field(
-            fields,
-            Field {
-                member,
-                value: None,
-            },
-        ),
-        Presence::DefaultedRecord(_) => false,
-    }
-}
-
-/// Puts a field in its place by name; `false` if the name is there already, or if out of memory.
-#[inline(always)]
-fn add_field<'t, 'a>(fields: &mut Vec<Field<'t, 'a>>, field: Field<'t, 'a>) -> bool
-    ensures written { IsTrue result → (f : ℕ → Shape) (n : Data) (ms : Members) → FieldMeans f field.entry n
-        → EachField f fields.old.items ms
-        → EachField f fields.new.items (with field.entry.member.now.name.now n ms) }
-    ensures accepted { IsTrue result → (f : ℕ → Shape) → AreAccepted f fields.new.items
-        → AreAccepted f fields.old.items × FieldIsAccepted f field.entry }
-{
-    match place_of(fields.as_slice(), field.member.name) {
-        Some(at) => {
-            if at == fields.len() {
-                return push_field(fields, field);
-            }
-            match fields.insert(at, field) {
-                Ok(()) => true,
-                Err(_) => false,
-            }
+        Presence::Nullable => {
+            object.write_absent(at, member);
+            true
         }
-        None => false,
+        _ => false,
     }
 }
 
-/// Adds a field at the end; `false` if out of memory.
+/// Adds what is written for the member, which is absent.
 #[inline(always)]
-fn push_field<'t, 'a>(fields: &mut Vec<Field<'t, 'a>>, field: Field<'t, 'a>) -> bool
-    ensures { IsTrue result → fields.new.items ≡ fields.old.items ++ field.entry ∷ [] }
+fn add_absent(member: &'static Member, object: &mut Object<'_, '_>) -> bool
+    ensures { IsTrue result → (f : ℕ → Shape) (d : Data) → IsObject object.old d → get member.now.name.now d ≡ None
+        → Adds f d member.now.name.now (written_for f member.now None) (accepted_for f member.now None ≡ true) object.old object.new }
 {
-    match fields.push(field) {
-        Ok(()) => true,
-        Err(_) => false,
+    match member.presence {
+        Presence::Optional => true,
+        _ => add_default(member, object),
     }
 }
 
-/// Where a field of this name goes; `None` if one is there.
-#[inline(always)]
-fn place_of(fields: &[Field<'_, '_>], name: &str) -> Option<usize>
-    ensures { IfSome result (IsPlaceOf name.now fields.now) }
+/// The same of a member that is not optional.
+#[inline(never)]
+fn add_default(member: &'static Member, object: &mut Object<'_, '_>) -> bool
+    ensures { IsTrue result → (f : ℕ → Shape) (d : Data) → IsObject object.old d → get member.now.name.now d ≡ None
+        → Adds f d member.now.name.now (written_for f member.now None) (accepted_for f member.now None ≡ true) object.old object.new }
 {
-    let mut at = 0;
-    for field in fields {
-        match name.cmp(field.member.name) {
-            Ordering::Less => return Some(at),
-            Ordering::Equal => return None,
-            Ordering::Greater => at += 1,
-        }
+    match member.presence {
+        Presence::UnlessEmpty => true,
+        Presence::Nullable => add_without_value(member, object),
+        Presence::Defaulted(_) => add_without_value(member, object),
+        _ => false,
     }
-    Some(at)
+}
+
+/// Adds the member, which has no value; `false` if the name is there already, or if out of memory.
+fn add_without_value(member: &'static Member, object: &mut Object<'_, '_>) -> bool
+    ensures { IsTrue result → (f : ℕ → Shape) (d n : Data) → IsObject object.old d → get member.now.name.now d ≡ None
+        → written_for f member.now None ≡ Some n
+        → AddsField f d n (record { member = member.entry; value = None }) object.old object.new }
+{
+    let Some(at) = put(&mut object.slots, member.name, None) else {
+        return false;
+    };
+    object.write(at, member);
+    true
 }

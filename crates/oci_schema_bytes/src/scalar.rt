@@ -2,6 +2,7 @@
 ghost use Rattle.std.specs.Prelude.{◌≡◌, Some, IsTrue};
 ghost use Rattle.serde_json.specs.Data.{string, boolean as boolean_data, number as number_data, unsigned as unsigned_number};
 ghost use Rattle.serde_json.specs.Find.{of_integer};
+ghost use Rattle.oci_json_model.specs.Shape.{text as text_shape};
 ghost use Rattle.oci_text_base.specs.Names.{is_listed};
 ghost use Rattle.oci_process_names.specs.CpuScan.{is_cpu_text};
 ghost use Rattle.oci_schema_types.specs.Shapes.{scalar_shape, names_of};
@@ -42,6 +43,17 @@ pub fn write_scalar(
             }
             None => Ok(false),
         },
+    }
+}
+
+/// Writes an element that is any string.
+#[inline(always)]
+pub fn write_text(element: &Element<'_, '_>, out: &mut CompactWriter) -> Result<bool, AllocError>
+    ensures { IfDone result (WritesNormal text_shape element.now out.old out.new) }
+{
+    match text(element) {
+        Some(content) => write_string(content, out),
+        None => Ok(false),
     }
 }
 

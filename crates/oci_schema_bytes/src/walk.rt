@@ -6,17 +6,18 @@ ghost use Rattle.oci_json_tape.specs.Elements.{BeginsWithData};
 ghost use Rattle.oci_process_names.specs.Capability.{capability_table};
 ghost use Rattle.oci_schema_types.specs.Shapes.{part_shape, schema_shape};
 ghost use Rattle.oci_schema_bytes.specs.Fields.{FieldMeans, EachField, FieldIsAccepted, AreAccepted};
+ghost use Rattle.oci_schema_bytes.specs.Objects.{fields_in};
 ghost use Rattle.oci_schema_bytes.specs.Walks.{IfDone, WritesTree, WritesMembers, WritesNormal, IsAfter};
 
 use crate::absent::write_absent;
 use crate::by_value::{is_by_value, is_string, write_by_value};
 use crate::capabilities::{is_normal_set, write_strings};
-use crate::fields::{Field, fields_of};
-use crate::object::Object;
-use crate::scalar::write_scalar;
+use crate::fields::choose;
+use crate::object::{Object, Slot};
+use crate::scalar::{write_scalar, write_text};
 use json::Element;
 use oci_json_tape::{CompactWriter, items, members, next_item, next_member};
-use oci_schema_types::{Part, Records, Scalar, Schema};
+use oci_schema_types::{Member, Part, Records, Scalar, Schema};
 use std::alloc::{AllocError, Global};
 use std::cmp::Ordering;
 
@@ -58,6 +59,7 @@ fn write_part<T: Records>(
     ensures { IfDone result (WritesNormal (part_shape (T.shape_at records.now) part.now) element.now out.old out.new) }
 {
     match part {
+        Part::Scalar(Scalar::String) => write_text(element, out),
         Part::Scalar(Scalar::Capabilities) => write_capabilities(records, element, alloc, out),
         Part::Scalar(scalar) => {
             if is_by_value(scalar) {
@@ -195,32 +197,35 @@ fn write_record<T: Records>(
     ensures { IfDone result (WritesNormal (T.shape_at records.now place) element.now out.old out.new) }
 {
     let record = records.record(place);
-    let Some(object) = Object::open(element) else {
+    let Some(mut object) = Object::open(element, alloc)? else {
         return Ok(false);
     };
-    match fields_of(record.members, &object, alloc)? {
-        Some(fields) => write_fields(records, fields.as_slice(), depth, alloc, out),
-        None => Ok(false),
+    if !choose(record.members, &mut object) {
+        return Ok(false);
     }
+    write_fields(records, object.slots.as_slice(), depth, alloc, out)
 }
 
-/// Writes an object of these fields.
+/// Writes an object of those of the members that are written.
 #[cycle(writes)]
 fn write_fields<T: Records>(
     records: &T,
-    fields: &[Field<'_, '_>],
+    slots: &[Slot<'_, '_>],
     depth: usize,
     alloc: Global,
     out: &mut CompactWriter,
 ) -> Result<bool, AllocError>
-    ensures accepted { IfDone result (AreAccepted (T.shape_at records.now) fields.now) }
-    ensures writes { IfDone result ((ms : Members) → EachField (T.shape_at records.now) fields.now ms
+    ensures accepted { IfDone result (AreAccepted (T.shape_at records.now) (fields_in slots.now)) }
+    ensures writes { IfDone result ((ms : Members) → EachField (T.shape_at records.now) (fields_in slots.now) ms
         → WritesMembers ms out.old out.new) }
 {
     out.begin_object()?;
-    for field in fields {
-        out.key(field.member.name)?;
-        let done = write_field(records, field, depth, alloc, out)?;
+    for slot in slots {
+        let Some(member) = slot.member else {
+            continue;
+        };
+        out.key(member.name)?;
+        let done = write_field(records, member, &slot.value, depth, alloc, out)?;
         if !done {
             return Ok(false);
         }
@@ -229,22 +234,23 @@ fn write_fields<T: Records>(
     Ok(true)
 }
 
-/// Writes the value of a field.
+/// Writes the value of a member, or what is written where it has none.
 #[cycle(writes)]
 #[inline(always)]
 fn write_field<T: Records>(
     records: &T,
-    field: &Field<'_, '_>,
+    member: &Member,
+    value: &Option<Element<'_, '_>>,
     depth: usize,
     alloc: Global,
     out: &mut CompactWriter,
 ) -> Result<bool, AllocError>
-    ensures accepted { IfDone result (FieldIsAccepted (T.shape_at records.now) field.now) }
-    ensures writes { IfDone result ((n : Data) → FieldMeans (T.shape_at records.now) field.now n
+    ensures accepted { IfDone result (FieldIsAccepted (T.shape_at records.now) (record { member = member.entry; value = value.now })) }
+    ensures writes { IfDone result ((n : Data) → FieldMeans (T.shape_at records.now) (record { member = member.entry; value = value.now }) n
         → WritesTree n out.old out.new) }
 {
-    match &field.value {
-        Some(value) => write_value(records, &field.member.schema, value, depth, alloc, out),
-        None => write_absent(field.member, out),
+    match value {
+        Some(value) => write_value(records, &member.schema, value, depth, alloc, out),
+        None => write_absent(member, out),
     }
 }

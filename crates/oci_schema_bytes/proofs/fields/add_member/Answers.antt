@@ -1,26 +1,21 @@
-use Rattle.oci_schema_bytes.proofs.Presences.{given_member, absent_member, given_accepted, absent_accepted}
+use Rattle.std.proofs.Common.{ap, ◌∙◌}
+use Rattle.oci_schema_types.specs.Shapes.{presence_of}
+use Rattle.oci_schema_walks.specs.Given.{given}
+use Rattle.oci_schema_bytes.proofs.Adding.{adds_absent}
+use Rattle.oci_schema_bytes.proofs.Presences.{none_stays}
 use Rattle.oci_schema_bytes.proofs.fields.add_member.Goals as goal
 
-pub returns-in-Some-unless_null-clause-written : goal.returns-in-Some-unless_null-clause-written
-returns-in-Some-unless_null-clause-written c = λ h f d ms b each.
-    let k = c.in-Some.ensures d b in
-    let w = c.in-Some-unless_null.ensures _ k.0 in
-    given_member f c.args.member.now d w.0 ms c.add_given.new.fields.items w.1 (c.add_given.ensures.written h f w.0 ms w.2 each)
+pub returns-then-lacks : goal.returns-then-lacks
+returns-then-lacks c = λ t f d b.
+    let p = presence_of c.args.member.now.presence in
+    let none = c.lacks.ensures c.if-lacks.true d b in
+    adds_absent f d c.args.member c.args.object.now c.add_absent.new.object (c.has_alias.ensures c.if-has_alias.false d b) (ap (given p) none ∙ none_stays p) (c.add_absent.ensures t f d b none)
 
-pub returns-in-Some-unless_null-clause-accepted : goal.returns-in-Some-unless_null-clause-accepted
-returns-in-Some-unless_null-clause-accepted c = λ h f d b all.
-    let k = c.in-Some.ensures d b in
-    let w = c.in-Some-unless_null.ensures _ k.0 in
-    let a = c.add_given.ensures.accepted h f w.0 w.2 all in
-    (a.0, given_accepted f c.args.member.now d w.0 k.1 w.1 a.1)
+pub returns-in-Some : goal.returns-in-Some
+returns-in-Some c = λ t f d b. c.add_found.ensures t f d b (c.has_alias.ensures c.if-has_alias.false d b)
 
-pub returns-in-None-unless_null-clause-written : goal.returns-in-None-unless_null-clause-written
-returns-in-None-unless_null-clause-written c = λ h f d ms b each.
-    let k = c.in-Some.ensures d b in
-    absent_member f c.args.member.now d ms c.add_absent.new.fields.items (c.in-None-unless_null.ensures _ k.0) (c.add_absent.ensures.written h f ms each)
-
-pub returns-in-None-unless_null-clause-accepted : goal.returns-in-None-unless_null-clause-accepted
-returns-in-None-unless_null-clause-accepted c = λ h f d b all.
-    let k = c.in-Some.ensures d b in
-    let a = c.add_absent.ensures.accepted h f all in
-    (a.0, absent_accepted f c.args.member.now d k.1 (c.in-None-unless_null.ensures _ k.0) a.1)
+pub returns-in-None : goal.returns-in-None
+returns-in-None c = λ t f d b.
+    let p = presence_of c.args.member.now.presence in
+    let none = c.in-None.ensures d b in
+    adds_absent f d c.args.member c.args.object.now c.add_absent-in-None.new.object (c.has_alias.ensures c.if-has_alias.false d b) (ap (given p) none ∙ none_stays p) (c.add_absent-in-None.ensures t f d b none)

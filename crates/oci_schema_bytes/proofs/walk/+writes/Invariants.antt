@@ -3,6 +3,7 @@ use Rattle.serde_json.specs.Data.{Data}
 use Rattle.oci_json_tape.specs.Elements.{BeginsWithData}
 use Rattle.oci_schema_types.specs.Shapes.{part_shape}
 use Rattle.oci_schema_bytes.specs.Fields.{AreAccepted}
+use Rattle.oci_schema_bytes.specs.Objects.{fields_in}
 use Rattle.oci_schema_bytes.proofs.ArrayWalk.{ItemsLeft}
 use Rattle.oci_schema_bytes.proofs.FieldWalk.{FieldsLeft}
 use Rattle.oci_schema_bytes.proofs.MapWalk.{MembersSoFar}
@@ -43,10 +44,10 @@ invariant-write_map-each_member g l =
 abbrev pub decreases-write_map-each_member : goal.decreases-write_map-each_member
 decreases-write_map-each_member g l = length l.rest
 
-abbrev pub invariant-write_fields-loop-field : goal.invariant-write_fields-loop-field
-invariant-write_fields-loop-field g l =
+abbrev pub invariant-write_fields-loop-slot : goal.invariant-write_fields-loop-slot
+invariant-write_fields-loop-slot g l =
     let f = g.T.Records.shape_at l.records in
     record {
-      accepted : AreAccepted f (drop l.field-index l.fields) → AreAccepted f l.fields;
-      left : FieldsLeft f l.fields (drop l.field-index l.fields) l.fn.out l.out;
+      accepted : AreAccepted f (fields_in (drop l.slot-index l.slots)) → AreAccepted f (fields_in l.slots);
+      left : FieldsLeft f (fields_in l.slots) (fields_in (drop l.slot-index l.slots)) l.fn.out l.out;
     }
