@@ -13,11 +13,11 @@ use oci_schema_types::Member;
 use std::alloc::{AllocError, Global};
 use std::cmp::Ordering;
 
-/// How many members an object is asked for room at first.
-const ROOM: usize = 16;
+/// For how many members memory is allocated at first.
+const FIRST_CAPACITY: usize = 16;
 
 /// How many members an object has at most. No record of the specifications has more than 17.
-const MOST: usize = 64;
+const MAX_MEMBERS: usize = 64;
 
 /// A member of an object, or one that is written though the object has none of its name.
 #[derive(Drop)]
@@ -41,7 +41,7 @@ pub struct Object<'t, 'a> {
 
 impl<'t, 'a> Object<'t, 'a> {
     /// The object that begins at the element, with nothing written; `None` if none does, if it has a name twice, or more than
-    /// `MOST` members. Fails if out of memory.
+    /// `MAX_MEMBERS` members. Fails if out of memory.
     pub fn open(
         element: &Element<'t, 'a>,
         alloc: Global,
@@ -52,10 +52,10 @@ impl<'t, 'a> Object<'t, 'a> {
         let Some(mut rest) = members(element) else {
             return Ok(None);
         };
-        let mut slots = Vec::with_capacity(alloc, ROOM)?;
+        let mut slots = Vec::with_capacity(alloc, FIRST_CAPACITY)?;
         let mut marks = 0;
         'each_member: while let Some((name, value)) = next_member(&mut rest) {
-            if slots.len() == MOST {
+            if slots.len() == MAX_MEMBERS {
                 return Ok(None);
             }
             let Some(_) = put(&mut slots, name, Some(value)) else {
