@@ -1,5 +1,6 @@
 """Builds the Go programs. Debian's Go packages are for a GOPATH."""
 import os
+import shutil
 
 from benchmarks.measuring import OUT, SOURCES, TOP, called
 
@@ -9,9 +10,8 @@ GOPATH = f"{OUT}/gopath:/usr/share/gocode"
 def build_go(folder):
     """Builds the program that calls the archive in the folder, and returns it."""
     ours = f"{OUT}/gopath/src/github.com/ciderglen"
-    os.makedirs(ours, exist_ok=True)
-    if not os.path.islink(f"{ours}/ciderglen-go"):
-        os.symlink(f"{TOP}/bindings/go", f"{ours}/ciderglen-go")
+    # (a copy: rt ci refuses symbolic links in the repository)
+    shutil.copytree(f"{TOP}/bindings/go", f"{ours}/ciderglen-go", dirs_exist_ok=True)
     env = {"GO111MODULE": "off", "GOPATH": GOPATH, "CGO_CFLAGS": f"-I{TOP}/bindings/c", "CGO_LDFLAGS": f"-L{folder}"}
     called(["go", "build", "-o", f"{OUT}/go", f"{SOURCES}/go/main.go"], env=env)
     return f"{OUT}/go"
