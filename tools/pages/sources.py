@@ -131,7 +131,8 @@ class Crate:
         self.name, self.modules, self.about, self.tests = name, {}, {}, tests
         folder = os.path.join(TOP, "crates", name, "src")
         root = next(it for it in ("lib.rt", "main.rt") if os.path.exists(f"{folder}/{it}"))
-        self.is_program = root == "main.rt"
+        # (a test crate is a part of a program)
+        self.is_program = root == "main.rt" or name.startswith("oci_test_")
         self.read(folder, (), f"{folder}/{root}")
 
     def read(self, folder, module, path):

@@ -20,10 +20,10 @@ class Found:
 def check(root, documents, program=""):
     """What breaks rules in each (kind, platform, text) of a list; the text is one line of JSON. Without a program it is the one that
     `rt run` built, or else what `rt try` compiles, which may print 1 MiB: what some thousand documents break."""
-    built = os.path.join(root, "crates/oci_test_rules/out/oci_test_rules")
+    built = os.path.join(root, "crates/oci_tests/out/oci_tests")
     program = program or (built if os.path.exists(built) else "")
     lines = "".join(f"{kind} {platform or '-'} {' '.join(text.split(chr(10)))}\n" for kind, platform, text in documents)
-    words, folder = ([program, "list"], root) if program else (["rt", "try", "--seconds", "3000", "--", "list"], os.path.join(root, "crates/oci_test_rules"))
+    words, folder = ([program, "list"], root) if program else (["rt", "try", "--seconds", "3000", "--", "list"], os.path.join(root, "crates/oci_tests"))
     with tempfile.TemporaryFile("w+", encoding="utf-8") as given:
         given.write(lines)
         given.seek(0)

@@ -15,14 +15,16 @@ A file tools/rules/rows/KIND.rows, or KIND.PART.rows, has what is written by han
 A change is a JSON Merge Patch (RFC 7396), or a JSON Pointer (RFC 6901) and the value that is put there. Pointers are without the slash at
 the beginning.
 
-A row of crates/oci_test_rules/data/KIND.rows is three lines: the platform or `-`, the document, and what is listed, `RULE POINTER` with
+A row of crates/oci_tests/data/rules/KIND.rows is three lines: the platform or `-`, the document, and what is listed, `RULE POINTER` with
 two blanks between entries, or `-`.
 """
 import glob
 import json
 import os
 
-PROGRAM = "crates/oci_test_rules"
+import golden
+
+PROGRAM = "crates/oci_tests"
 # the files of rows that are written by hand, in the order of the program
 BY_HAND = ("restricted-container", "published-image", "each-test", "refused", "unknown", "twice")
 MARK = "# Written by tools/gen_rules from tools/rules/rows; do not edit.\n"
@@ -139,21 +141,21 @@ def lacking(model, rows):
 
 def texts(root):
     """The rows of texts, which are written by hand."""
-    with open(os.path.join(root, PROGRAM, "data/texts.rows"), encoding="utf-8") as file:
+    with open(os.path.join(root, PROGRAM, "data/rules/texts.rows"), encoding="utf-8") as file:
         return [line for line in file if line.strip() and not line.startswith("#")]
 
 
 def blocks(root, name):
     """The rows of policies and of lints, which are written by hand, with an empty line between them."""
-    with open(os.path.join(root, PROGRAM, f"data/{name}.rows"), encoding="utf-8") as file:
+    with open(os.path.join(root, PROGRAM, f"data/rules/{name}.rows"), encoding="utf-8") as file:
         return [it for it in file.read().strip().split("\n\n") if not it.startswith("#")]
 
 
 def written(root, rows, model):
-    """The data of the test program, a file a kind, and what it prints."""
-    out = {f"data/{kind}.rows": MARK + "".join("\n" + row.text() for row in of_kind) for kind, of_kind in rows.items()}
+    """The data of the test program, a file a kind, and what it prints of them."""
+    out = {f"data/rules/{kind}.rows": MARK + "".join("\n" + row.text() for row in of_kind) for kind, of_kind in rows.items()}
     counts = [*((kind, rows.get(kind, ())) for kind in model.kinds), ("texts", texts(root)), *((name, blocks(root, name)) for name in BY_HAND)]
-    out["stdout"] = "".join(f"{name}: {len(of_name)} rows\n" for name, of_name in counts)
+    out["stdout"] = golden.with_part(golden.read(), "rules", "".join(f"{name}: {len(of_name)} rows\n" for name, of_name in counts))
     return out
 
 

@@ -36,7 +36,7 @@ pub fn check_type<R: Print + AllocGlobal>(rt: &R) {
 }
 
 fn read<R: Files + AllocGlobal>(rt: &R, record: &str) -> Result<String> {
-    let path = format!(in rt.alloc(); "{record}.rows")?;
+    let path = format!(in rt.alloc(); "golden/{record}.rows")?;
     Ok(fs::read_to_string(rt, path.as_str())?)
 }
 

@@ -2,8 +2,8 @@
 //! reports that the program's own part was out of memory or could not open a file, and no more.
 
 use std::alloc::{AllocError, AllocFailed, Global};
+use std::io;
 use std::process::ExitCode;
-use std::{env, io};
 
 /// The program's own part failed. No error of the library is converted into this one.
 #[derive(Debug, Drop)]
@@ -62,14 +62,6 @@ pub fn words(alloc: Global, given: &[&str]) -> Result<Vec<String>, HarnessOutOfM
         words.push(String::from_str(alloc, word)?)?;
     }
     Ok(words)
-}
-
-/// Whether the first word behind the program's own name asks for this half; with no word each is asked for.
-pub fn asks_for(rt: &HostRuntime, half: &str) -> Result<bool, HarnessOutOfMemory> {
-    match env::args(rt)?.nth(1) {
-        Some(word) => Ok(word.as_str() == half),
-        None => Ok(true),
-    }
 }
 
 /// The status of a program that did its work, or gave up and reports so.

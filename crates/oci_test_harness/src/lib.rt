@@ -7,6 +7,6 @@ pub mod harness;
 pub mod rows;
 pub mod streams;
 
-pub use frame::{HarnessOutOfMemory, Sample, asks_for, exit, words};
+pub use frame::{HarnessOutOfMemory, Sample, exit, words};
 pub use harness::{Answer, Harness};
 pub use streams::{Input, Manner, Output};

@@ -1,11 +1,11 @@
-//! The rows of a table's file: `KIND VARIANT TEXT`, as the original crate has them.
+//! The rows of a file of `tables/`: `KIND VARIANT TEXT`, as the original crate has them.
 
 use anyhow::Result;
 use std::fs;
 
 /// The rows of a table.
 pub fn read(rt: &HostRuntime, table: &str) -> Result<String> {
-    let path = format!(in rt.alloc(); "{table}.rows")?;
+    let path = format!(in rt.alloc(); "tables/{table}.rows")?;
     Ok(fs::read_to_string(rt, path.as_str())?)
 }
 

@@ -4,7 +4,8 @@ use anyhow::{Context, Result};
 use serde_json::Value;
 use std::io::Read;
 
-/// Lists what breaks rules in each line's document.
+/// Reads `KIND PLATFORM DOCUMENT` from each line of standard input, and writes a line for each part that breaks a rule,
+/// `POINTER: RULE (LEVEL, SECTION): WANTED`, and an empty line behind each document.
 pub fn list(rt: &HostRuntime) -> Result<()> {
     let mut text = String::new(rt.alloc());
     rt.stdin().read_to_string(&mut text)?;

@@ -10,7 +10,7 @@ use std::rt::Files;
 /// Checks the rows of a policy over its file, and prints each that differs, and how many there are.
 pub fn check_policy<R: Files + Print + AllocGlobal>(rt: &R, name: &str) -> Result<()> {
     let rows = read(rt, name)?;
-    let path = format!(in rt.alloc(); "{name}.toml")?;
+    let path = format!(in rt.alloc(); "rules/{name}.toml")?;
     let text = fs::read_to_string(rt, path.as_str())?;
     let arena = Bump::new(rt.alloc());
     let policy = match Policy::from_toml(text.as_str(), &arena, rt.alloc()) {

@@ -18,7 +18,7 @@ pub fn rows<R: Files + Print + AllocGlobal>(rt: &R, file: &str) {
 
 /// The text of a file of rows.
 pub fn read<R: Files + AllocGlobal>(rt: &R, file: &str) -> Result<String> {
-    let path = format!(in rt.alloc(); "{file}.rows")?;
+    let path = format!(in rt.alloc(); "rules/{file}.rows")?;
     Ok(fs::read_to_string(rt, path.as_str())?)
 }
 

@@ -58,7 +58,7 @@ fn grammar_of(word: &str) -> Option<Grammar> {
 
 /// Checks the rows of texts, and prints each that differs, and how many there are.
 pub fn texts<R: Files + Print + AllocGlobal>(rt: &R) -> Result<()> {
-    let text = fs::read_to_string(rt, "texts.rows")?;
+    let text = fs::read_to_string(rt, "rules/texts.rows")?;
     let mut count = 0u64;
     for row in text.as_str().lines() {
         if !row.is_empty() && !row.starts_with('#') {

@@ -1,4 +1,4 @@
-//! References: limits of length, and the calls that take memory. The texts that are read are rows of commands in `oci_vectors`.
+//! References: limits of length, and the calls that take memory. The texts that are read are rows of commands in `oci_test_vectors`.
 
 use super::{check, check_is, repeated, string};
 use oci_image::{Descriptor, Digest, MediaType};

@@ -1,4 +1,4 @@
-//! The rows of the files of `data/`.
+//! The rows of the files of `vectors/`.
 
 use crate::{calls, vectors};
 use oci_test_harness::{Harness, HarnessOutOfMemory, Sample};

@@ -11,9 +11,9 @@ use oci_test_harness::{Harness, HarnessOutOfMemory, Sample};
 
 /// All groups of this half.
 pub fn run(harness: &mut Harness<'_>) -> Result<(), HarnessOutOfMemory> {
-    each(harness, "samples.rows", &Work::Calls)?;
-    each(harness, "documents.rows", &Work::Calls)?;
-    each(harness, "texts.rows", &Work::Commands)?;
+    each(harness, "vectors/samples.rows", &Work::Calls)?;
+    each(harness, "vectors/documents.rows", &Work::Calls)?;
+    each(harness, "vectors/texts.rows", &Work::Commands)?;
     harness.end("texts", "commands");
     files::all(harness)?;
     harness.end_calls();

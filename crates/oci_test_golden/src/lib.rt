@@ -1,14 +1,13 @@
-//! The program `oci_test_golden`: reads and writes the documents of `data/`, and prints how many rows of each record it checked.
+//! Golden documents: reads and writes the documents of `golden/`, and prints how many rows of each record it checked.
 //!
-//! `data/RECORD.rows` has the rows of a record, with an empty line between them. A row is a JSON text, of one line or more, and
+//! `golden/RECORD.rows` has the rows of a record, with an empty line between them. A row is a JSON text, of one line or more, and
 //! below it one line with what is read of it:
 //!
 //! - `= TEXT`, the compact text of the document;
 //! - `! RECORD.MEMBER`, the record and its member that reject the text; nothing follows the point if the whole is rejected.
 //!
 //! A text whose document is written as that of another one, as an empty list that is omitted, is no row. What begins with `#` is a
-//! remark and no row. A record more takes its file, a line of code below and a line of `stdout`. Before
-//! any proof: `rt try $(for it in data/*; do echo --data "${it#data/}=$it"; done)`.
+//! remark and no row. A record more takes its file, a line of code below and a line of the program's `stdout`.
 #![tactic(auto)]
 
 mod found;
@@ -124,14 +123,15 @@ fn containers<R: Files + Print + AllocGlobal>(rt: &R) {
     rows::<oci_runtime::ContainerProcessState, R>(rt, "ContainerProcessState");
 }
 
-fn main(rt: HostRuntime) {
-    image(&rt);
-    distribution(&rt);
-    control_groups(&rt);
-    linux(&rt);
-    process(&rt);
-    platforms(&rt);
-    features(&rt);
-    containers(&rt);
-    check_type(&rt);
+/// Checks the rows of all records.
+pub fn run(rt: &HostRuntime) {
+    image(rt);
+    distribution(rt);
+    control_groups(rt);
+    linux(rt);
+    process(rt);
+    platforms(rt);
+    features(rt);
+    containers(rt);
+    check_type(rt);
 }

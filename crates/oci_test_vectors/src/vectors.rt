@@ -10,10 +10,10 @@ use oci_test_harness::{Harness, HarnessOutOfMemory, Sample, words};
 
 /// All groups of this half.
 pub fn run(harness: &mut Harness<'_>) -> Result<(), HarnessOutOfMemory> {
-    each(harness, "samples.rows", &Work::Bytes)?;
-    each(harness, "documents.rows", &Work::Streams)?;
+    each(harness, "vectors/samples.rows", &Work::Bytes)?;
+    each(harness, "vectors/documents.rows", &Work::Streams)?;
     edges::all(harness);
-    each(harness, "commands.rows", &Work::Commands)?;
+    each(harness, "vectors/commands.rows", &Work::Commands)?;
     harness.end("commands", "rows");
     Ok(())
 }

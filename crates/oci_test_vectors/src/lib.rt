@@ -1,0 +1,23 @@
+//! Golden tests of the commands and robustness tests over documents, in two halves. They print how many cases of each group they ran,
+//! and each case that broke its rule. The numbers in `stdout` are computed from the inputs in `vectors/`: a document's row there has
+//! three lines, a kind, a text, and the compact text of its document; the rows of commands have marked lines (`vectors/commands.rt`).
+#![tactic(auto)]
+
+mod calls;
+mod command;
+mod rows;
+mod vectors;
+
+use oci_test_harness::{Harness, HarnessOutOfMemory};
+
+/// No allocation fails: commands and their results, row by row; documents cut and changed at each byte, and streams that give and take
+/// little, or fail, at each read, write and flush.
+pub fn run_vectors(rt: &HostRuntime) -> Result<(), HarnessOutOfMemory> {
+    vectors::run(&mut Harness::new(rt)?)
+}
+
+/// Each call on a document, each call on a file and each command that allocates: the baseline's result, or `Memory`. The baseline itself
+/// never has `Memory`; `tools/alloc_failures` makes these calls once for each allocation, with that one failing.
+pub fn run_calls(rt: &HostRuntime) -> Result<(), HarnessOutOfMemory> {
+    calls::run(&mut Harness::new(rt)?)
+}
