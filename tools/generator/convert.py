@@ -106,6 +106,7 @@ def conversions(r):
     well = f"Prim.search ({', '.join(lemmas)})" if lemmas else "Prim.search"
     copies = "        Ok(*self)\n" if r.copy else record_of(r, [m.copies() for m in r.members])
     alloc = "alloc" if "alloc" in copies else "_alloc"
+    writes = "".join(f"        {m.writes()};\n" for m in r.members)
     return f"""impl OciRecord for {r.name} {{
 {law_imports(r, same, well)}
     ghost shape = {{ {r.word} }};
@@ -113,9 +114,8 @@ def conversions(r):
     ghost plain = {{ {r.word}_plain }};
 
 {consuming(r) if r.consuming else borrowing(r)}    fn to_value(&self, alloc: Global) -> Result<Value> {{
-        let mut members = Map::new(alloc);
-        {together([m.writes() for m in r.members])}?;
-        Ok(Value::Object(members))
+        let mut members = ObjectWriter::new(alloc);
+{writes}        members.object()
     }}
 
     fn duplicate(&self, {alloc}: Global) -> Result<{r.name}> {{

@@ -16,7 +16,7 @@ KIND_CRATES = {"Caps": "oci_process_names", "CpuTexts": "oci_process_names"}
 
 def model_calls(body):
     """What a body takes from `oci_json_model`."""
-    return ["OciMember"] * (".copy(alloc)" in body) + called_in(MODEL_CALLS, body) + used(JOINS + TAKES, body)
+    return ["OciMember"] * (".copy(alloc)" in body) + called_in(MODEL_CALLS, body) + used(["ObjectWriter"] + JOINS + TAKES, body)
 
 
 def imports(r, body, schema):

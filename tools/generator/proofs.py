@@ -1,5 +1,4 @@
 """The proof answers of long records, which the search does not find."""
-from generator.calls import SHAPES
 from generator.records import READ, WRITE
 from generator.text import called, groups, imported, used
 
@@ -40,58 +39,33 @@ returns-clause-ok c =
 
 
 def write_answers(r):
-    """The answer for what a long record writes, member by member from the last."""
+    """The answers for what a long record writes, member by member from the last: its object, and that it fits its shape."""
     calls = called(["write_optional_as" if m.type.kind else "write_" + WRITE[m.presence] for m in r.members])
-    of = {it: f"done _ _ _ {word}.{at} c.{it}.ensures.ok" for _, word, group in parts(calls) for at, it in enumerate(group)}
+    count = len(calls)
+    lets = "".join(f"    let told_{at} = c.{calls[at]}.ensures.ok {f'told_{at + 1}.0.0' if at + 1 < count else 'none'} in\n" for at in reversed(range(count)))
     puts = [f'with_member (codes "{m.name}") _' if m.optional else f'put (codes "{m.name}") _' for m in r.members]
-    lines = "".join(f"    {of[it]} ∙ ap ({put}) (\n" for it, put in reversed(list(zip(calls, puts))))
+    lines = "".join(f"    told_{at}.0.1 ∙ ap ({puts[at]}) (\n" for at in reversed(range(count)))
+    fits = "".join(f"(told_{at}.1, " for at in range(count))
+    refused = "".join(f"    let is_{at} = before _ _ _ _ (c.{calls[at]}.ensures.err e {f'is_{at + 1}' if at + 1 < count else 'is'}) schema written{'.1' * at}.0 in\n"
+                      for at in reversed(range(count)))
     data = ", ".join(["object"] + used(["put"], lines))
-    # of up to three groups of five, the search finds the rest
-    wide, more = wide_answers(r, calls) if len(calls) > 15 else ("", "")
-    return f"""use Rattle.std.proofs.Common.{{codes, ap, {'refl, Err, ' * bool(wide)}◌∙◌}}
+    return f"""-- What is written without an error, and why there is one.
+use Rattle.std.proofs.Common.{{codes, ap, refl, sym, ◌∙◌}}
 use Rattle.serde_json.specs.Data.{{{data}}}
-use Rattle.serde_json.specs.View.{{members_view}}
-use Rattle.serde_json.proofs.Views.{{view-Object}}
 use Rattle.oci_json_model.specs.Value.{{with_member}}
-use Rattle.oci_json_model.proofs.Together.{{{'answered, ' * (len(calls) > 5)}done}}
-{more}use Rattle.{r.book.crate}.proofs.{r.word}.{r.name}OciRecord.to_value.Goals as goal
+use Rattle.oci_json_model.proofs.Unfaulted.{{before, refused, unfaulted, unfaulted_view}}
+use Rattle.{r.book.crate}.proofs.{r.word}.{r.name}OciRecord.to_value.Goals as goal
 
 pub returns-clause-ok : goal.returns-clause-ok
-returns-clause-ok c =
-{known(calls, f"in_ok-try_join{len(parts(calls)) if len(calls) > 5 else len(calls)}")}    view-Object _ ∙ ap object (
-{lines}    ap members_view c.new-members.ensures.empty{")" * (len(calls) + 1)}
-{wide}"""
+returns-clause-ok c = unfaulted_view _ _ _ _ c.object.ensures.ok (λ none.
+{lets}    ap object (
+{lines}    c.new-members.ensures.members{")" * (count + 1)})
 
-
-def wide_answers(r, calls):
-    """The answers for a record of more than fifteen members: what is written fits, and why it fails; and their imports."""
-    split, count = parts(calls), len(parts(calls))
-    names = called([f"try_join{len(group)}" for _, _, group in split] + [f"try_join{count}"])
-    fits = "".join(f"    (done _ _ _ {word}.{at} c.{it}.ensures.fits,\n" for _, word, group in split for at, it in enumerate(group))
-    refused, at = "", 0
-    for (_, _, group), name in zip(split, names):
-        told = ""
-        for it in group:
-            told += f" (weaker _ _ _ c.{it}.ensures.err (λ w. w{'.1' * at}.0))"
-            at += 1
-        refused += f"    (each_{len(group)} Refuses{' _' * len(group)} _{told} c.{name}.ensures.err)\n"
-    used_each = sorted({f"each_{len(group)}" for _, _, group in split} | {f"each_{count}"})
-    return f"""
 pub returns-clause-fits : goal.returns-clause-fits
-returns-clause-fits c =
-{known(calls, f"in_ok-try_join{count}")}    (_, refl,
-{fits}    tt{")" * (len(calls) + 1)}
+returns-clause-fits c = unfaulted _ _ _ _ c.object.ensures.ok (λ none.
+{lets}    (_, refl, {fits}tt{")" * (count + 2)}
 
-pub returns-in_err-try_join{count}-clause-err : goal.returns-in_err-try_join{count}-clause-err
-returns-in_err-try_join{count}-clause-err c =
-    let Refuses : OciSpecError → Type 0 = λ e. IsSchema e → ¬ Writable {r.word} ({r.word}_plain c.args.self.now) in
-    exits _ _ _ c.from_residual.ensures.1 (each_{count} {{T = OciSpecError}} Refuses{' _' * count} (Err _)
-{refused}    c.in_err-try_join{count}.ensures.err)
-""", f"""use Rattle.oci_json_model.proofs.Lists.{{exits}}
-use Rattle.oci_text_base.specs.Refused.{{IsSchema}}
-use Rattle.oci_text_base.specs.declared.error.OciSpecError.{{OciSpecError}}
-use Rattle.oci_json_model.specs.Writable.{{Writable}}
-use Rattle.{SHAPES}.specs.{r.name}.{{{r.word}}}
-use Rattle.{r.book.crate}.specs.{r.name}.{{{r.word}_plain}}
-use Rattle.oci_json_model.proofs.Refusals.{{{', '.join(used_each)}, weaker}}
+pub returns-clause-err : goal.returns-clause-err
+returns-clause-err c = refused _ _ _ c.object.ensures.err (λ e is schema written.
+{refused}    sym c.new-members.ensures.fault ∙ is_0)
 """

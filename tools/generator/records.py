@@ -140,8 +140,8 @@ class Member:
 
     def writes(self):
         if self.type.kind:
-            return f'write_optional_as::<{self.type.kind}, {self.type.rust}>(&mut members, alloc, NAME, "{self.name}", &self.{self.field})'
-        return f'write_{WRITE[self.presence]}(&mut members, alloc, "{self.name}", &self.{self.field})'
+            return f'write_optional_as::<{self.type.kind}, {self.type.rust}>(&mut members, NAME, "{self.name}", &self.{self.field})'
+        return f'write_{WRITE[self.presence]}(&mut members, "{self.name}", &self.{self.field})'
 
     def copies(self):
         """How the member is copied; nothing where its type is Copy, so that the field itself is one."""

@@ -144,7 +144,7 @@ def reexports(r):
 
 
 def std_imports(r, body):
-    out = "use serde_json::{Map, Value};\nuse std::alloc::Global;\n"
+    out = "use serde_json::Value;\nuse std::alloc::Global;\n"
     for word in ("BTreeMap", "HashSet"):
         out += f"use std::collections::{word};\n" * (word in body)
     if r.display:

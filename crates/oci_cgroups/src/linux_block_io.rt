@@ -5,11 +5,11 @@ ghost use Rattle.std.specs.Prelude.{◌≡◌, IfOk, IfErr};
 use crate::linux_throttle_device::LinuxThrottleDevice;
 use crate::linux_weight_device::LinuxWeightDevice;
 use oci_json_model::{
-    OciRecord, copy_optional, fault, optional, try_join2, try_join3, try_join4, try_join5,
-    write_optional,
+    ObjectWriter, OciRecord, copy_optional, fault, optional, try_join2, try_join3, try_join4,
+    try_join5, write_optional,
 };
 use oci_text_base::{OciSpecError, Result};
-use serde_json::{Map, Value};
+use serde_json::Value;
 use std::alloc::Global;
 
 const NAME: &str = "LinuxBlockIo";
@@ -238,41 +238,31 @@ impl OciRecord for LinuxBlockIo {
     }
 
     fn to_value(&self, alloc: Global) -> Result<Value> {
-        let mut members = Map::new(alloc);
-        try_join2(
-            try_join4(
-                write_optional(&mut members, alloc, "weight", &self.weight),
-                write_optional(&mut members, alloc, "leafWeight", &self.leaf_weight),
-                write_optional(&mut members, alloc, "weightDevice", &self.weight_device),
-                write_optional(
-                    &mut members,
-                    alloc,
-                    "throttleReadBpsDevice",
-                    &self.throttle_read_bps_device,
-                ),
-            ),
-            try_join3(
-                write_optional(
-                    &mut members,
-                    alloc,
-                    "throttleWriteBpsDevice",
-                    &self.throttle_write_bps_device,
-                ),
-                write_optional(
-                    &mut members,
-                    alloc,
-                    "throttleReadIOPSDevice",
-                    &self.throttle_read_iops_device,
-                ),
-                write_optional(
-                    &mut members,
-                    alloc,
-                    "throttleWriteIOPSDevice",
-                    &self.throttle_write_iops_device,
-                ),
-            ),
-        )?;
-        Ok(Value::Object(members))
+        let mut members = ObjectWriter::new(alloc);
+        write_optional(&mut members, "weight", &self.weight);
+        write_optional(&mut members, "leafWeight", &self.leaf_weight);
+        write_optional(&mut members, "weightDevice", &self.weight_device);
+        write_optional(
+            &mut members,
+            "throttleReadBpsDevice",
+            &self.throttle_read_bps_device,
+        );
+        write_optional(
+            &mut members,
+            "throttleWriteBpsDevice",
+            &self.throttle_write_bps_device,
+        );
+        write_optional(
+            &mut members,
+            "throttleReadIOPSDevice",
+            &self.throttle_read_iops_device,
+        );
+        write_optional(
+            &mut members,
+            "throttleWriteIOPSDevice",
+            &self.throttle_write_iops_device,
+        );
+        members.object()
     }
 
     fn duplicate(&self, alloc: Global) -> Result<LinuxBlockIo> {

@@ -6,10 +6,11 @@ pub mod builder;
 
 pub use builder::LinuxCpuBuilder;
 use oci_json_model::{
-    OciRecord, copy_optional, fault, optional, try_join2, try_join4, try_join5, write_optional,
+    ObjectWriter, OciRecord, copy_optional, fault, optional, try_join2, try_join4, try_join5,
+    write_optional,
 };
 use oci_text_base::{OciSpecError, Result};
-use serde_json::{Map, Value};
+use serde_json::Value;
 use std::alloc::Global;
 
 const NAME: &str = "LinuxCpu";
@@ -266,28 +267,17 @@ impl OciRecord for LinuxCpu {
     }
 
     fn to_value(&self, alloc: Global) -> Result<Value> {
-        let mut members = Map::new(alloc);
-        try_join2(
-            try_join5(
-                write_optional(&mut members, alloc, "shares", &self.shares),
-                write_optional(&mut members, alloc, "quota", &self.quota),
-                write_optional(&mut members, alloc, "idle", &self.idle),
-                write_optional(&mut members, alloc, "burst", &self.burst),
-                write_optional(&mut members, alloc, "period", &self.period),
-            ),
-            try_join4(
-                write_optional(
-                    &mut members,
-                    alloc,
-                    "realtimeRuntime",
-                    &self.realtime_runtime,
-                ),
-                write_optional(&mut members, alloc, "realtimePeriod", &self.realtime_period),
-                write_optional(&mut members, alloc, "cpus", &self.cpus),
-                write_optional(&mut members, alloc, "mems", &self.mems),
-            ),
-        )?;
-        Ok(Value::Object(members))
+        let mut members = ObjectWriter::new(alloc);
+        write_optional(&mut members, "shares", &self.shares);
+        write_optional(&mut members, "quota", &self.quota);
+        write_optional(&mut members, "idle", &self.idle);
+        write_optional(&mut members, "burst", &self.burst);
+        write_optional(&mut members, "period", &self.period);
+        write_optional(&mut members, "realtimeRuntime", &self.realtime_runtime);
+        write_optional(&mut members, "realtimePeriod", &self.realtime_period);
+        write_optional(&mut members, "cpus", &self.cpus);
+        write_optional(&mut members, "mems", &self.mems);
+        members.object()
     }
 
     fn duplicate(&self, alloc: Global) -> Result<LinuxCpu> {

@@ -4,11 +4,12 @@ ghost use Rattle.std.specs.Prelude.{◌≡◌, IfOk, IfErr};
 
 use oci_json_members::{defaulted, nullable, write_nullable};
 use oci_json_model::{
-    OciRecord, copy_optional, fault, optional, try_join5, write_optional, write_required,
+    ObjectWriter, OciRecord, copy_optional, fault, optional, try_join5, write_optional,
+    write_required,
 };
 use oci_linux_names::LinuxDeviceType;
 use oci_text_base::{OciSpecError, Result};
-use serde_json::{Map, Value};
+use serde_json::Value;
 use std::alloc::Global;
 
 const NAME: &str = "LinuxDeviceCgroup";
@@ -216,15 +217,13 @@ impl OciRecord for LinuxDeviceCgroup {
     }
 
     fn to_value(&self, alloc: Global) -> Result<Value> {
-        let mut members = Map::new(alloc);
-        try_join5(
-            write_required(&mut members, alloc, "allow", &self.allow),
-            write_optional(&mut members, alloc, "type", &self.typ),
-            write_optional(&mut members, alloc, "major", &self.major),
-            write_optional(&mut members, alloc, "minor", &self.minor),
-            write_nullable(&mut members, alloc, "access", &self.access),
-        )?;
-        Ok(Value::Object(members))
+        let mut members = ObjectWriter::new(alloc);
+        write_required(&mut members, "allow", &self.allow);
+        write_optional(&mut members, "type", &self.typ);
+        write_optional(&mut members, "major", &self.major);
+        write_optional(&mut members, "minor", &self.minor);
+        write_nullable(&mut members, "access", &self.access);
+        members.object()
     }
 
     fn duplicate(&self, alloc: Global) -> Result<LinuxDeviceCgroup> {

@@ -3,9 +3,9 @@
 ghost use Rattle.std.specs.Prelude.{◌≡◌, IfOk, IfErr};
 
 use oci_json_members::defaulted;
-use oci_json_model::{OciMember, OciRecord, fault, try_join2, write_required};
+use oci_json_model::{ObjectWriter, OciMember, OciRecord, fault, try_join2, write_required};
 use oci_text_base::{OciSpecError, Result};
-use serde_json::{Map, Value};
+use serde_json::Value;
 use std::alloc::Global;
 
 const NAME: &str = "LinuxHugepageLimit";
@@ -102,12 +102,10 @@ impl OciRecord for LinuxHugepageLimit {
     }
 
     fn to_value(&self, alloc: Global) -> Result<Value> {
-        let mut members = Map::new(alloc);
-        try_join2(
-            write_required(&mut members, alloc, "pageSize", &self.page_size),
-            write_required(&mut members, alloc, "limit", &self.limit),
-        )?;
-        Ok(Value::Object(members))
+        let mut members = ObjectWriter::new(alloc);
+        write_required(&mut members, "pageSize", &self.page_size);
+        write_required(&mut members, "limit", &self.limit);
+        members.object()
     }
 
     fn duplicate(&self, alloc: Global) -> Result<LinuxHugepageLimit> {

@@ -5,9 +5,11 @@ ghost use Rattle.std.specs.Prelude.{◌≡◌, IfOk, IfErr};
 pub mod builder;
 
 pub use builder::LinuxMemoryBuilder;
-use oci_json_model::{OciRecord, fault, optional, try_join2, try_join4, try_join5, write_optional};
+use oci_json_model::{
+    ObjectWriter, OciRecord, fault, optional, try_join2, try_join4, try_join5, write_optional,
+};
 use oci_text_base::{OciSpecError, Result};
-use serde_json::{Map, Value};
+use serde_json::Value;
 use std::alloc::Global;
 
 const NAME: &str = "LinuxMemory";
@@ -246,33 +248,17 @@ impl OciRecord for LinuxMemory {
     }
 
     fn to_value(&self, alloc: Global) -> Result<Value> {
-        let mut members = Map::new(alloc);
-        try_join2(
-            try_join5(
-                write_optional(&mut members, alloc, "limit", &self.limit),
-                write_optional(&mut members, alloc, "reservation", &self.reservation),
-                write_optional(&mut members, alloc, "swap", &self.swap),
-                write_optional(&mut members, alloc, "kernel", &self.kernel),
-                write_optional(&mut members, alloc, "kernelTCP", &self.kernel_tcp),
-            ),
-            try_join4(
-                write_optional(&mut members, alloc, "swappiness", &self.swappiness),
-                write_optional(
-                    &mut members,
-                    alloc,
-                    "disableOOMKiller",
-                    &self.disable_oom_killer,
-                ),
-                write_optional(&mut members, alloc, "useHierarchy", &self.use_hierarchy),
-                write_optional(
-                    &mut members,
-                    alloc,
-                    "checkBeforeUpdate",
-                    &self.check_before_update,
-                ),
-            ),
-        )?;
-        Ok(Value::Object(members))
+        let mut members = ObjectWriter::new(alloc);
+        write_optional(&mut members, "limit", &self.limit);
+        write_optional(&mut members, "reservation", &self.reservation);
+        write_optional(&mut members, "swap", &self.swap);
+        write_optional(&mut members, "kernel", &self.kernel);
+        write_optional(&mut members, "kernelTCP", &self.kernel_tcp);
+        write_optional(&mut members, "swappiness", &self.swappiness);
+        write_optional(&mut members, "disableOOMKiller", &self.disable_oom_killer);
+        write_optional(&mut members, "useHierarchy", &self.use_hierarchy);
+        write_optional(&mut members, "checkBeforeUpdate", &self.check_before_update);
+        members.object()
     }
 
     fn duplicate(&self, _alloc: Global) -> Result<LinuxMemory> {

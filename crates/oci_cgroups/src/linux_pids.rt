@@ -3,9 +3,9 @@
 ghost use Rattle.std.specs.Prelude.{◌≡◌, IfOk, IfErr};
 
 use oci_json_members::defaulted;
-use oci_json_model::{OciRecord, fault, write_required};
+use oci_json_model::{ObjectWriter, OciRecord, fault, write_required};
 use oci_text_base::{OciSpecError, Result};
-use serde_json::{Map, Value};
+use serde_json::Value;
 use std::alloc::Global;
 
 const NAME: &str = "LinuxPids";
@@ -73,9 +73,9 @@ impl OciRecord for LinuxPids {
     }
 
     fn to_value(&self, alloc: Global) -> Result<Value> {
-        let mut members = Map::new(alloc);
-        write_required(&mut members, alloc, "limit", &self.limit)?;
-        Ok(Value::Object(members))
+        let mut members = ObjectWriter::new(alloc);
+        write_required(&mut members, "limit", &self.limit);
+        members.object()
     }
 
     fn duplicate(&self, _alloc: Global) -> Result<LinuxPids> {

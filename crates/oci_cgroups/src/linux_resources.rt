@@ -13,11 +13,11 @@ use crate::linux_pids::LinuxPids;
 pub use builder::LinuxResourcesBuilder;
 use oci_cgroups_network::{LinuxNetwork, LinuxRdma};
 use oci_json_model::{
-    OciRecord, copy_optional, fault, optional, try_join2, try_join3, try_join4, try_join5,
-    write_optional,
+    ObjectWriter, OciRecord, copy_optional, fault, optional, try_join2, try_join3, try_join4,
+    try_join5, write_optional,
 };
 use oci_text_base::{OciSpecError, Result};
-use serde_json::{Map, Value};
+use serde_json::Value;
 use std::alloc::Global;
 use std::collections::BTreeMap;
 
@@ -357,23 +357,17 @@ impl OciRecord for LinuxResources {
     }
 
     fn to_value(&self, alloc: Global) -> Result<Value> {
-        let mut members = Map::new(alloc);
-        try_join2(
-            try_join5(
-                write_optional(&mut members, alloc, "devices", &self.devices),
-                write_optional(&mut members, alloc, "memory", &self.memory),
-                write_optional(&mut members, alloc, "cpu", &self.cpu),
-                write_optional(&mut members, alloc, "pids", &self.pids),
-                write_optional(&mut members, alloc, "blockIO", &self.block_io),
-            ),
-            try_join4(
-                write_optional(&mut members, alloc, "hugepageLimits", &self.hugepage_limits),
-                write_optional(&mut members, alloc, "network", &self.network),
-                write_optional(&mut members, alloc, "rdma", &self.rdma),
-                write_optional(&mut members, alloc, "unified", &self.unified),
-            ),
-        )?;
-        Ok(Value::Object(members))
+        let mut members = ObjectWriter::new(alloc);
+        write_optional(&mut members, "devices", &self.devices);
+        write_optional(&mut members, "memory", &self.memory);
+        write_optional(&mut members, "cpu", &self.cpu);
+        write_optional(&mut members, "pids", &self.pids);
+        write_optional(&mut members, "blockIO", &self.block_io);
+        write_optional(&mut members, "hugepageLimits", &self.hugepage_limits);
+        write_optional(&mut members, "network", &self.network);
+        write_optional(&mut members, "rdma", &self.rdma);
+        write_optional(&mut members, "unified", &self.unified);
+        members.object()
     }
 
     fn duplicate(&self, alloc: Global) -> Result<LinuxResources> {

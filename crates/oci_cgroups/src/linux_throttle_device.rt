@@ -3,9 +3,9 @@
 ghost use Rattle.std.specs.Prelude.{◌≡◌, IfOk, IfErr};
 
 use oci_json_members::defaulted;
-use oci_json_model::{OciRecord, fault, try_join3, write_required};
+use oci_json_model::{ObjectWriter, OciRecord, fault, try_join3, write_required};
 use oci_text_base::{OciSpecError, Result};
-use serde_json::{Map, Value};
+use serde_json::Value;
 use std::alloc::Global;
 
 const NAME: &str = "LinuxThrottleDevice";
@@ -87,13 +87,11 @@ impl OciRecord for LinuxThrottleDevice {
     }
 
     fn to_value(&self, alloc: Global) -> Result<Value> {
-        let mut members = Map::new(alloc);
-        try_join3(
-            write_required(&mut members, alloc, "major", &self.major),
-            write_required(&mut members, alloc, "minor", &self.minor),
-            write_required(&mut members, alloc, "rate", &self.rate),
-        )?;
-        Ok(Value::Object(members))
+        let mut members = ObjectWriter::new(alloc);
+        write_required(&mut members, "major", &self.major);
+        write_required(&mut members, "minor", &self.minor);
+        write_required(&mut members, "rate", &self.rate);
+        members.object()
     }
 
     fn duplicate(&self, _alloc: Global) -> Result<LinuxThrottleDevice> {

@@ -3,9 +3,11 @@
 ghost use Rattle.std.specs.Prelude.{◌≡◌, IfOk, IfErr};
 
 use oci_json_members::defaulted;
-use oci_json_model::{OciRecord, fault, optional, try_join4, write_optional, write_required};
+use oci_json_model::{
+    ObjectWriter, OciRecord, fault, optional, try_join4, write_optional, write_required,
+};
 use oci_text_base::{OciSpecError, Result};
-use serde_json::{Map, Value};
+use serde_json::Value;
 use std::alloc::Global;
 
 const NAME: &str = "LinuxWeightDevice";
@@ -104,14 +106,12 @@ impl OciRecord for LinuxWeightDevice {
     }
 
     fn to_value(&self, alloc: Global) -> Result<Value> {
-        let mut members = Map::new(alloc);
-        try_join4(
-            write_required(&mut members, alloc, "major", &self.major),
-            write_required(&mut members, alloc, "minor", &self.minor),
-            write_optional(&mut members, alloc, "weight", &self.weight),
-            write_optional(&mut members, alloc, "leafWeight", &self.leaf_weight),
-        )?;
-        Ok(Value::Object(members))
+        let mut members = ObjectWriter::new(alloc);
+        write_required(&mut members, "major", &self.major);
+        write_required(&mut members, "minor", &self.minor);
+        write_optional(&mut members, "weight", &self.weight);
+        write_optional(&mut members, "leafWeight", &self.leaf_weight);
+        members.object()
     }
 
     fn duplicate(&self, _alloc: Global) -> Result<LinuxWeightDevice> {

@@ -3,9 +3,9 @@
 ghost use Rattle.std.specs.Prelude.{◌≡◌, IfOk, IfErr};
 
 use oci_json_members::defaulted;
-use oci_json_model::{OciMember, OciRecord, fault, try_join2, write_required};
+use oci_json_model::{ObjectWriter, OciMember, OciRecord, fault, try_join2, write_required};
 use oci_text_base::{OciSpecError, Result};
-use serde_json::{Map, Value};
+use serde_json::Value;
 use std::alloc::Global;
 
 const NAME: &str = "LinuxInterfacePriority";
@@ -101,12 +101,10 @@ impl OciRecord for LinuxInterfacePriority {
     }
 
     fn to_value(&self, alloc: Global) -> Result<Value> {
-        let mut members = Map::new(alloc);
-        try_join2(
-            write_required(&mut members, alloc, "name", &self.name),
-            write_required(&mut members, alloc, "priority", &self.priority),
-        )?;
-        Ok(Value::Object(members))
+        let mut members = ObjectWriter::new(alloc);
+        write_required(&mut members, "name", &self.name);
+        write_required(&mut members, "priority", &self.priority);
+        members.object()
     }
 
     fn duplicate(&self, alloc: Global) -> Result<LinuxInterfacePriority> {

@@ -3,9 +3,11 @@
 ghost use Rattle.std.specs.Prelude.{◌≡◌, IfOk, IfErr};
 
 use crate::linux_interface_priority::LinuxInterfacePriority;
-use oci_json_model::{OciRecord, copy_optional, fault, optional, try_join2, write_optional};
+use oci_json_model::{
+    ObjectWriter, OciRecord, copy_optional, fault, optional, try_join2, write_optional,
+};
 use oci_text_base::{OciSpecError, Result};
-use serde_json::{Map, Value};
+use serde_json::Value;
 use std::alloc::Global;
 
 const NAME: &str = "LinuxNetwork";
@@ -108,12 +110,10 @@ impl OciRecord for LinuxNetwork {
     }
 
     fn to_value(&self, alloc: Global) -> Result<Value> {
-        let mut members = Map::new(alloc);
-        try_join2(
-            write_optional(&mut members, alloc, "classID", &self.class_id),
-            write_optional(&mut members, alloc, "priorities", &self.priorities),
-        )?;
-        Ok(Value::Object(members))
+        let mut members = ObjectWriter::new(alloc);
+        write_optional(&mut members, "classID", &self.class_id);
+        write_optional(&mut members, "priorities", &self.priorities);
+        members.object()
     }
 
     fn duplicate(&self, alloc: Global) -> Result<LinuxNetwork> {

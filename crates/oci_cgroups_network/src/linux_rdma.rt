@@ -2,9 +2,9 @@
 //! What a container may use of one device for remote direct memory access (runtime specification, "Linux Container Configuration", "RDMA").
 ghost use Rattle.std.specs.Prelude.{◌≡◌, IfOk, IfErr};
 
-use oci_json_model::{OciRecord, fault, optional, try_join2, write_optional};
+use oci_json_model::{ObjectWriter, OciRecord, fault, optional, try_join2, write_optional};
 use oci_text_base::{OciSpecError, Result};
-use serde_json::{Map, Value};
+use serde_json::Value;
 use std::alloc::Global;
 
 const NAME: &str = "LinuxRdma";
@@ -97,12 +97,10 @@ impl OciRecord for LinuxRdma {
     }
 
     fn to_value(&self, alloc: Global) -> Result<Value> {
-        let mut members = Map::new(alloc);
-        try_join2(
-            write_optional(&mut members, alloc, "hcaHandles", &self.hca_handles),
-            write_optional(&mut members, alloc, "hcaObjects", &self.hca_objects),
-        )?;
-        Ok(Value::Object(members))
+        let mut members = ObjectWriter::new(alloc);
+        write_optional(&mut members, "hcaHandles", &self.hca_handles);
+        write_optional(&mut members, "hcaObjects", &self.hca_objects);
+        members.object()
     }
 
     fn duplicate(&self, _alloc: Global) -> Result<LinuxRdma> {

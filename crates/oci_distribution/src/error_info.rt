@@ -4,12 +4,12 @@ ghost use Rattle.std.specs.Prelude.{◌≡◌, IfOk, IfErr};
 
 use oci_json_members::{Detail, copy_optional_as, optional_as, write_optional_as};
 use oci_json_model::{
-    OciMember, OciRecord, copy_optional, fault, optional, required, try_join3, write_optional,
-    write_required,
+    ObjectWriter, OciMember, OciRecord, copy_optional, fault, optional, required, try_join3,
+    write_optional, write_required,
 };
 use oci_text::ErrorCode;
 use oci_text_base::{OciSpecError, Result, UninitializedFieldError};
-use serde_json::{Map, Value};
+use serde_json::Value;
 use std::alloc::Global;
 
 const NAME: &str = "ErrorInfo";
@@ -93,13 +93,11 @@ impl OciRecord for ErrorInfo {
     }
 
     fn to_value(&self, alloc: Global) -> Result<Value> {
-        let mut members = Map::new(alloc);
-        try_join3(
-            write_required(&mut members, alloc, "code", &self.code),
-            write_optional(&mut members, alloc, "message", &self.message),
-            write_optional_as::<Detail, String>(&mut members, alloc, NAME, "detail", &self.detail),
-        )?;
-        Ok(Value::Object(members))
+        let mut members = ObjectWriter::new(alloc);
+        write_required(&mut members, "code", &self.code);
+        write_optional(&mut members, "message", &self.message);
+        write_optional_as::<Detail, String>(&mut members, NAME, "detail", &self.detail);
+        members.object()
     }
 
     fn duplicate(&self, alloc: Global) -> Result<ErrorInfo> {

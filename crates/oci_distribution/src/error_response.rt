@@ -5,10 +5,10 @@ ghost use Rattle.std.specs.Prelude.{◌≡◌, IfOk, IfErr};
 mod own;
 
 use crate::error_info::ErrorInfo;
-use oci_json_model::{OciMember, OciRecord, fault, required, write_required};
+use oci_json_model::{ObjectWriter, OciMember, OciRecord, fault, required, write_required};
 use oci_text_base::{OciSpecError, Result, UninitializedFieldError};
 pub use own::ERR_REGISTRY;
-use serde_json::{Map, Value};
+use serde_json::Value;
 use std::alloc::Global;
 
 const NAME: &str = "ErrorResponse";
@@ -65,9 +65,9 @@ impl OciRecord for ErrorResponse {
     }
 
     fn to_value(&self, alloc: Global) -> Result<Value> {
-        let mut members = Map::new(alloc);
-        write_required(&mut members, alloc, "errors", &self.errors)?;
-        Ok(Value::Object(members))
+        let mut members = ObjectWriter::new(alloc);
+        write_required(&mut members, "errors", &self.errors);
+        members.object()
     }
 
     fn duplicate(&self, alloc: Global) -> Result<ErrorResponse> {

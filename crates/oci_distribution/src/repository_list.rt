@@ -2,9 +2,9 @@
 //! The repositories of a registry (distribution specification, "Listing Repositories").
 ghost use Rattle.std.specs.Prelude.{◌≡◌, IfOk, IfErr};
 
-use oci_json_model::{OciMember, OciRecord, fault, required, write_required};
+use oci_json_model::{ObjectWriter, OciMember, OciRecord, fault, required, write_required};
 use oci_text_base::{OciSpecError, Result, UninitializedFieldError};
-use serde_json::{Map, Value};
+use serde_json::Value;
 use std::alloc::Global;
 
 const NAME: &str = "RepositoryList";
@@ -69,9 +69,9 @@ impl OciRecord for RepositoryList {
     }
 
     fn to_value(&self, alloc: Global) -> Result<Value> {
-        let mut members = Map::new(alloc);
-        write_required(&mut members, alloc, "repositories", &self.repositories)?;
-        Ok(Value::Object(members))
+        let mut members = ObjectWriter::new(alloc);
+        write_required(&mut members, "repositories", &self.repositories);
+        members.object()
     }
 
     fn duplicate(&self, alloc: Global) -> Result<RepositoryList> {

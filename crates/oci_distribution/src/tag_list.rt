@@ -2,9 +2,11 @@
 //! The tags of a repository (distribution specification, "Listing Tags").
 ghost use Rattle.std.specs.Prelude.{◌≡◌, IfOk, IfErr};
 
-use oci_json_model::{OciMember, OciRecord, fault, required, try_join2, write_required};
+use oci_json_model::{
+    ObjectWriter, OciMember, OciRecord, fault, required, try_join2, write_required,
+};
 use oci_text_base::{OciSpecError, Result, UninitializedFieldError};
-use serde_json::{Map, Value};
+use serde_json::Value;
 use std::alloc::Global;
 
 const NAME: &str = "TagList";
@@ -88,12 +90,10 @@ impl OciRecord for TagList {
     }
 
     fn to_value(&self, alloc: Global) -> Result<Value> {
-        let mut members = Map::new(alloc);
-        try_join2(
-            write_required(&mut members, alloc, "name", &self.name),
-            write_required(&mut members, alloc, "tags", &self.tags),
-        )?;
-        Ok(Value::Object(members))
+        let mut members = ObjectWriter::new(alloc);
+        write_required(&mut members, "name", &self.name);
+        write_required(&mut members, "tags", &self.tags);
+        members.object()
     }
 
     fn duplicate(&self, alloc: Global) -> Result<TagList> {

@@ -3,9 +3,9 @@
 ghost use Rattle.std.specs.Prelude.{◌≡◌, IfOk, IfErr};
 
 use oci_json_members::{nullable, write_nullable};
-use oci_json_model::{OciRecord, fault, try_join5};
+use oci_json_model::{ObjectWriter, OciRecord, fault, try_join5};
 use oci_text_base::{OciSpecError, Result};
-use serde_json::{Map, Value};
+use serde_json::Value;
 use std::alloc::Global;
 
 const NAME: &str = "Cgroup";
@@ -210,15 +210,13 @@ impl OciRecord for Cgroup {
     }
 
     fn to_value(&self, alloc: Global) -> Result<Value> {
-        let mut members = Map::new(alloc);
-        try_join5(
-            write_nullable(&mut members, alloc, "v1", &self.v1),
-            write_nullable(&mut members, alloc, "v2", &self.v2),
-            write_nullable(&mut members, alloc, "systemd", &self.systemd),
-            write_nullable(&mut members, alloc, "systemdUser", &self.systemd_user),
-            write_nullable(&mut members, alloc, "rdma", &self.rdma),
-        )?;
-        Ok(Value::Object(members))
+        let mut members = ObjectWriter::new(alloc);
+        write_nullable(&mut members, "v1", &self.v1);
+        write_nullable(&mut members, "v2", &self.v2);
+        write_nullable(&mut members, "systemd", &self.systemd);
+        write_nullable(&mut members, "systemdUser", &self.systemd_user);
+        write_nullable(&mut members, "rdma", &self.rdma);
+        members.object()
     }
 
     fn duplicate(&self, _alloc: Global) -> Result<Cgroup> {

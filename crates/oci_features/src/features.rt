@@ -5,11 +5,11 @@ ghost use Rattle.std.specs.Prelude.{◌≡◌, IfOk, IfErr};
 use crate::linux_feature::LinuxFeature;
 use oci_json_members::{nullable, write_nullable};
 use oci_json_model::{
-    OciMember, OciRecord, copy_optional, fault, required, try_join2, try_join3, try_join4,
-    write_required,
+    ObjectWriter, OciMember, OciRecord, copy_optional, fault, required, try_join2, try_join3,
+    try_join4, write_required,
 };
 use oci_text_base::{OciSpecError, Result};
-use serde_json::{Map, Value};
+use serde_json::Value;
 use std::alloc::Global;
 use std::collections::BTreeMap;
 
@@ -287,26 +287,19 @@ impl OciRecord for Features {
     }
 
     fn to_value(&self, alloc: Global) -> Result<Value> {
-        let mut members = Map::new(alloc);
-        try_join2(
-            try_join4(
-                write_required(&mut members, alloc, "ociVersionMin", &self.oci_version_min),
-                write_required(&mut members, alloc, "ociVersionMax", &self.oci_version_max),
-                write_nullable(&mut members, alloc, "hooks", &self.hooks),
-                write_nullable(&mut members, alloc, "mountOptions", &self.mount_options),
-            ),
-            try_join3(
-                write_nullable(&mut members, alloc, "linux", &self.linux),
-                write_nullable(&mut members, alloc, "annotations", &self.annotations),
-                write_nullable(
-                    &mut members,
-                    alloc,
-                    "potentiallyUnsafeConfigAnnotations",
-                    &self.potentially_unsafe_config_annotations,
-                ),
-            ),
-        )?;
-        Ok(Value::Object(members))
+        let mut members = ObjectWriter::new(alloc);
+        write_required(&mut members, "ociVersionMin", &self.oci_version_min);
+        write_required(&mut members, "ociVersionMax", &self.oci_version_max);
+        write_nullable(&mut members, "hooks", &self.hooks);
+        write_nullable(&mut members, "mountOptions", &self.mount_options);
+        write_nullable(&mut members, "linux", &self.linux);
+        write_nullable(&mut members, "annotations", &self.annotations);
+        write_nullable(
+            &mut members,
+            "potentiallyUnsafeConfigAnnotations",
+            &self.potentially_unsafe_config_annotations,
+        );
+        members.object()
     }
 
     fn duplicate(&self, alloc: Global) -> Result<Features> {

@@ -2,9 +2,9 @@
 //! What a runtime can do with Intel's Resource Director Technology, whatever its host has (runtime specification, "Linux Features Structure", `intelRdt`).
 ghost use Rattle.std.specs.Prelude.{◌≡◌, IfOk, IfErr};
 
-use oci_json_model::{OciRecord, fault, optional, try_join3, write_optional};
+use oci_json_model::{ObjectWriter, OciRecord, fault, optional, try_join3, write_optional};
 use oci_text_base::{OciSpecError, Result};
-use serde_json::{Map, Value};
+use serde_json::Value;
 use std::alloc::Global;
 
 const NAME: &str = "IntelRdt";
@@ -152,13 +152,11 @@ impl OciRecord for IntelRdt {
     }
 
     fn to_value(&self, alloc: Global) -> Result<Value> {
-        let mut members = Map::new(alloc);
-        try_join3(
-            write_optional(&mut members, alloc, "enabled", &self.enabled),
-            write_optional(&mut members, alloc, "schemata", &self.schemata),
-            write_optional(&mut members, alloc, "monitoring", &self.monitoring),
-        )?;
-        Ok(Value::Object(members))
+        let mut members = ObjectWriter::new(alloc);
+        write_optional(&mut members, "enabled", &self.enabled);
+        write_optional(&mut members, "schemata", &self.schemata);
+        write_optional(&mut members, "monitoring", &self.monitoring);
+        members.object()
     }
 
     fn duplicate(&self, _alloc: Global) -> Result<IntelRdt> {

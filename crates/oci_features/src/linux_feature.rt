@@ -14,10 +14,10 @@ use crate::seccomp::Seccomp;
 use crate::selinux::Selinux;
 pub use builder::LinuxFeatureBuilder;
 use oci_json_members::{nullable, write_nullable};
-use oci_json_model::{OciRecord, copy_optional, fault, try_join2, try_join5};
+use oci_json_model::{ObjectWriter, OciRecord, copy_optional, fault, try_join2, try_join5};
 use oci_linux_names::LinuxNamespaceType;
 use oci_text_base::{OciSpecError, Result};
-use serde_json::{Map, Value};
+use serde_json::Value;
 use std::alloc::Global;
 
 const NAME: &str = "LinuxFeature";
@@ -383,29 +383,18 @@ impl OciRecord for LinuxFeature {
     }
 
     fn to_value(&self, alloc: Global) -> Result<Value> {
-        let mut members = Map::new(alloc);
-        try_join2(
-            try_join5(
-                write_nullable(&mut members, alloc, "namespaces", &self.namespaces),
-                write_nullable(&mut members, alloc, "capabilities", &self.capabilities),
-                write_nullable(&mut members, alloc, "cgroup", &self.cgroup),
-                write_nullable(&mut members, alloc, "seccomp", &self.seccomp),
-                write_nullable(&mut members, alloc, "apparmor", &self.apparmor),
-            ),
-            try_join5(
-                write_nullable(&mut members, alloc, "selinux", &self.selinux),
-                write_nullable(&mut members, alloc, "intelRdt", &self.intel_rdt),
-                write_nullable(&mut members, alloc, "memoryPolicy", &self.memory_policy),
-                write_nullable(
-                    &mut members,
-                    alloc,
-                    "mountExtensions",
-                    &self.mount_extensions,
-                ),
-                write_nullable(&mut members, alloc, "netDevices", &self.net_devices),
-            ),
-        )?;
-        Ok(Value::Object(members))
+        let mut members = ObjectWriter::new(alloc);
+        write_nullable(&mut members, "namespaces", &self.namespaces);
+        write_nullable(&mut members, "capabilities", &self.capabilities);
+        write_nullable(&mut members, "cgroup", &self.cgroup);
+        write_nullable(&mut members, "seccomp", &self.seccomp);
+        write_nullable(&mut members, "apparmor", &self.apparmor);
+        write_nullable(&mut members, "selinux", &self.selinux);
+        write_nullable(&mut members, "intelRdt", &self.intel_rdt);
+        write_nullable(&mut members, "memoryPolicy", &self.memory_policy);
+        write_nullable(&mut members, "mountExtensions", &self.mount_extensions);
+        write_nullable(&mut members, "netDevices", &self.net_devices);
+        members.object()
     }
 
     fn duplicate(&self, alloc: Global) -> Result<LinuxFeature> {

@@ -3,9 +3,9 @@
 ghost use Rattle.std.specs.Prelude.{◌≡◌, IfOk, IfErr};
 
 use oci_json_members::{nullable, write_nullable};
-use oci_json_model::{OciRecord, copy_optional, fault, try_join2};
+use oci_json_model::{ObjectWriter, OciRecord, copy_optional, fault, try_join2};
 use oci_text_base::{OciSpecError, Result};
-use serde_json::{Map, Value};
+use serde_json::Value;
 use std::alloc::Global;
 
 const NAME: &str = "MemoryPolicy";
@@ -117,12 +117,10 @@ impl OciRecord for MemoryPolicy {
     }
 
     fn to_value(&self, alloc: Global) -> Result<Value> {
-        let mut members = Map::new(alloc);
-        try_join2(
-            write_nullable(&mut members, alloc, "modes", &self.modes),
-            write_nullable(&mut members, alloc, "flags", &self.flags),
-        )?;
-        Ok(Value::Object(members))
+        let mut members = ObjectWriter::new(alloc);
+        write_nullable(&mut members, "modes", &self.modes);
+        write_nullable(&mut members, "flags", &self.flags);
+        members.object()
     }
 
     fn duplicate(&self, alloc: Global) -> Result<MemoryPolicy> {

@@ -4,9 +4,9 @@ ghost use Rattle.std.specs.Prelude.{◌≡◌, IfOk, IfErr};
 
 use crate::id_map::IDMap;
 use oci_json_members::{nullable, write_nullable};
-use oci_json_model::{OciRecord, copy_optional, fault};
+use oci_json_model::{ObjectWriter, OciRecord, copy_optional, fault};
 use oci_text_base::{OciSpecError, Result};
-use serde_json::{Map, Value};
+use serde_json::Value;
 use std::alloc::Global;
 
 const NAME: &str = "MountExtensions";
@@ -89,9 +89,9 @@ impl OciRecord for MountExtensions {
     }
 
     fn to_value(&self, alloc: Global) -> Result<Value> {
-        let mut members = Map::new(alloc);
-        write_nullable(&mut members, alloc, "idmap", &self.idmap)?;
-        Ok(Value::Object(members))
+        let mut members = ObjectWriter::new(alloc);
+        write_nullable(&mut members, "idmap", &self.idmap);
+        members.object()
     }
 
     fn duplicate(&self, alloc: Global) -> Result<MountExtensions> {

@@ -3,10 +3,12 @@
 ghost use Rattle.std.specs.Prelude.{◌≡◌, IfOk, IfErr};
 
 use oci_json_members::{nullable, write_nullable};
-use oci_json_model::{OciRecord, copy_optional, fault, try_join2, try_join3, try_join5};
+use oci_json_model::{
+    ObjectWriter, OciRecord, copy_optional, fault, try_join2, try_join3, try_join5,
+};
 use oci_linux_names::{LinuxSeccompAction, SArch};
 use oci_text_base::{OciSpecError, Result};
-use serde_json::{Map, Value};
+use serde_json::Value;
 use std::alloc::Global;
 
 const NAME: &str = "Seccomp";
@@ -247,20 +249,14 @@ impl OciRecord for Seccomp {
     }
 
     fn to_value(&self, alloc: Global) -> Result<Value> {
-        let mut members = Map::new(alloc);
-        try_join2(
-            try_join3(
-                write_nullable(&mut members, alloc, "enabled", &self.enabled),
-                write_nullable(&mut members, alloc, "actions", &self.actions),
-                write_nullable(&mut members, alloc, "operators", &self.operators),
-            ),
-            try_join3(
-                write_nullable(&mut members, alloc, "archs", &self.archs),
-                write_nullable(&mut members, alloc, "knownFlags", &self.known_flags),
-                write_nullable(&mut members, alloc, "supportedFlags", &self.supported_flags),
-            ),
-        )?;
-        Ok(Value::Object(members))
+        let mut members = ObjectWriter::new(alloc);
+        write_nullable(&mut members, "enabled", &self.enabled);
+        write_nullable(&mut members, "actions", &self.actions);
+        write_nullable(&mut members, "operators", &self.operators);
+        write_nullable(&mut members, "archs", &self.archs);
+        write_nullable(&mut members, "knownFlags", &self.known_flags);
+        write_nullable(&mut members, "supportedFlags", &self.supported_flags);
+        members.object()
     }
 
     fn duplicate(&self, alloc: Global) -> Result<Seccomp> {

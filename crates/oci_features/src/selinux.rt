@@ -3,9 +3,9 @@
 ghost use Rattle.std.specs.Prelude.{◌≡◌, IfOk, IfErr};
 
 use oci_json_members::{nullable, write_nullable};
-use oci_json_model::{OciRecord, fault};
+use oci_json_model::{ObjectWriter, OciRecord, fault};
 use oci_text_base::{OciSpecError, Result};
-use serde_json::{Map, Value};
+use serde_json::Value;
 use std::alloc::Global;
 
 const NAME: &str = "Selinux";
@@ -87,9 +87,9 @@ impl OciRecord for Selinux {
     }
 
     fn to_value(&self, alloc: Global) -> Result<Value> {
-        let mut members = Map::new(alloc);
-        write_nullable(&mut members, alloc, "enabled", &self.enabled)?;
-        Ok(Value::Object(members))
+        let mut members = ObjectWriter::new(alloc);
+        write_nullable(&mut members, "enabled", &self.enabled);
+        members.object()
     }
 
     fn duplicate(&self, _alloc: Global) -> Result<Selinux> {

@@ -7,11 +7,11 @@ pub mod builder;
 pub use builder::ConfigBuilder;
 use oci_json_members::{Keys, copy_optional_as, optional_as_owned, write_optional_as};
 use oci_json_model::{
-    OciRecord, copy_optional, fault, optional_owned, taken_9, try_join2, try_join4, try_join5,
-    write_optional,
+    ObjectWriter, OciRecord, copy_optional, fault, optional_owned, taken_9, try_join2, try_join4,
+    try_join5, write_optional,
 };
 use oci_text_base::{OciSpecError, Result};
-use serde_json::{Map, Value};
+use serde_json::Value;
 use std::alloc::Global;
 use std::collections::BTreeMap;
 
@@ -304,35 +304,22 @@ impl OciRecord for Config {
     }
 
     fn to_value(&self, alloc: Global) -> Result<Value> {
-        let mut members = Map::new(alloc);
-        try_join2(
-            try_join5(
-                write_optional(&mut members, alloc, "User", &self.user),
-                write_optional_as::<Keys, Vec<String>>(
-                    &mut members,
-                    alloc,
-                    NAME,
-                    "ExposedPorts",
-                    &self.exposed_ports,
-                ),
-                write_optional(&mut members, alloc, "Env", &self.env),
-                write_optional(&mut members, alloc, "Entrypoint", &self.entrypoint),
-                write_optional(&mut members, alloc, "Cmd", &self.cmd),
-            ),
-            try_join4(
-                write_optional_as::<Keys, Vec<String>>(
-                    &mut members,
-                    alloc,
-                    NAME,
-                    "Volumes",
-                    &self.volumes,
-                ),
-                write_optional(&mut members, alloc, "WorkingDir", &self.working_dir),
-                write_optional(&mut members, alloc, "Labels", &self.labels),
-                write_optional(&mut members, alloc, "StopSignal", &self.stop_signal),
-            ),
-        )?;
-        Ok(Value::Object(members))
+        let mut members = ObjectWriter::new(alloc);
+        write_optional(&mut members, "User", &self.user);
+        write_optional_as::<Keys, Vec<String>>(
+            &mut members,
+            NAME,
+            "ExposedPorts",
+            &self.exposed_ports,
+        );
+        write_optional(&mut members, "Env", &self.env);
+        write_optional(&mut members, "Entrypoint", &self.entrypoint);
+        write_optional(&mut members, "Cmd", &self.cmd);
+        write_optional_as::<Keys, Vec<String>>(&mut members, NAME, "Volumes", &self.volumes);
+        write_optional(&mut members, "WorkingDir", &self.working_dir);
+        write_optional(&mut members, "Labels", &self.labels);
+        write_optional(&mut members, "StopSignal", &self.stop_signal);
+        members.object()
     }
 
     fn duplicate(&self, alloc: Global) -> Result<Config> {

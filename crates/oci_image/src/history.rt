@@ -3,10 +3,11 @@
 ghost use Rattle.std.specs.Prelude.{◌≡◌, IfOk, IfErr};
 
 use oci_json_model::{
-    OciRecord, copy_optional, fault, optional_owned, taken_5, try_join4, try_join5, write_optional,
+    ObjectWriter, OciRecord, copy_optional, fault, optional_owned, taken_5, try_join4, try_join5,
+    write_optional,
 };
 use oci_text_base::{OciSpecError, Result};
-use serde_json::{Map, Value};
+use serde_json::Value;
 use std::alloc::Global;
 
 const NAME: &str = "History";
@@ -180,15 +181,13 @@ impl OciRecord for History {
     }
 
     fn to_value(&self, alloc: Global) -> Result<Value> {
-        let mut members = Map::new(alloc);
-        try_join5(
-            write_optional(&mut members, alloc, "created", &self.created),
-            write_optional(&mut members, alloc, "author", &self.author),
-            write_optional(&mut members, alloc, "created_by", &self.created_by),
-            write_optional(&mut members, alloc, "comment", &self.comment),
-            write_optional(&mut members, alloc, "empty_layer", &self.empty_layer),
-        )?;
-        Ok(Value::Object(members))
+        let mut members = ObjectWriter::new(alloc);
+        write_optional(&mut members, "created", &self.created);
+        write_optional(&mut members, "author", &self.author);
+        write_optional(&mut members, "created_by", &self.created_by);
+        write_optional(&mut members, "comment", &self.comment);
+        write_optional(&mut members, "empty_layer", &self.empty_layer);
+        members.object()
     }
 
     fn duplicate(&self, alloc: Global) -> Result<History> {

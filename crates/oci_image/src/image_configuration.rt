@@ -12,12 +12,12 @@ use crate::root_fs::RootFs;
 pub use builder::ImageConfigurationBuilder;
 pub use labels::LABEL_VERSION;
 use oci_json_model::{
-    OciMember, OciRecord, copy_optional, fault, optional_owned, required_owned, taken_10,
-    try_join2, try_join5, write_optional, write_required,
+    ObjectWriter, OciMember, OciRecord, copy_optional, fault, optional_owned, required_owned,
+    taken_10, try_join2, try_join5, write_optional, write_required,
 };
 use oci_text::{Arch, Os};
 use oci_text_base::{OciSpecError, Result};
-use serde_json::{Map, Value};
+use serde_json::Value;
 use std::alloc::Global;
 use std::fmt;
 
@@ -369,24 +369,18 @@ impl OciRecord for ImageConfiguration {
     }
 
     fn to_value(&self, alloc: Global) -> Result<Value> {
-        let mut members = Map::new(alloc);
-        try_join2(
-            try_join5(
-                write_optional(&mut members, alloc, "created", &self.created),
-                write_optional(&mut members, alloc, "author", &self.author),
-                write_required(&mut members, alloc, "architecture", &self.architecture),
-                write_required(&mut members, alloc, "os", &self.os),
-                write_optional(&mut members, alloc, "os.version", &self.os_version),
-            ),
-            try_join5(
-                write_optional(&mut members, alloc, "os.features", &self.os_features),
-                write_optional(&mut members, alloc, "variant", &self.variant),
-                write_optional(&mut members, alloc, "config", &self.config),
-                write_required(&mut members, alloc, "rootfs", &self.rootfs),
-                write_optional(&mut members, alloc, "history", &self.history),
-            ),
-        )?;
-        Ok(Value::Object(members))
+        let mut members = ObjectWriter::new(alloc);
+        write_optional(&mut members, "created", &self.created);
+        write_optional(&mut members, "author", &self.author);
+        write_required(&mut members, "architecture", &self.architecture);
+        write_required(&mut members, "os", &self.os);
+        write_optional(&mut members, "os.version", &self.os_version);
+        write_optional(&mut members, "os.features", &self.os_features);
+        write_optional(&mut members, "variant", &self.variant);
+        write_optional(&mut members, "config", &self.config);
+        write_required(&mut members, "rootfs", &self.rootfs);
+        write_optional(&mut members, "history", &self.history);
+        members.object()
     }
 
     fn duplicate(&self, alloc: Global) -> Result<ImageConfiguration> {

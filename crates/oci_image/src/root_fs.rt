@@ -3,10 +3,10 @@
 ghost use Rattle.std.specs.Prelude.{◌≡◌, IfOk, IfErr};
 
 use oci_json_model::{
-    OciMember, OciRecord, fault, required_owned, taken, try_join2, write_required,
+    ObjectWriter, OciMember, OciRecord, fault, required_owned, taken, try_join2, write_required,
 };
 use oci_text_base::{OciSpecError, Result};
-use serde_json::{Map, Value};
+use serde_json::Value;
 use std::alloc::Global;
 
 const NAME: &str = "RootFs";
@@ -115,12 +115,10 @@ impl OciRecord for RootFs {
     }
 
     fn to_value(&self, alloc: Global) -> Result<Value> {
-        let mut members = Map::new(alloc);
-        try_join2(
-            write_required(&mut members, alloc, "type", &self.typ),
-            write_required(&mut members, alloc, "diff_ids", &self.diff_ids),
-        )?;
-        Ok(Value::Object(members))
+        let mut members = ObjectWriter::new(alloc);
+        write_required(&mut members, "type", &self.typ);
+        write_required(&mut members, "diff_ids", &self.diff_ids);
+        members.object()
     }
 
     fn duplicate(&self, alloc: Global) -> Result<RootFs> {

@@ -8,12 +8,12 @@ mod own;
 pub use builder::DescriptorBuilder;
 use oci_image_platform::Platform;
 use oci_json_model::{
-    OciMember, OciRecord, copy_optional, fault, optional_owned, required_owned, taken_8, try_join2,
-    try_join3, try_join4, write_optional, write_required,
+    ObjectWriter, OciMember, OciRecord, copy_optional, fault, optional_owned, required_owned,
+    taken_8, try_join2, try_join3, try_join4, write_optional, write_required,
 };
 use oci_text::{Digest, MediaType};
 use oci_text_base::{OciSpecError, Result};
-use serde_json::{Map, Value};
+use serde_json::Value;
 use std::alloc::Global;
 use std::collections::BTreeMap;
 
@@ -259,22 +259,16 @@ impl OciRecord for Descriptor {
     }
 
     fn to_value(&self, alloc: Global) -> Result<Value> {
-        let mut members = Map::new(alloc);
-        try_join2(
-            try_join4(
-                write_required(&mut members, alloc, "mediaType", &self.media_type),
-                write_required(&mut members, alloc, "digest", &self.digest),
-                write_required(&mut members, alloc, "size", &self.size),
-                write_optional(&mut members, alloc, "urls", &self.urls),
-            ),
-            try_join4(
-                write_optional(&mut members, alloc, "annotations", &self.annotations),
-                write_optional(&mut members, alloc, "platform", &self.platform),
-                write_optional(&mut members, alloc, "artifactType", &self.artifact_type),
-                write_optional(&mut members, alloc, "data", &self.embedded_data),
-            ),
-        )?;
-        Ok(Value::Object(members))
+        let mut members = ObjectWriter::new(alloc);
+        write_required(&mut members, "mediaType", &self.media_type);
+        write_required(&mut members, "digest", &self.digest);
+        write_required(&mut members, "size", &self.size);
+        write_optional(&mut members, "urls", &self.urls);
+        write_optional(&mut members, "annotations", &self.annotations);
+        write_optional(&mut members, "platform", &self.platform);
+        write_optional(&mut members, "artifactType", &self.artifact_type);
+        write_optional(&mut members, "data", &self.embedded_data);
+        members.object()
     }
 
     fn duplicate(&self, alloc: Global) -> Result<Descriptor> {

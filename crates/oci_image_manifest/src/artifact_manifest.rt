@@ -4,12 +4,12 @@ ghost use Rattle.std.specs.Prelude.{◌≡◌, IfOk, IfErr};
 
 use oci_image_descriptor::Descriptor;
 use oci_json_model::{
-    OciMember, OciRecord, copy_optional, fault, optional_owned, required_owned, taken_5, try_join5,
-    write_optional, write_required,
+    ObjectWriter, OciMember, OciRecord, copy_optional, fault, optional_owned, required_owned,
+    taken_5, try_join5, write_optional, write_required,
 };
 use oci_text::MediaType;
 use oci_text_base::{OciSpecError, Result, UninitializedFieldError};
-use serde_json::{Map, Value};
+use serde_json::Value;
 use std::alloc::Global;
 use std::collections::BTreeMap;
 use std::io::{Read, Write};
@@ -265,15 +265,13 @@ impl OciRecord for ArtifactManifest {
     }
 
     fn to_value(&self, alloc: Global) -> Result<Value> {
-        let mut members = Map::new(alloc);
-        try_join5(
-            write_required(&mut members, alloc, "mediaType", &self.media_type),
-            write_required(&mut members, alloc, "artifactType", &self.artifact_type),
-            write_required(&mut members, alloc, "blobs", &self.blobs),
-            write_optional(&mut members, alloc, "subject", &self.subject),
-            write_optional(&mut members, alloc, "annotations", &self.annotations),
-        )?;
-        Ok(Value::Object(members))
+        let mut members = ObjectWriter::new(alloc);
+        write_required(&mut members, "mediaType", &self.media_type);
+        write_required(&mut members, "artifactType", &self.artifact_type);
+        write_required(&mut members, "blobs", &self.blobs);
+        write_optional(&mut members, "subject", &self.subject);
+        write_optional(&mut members, "annotations", &self.annotations);
+        members.object()
     }
 
     fn duplicate(&self, alloc: Global) -> Result<ArtifactManifest> {

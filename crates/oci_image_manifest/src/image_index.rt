@@ -4,12 +4,12 @@ ghost use Rattle.std.specs.Prelude.{◌≡◌, IfOk, IfErr};
 
 use oci_image_descriptor::Descriptor;
 use oci_json_model::{
-    OciMember, OciRecord, copy_optional, fault, optional_owned, required_owned, taken_6, try_join2,
-    try_join3, try_join5, write_optional, write_required,
+    ObjectWriter, OciMember, OciRecord, copy_optional, fault, optional_owned, required_owned,
+    taken_6, try_join2, try_join3, try_join5, write_optional, write_required,
 };
 use oci_text::MediaType;
 use oci_text_base::{OciSpecError, Result, UninitializedFieldError};
-use serde_json::{Map, Value};
+use serde_json::Value;
 use std::alloc::Global;
 use std::collections::BTreeMap;
 use std::fmt;
@@ -316,20 +316,14 @@ impl OciRecord for ImageIndex {
     }
 
     fn to_value(&self, alloc: Global) -> Result<Value> {
-        let mut members = Map::new(alloc);
-        try_join2(
-            try_join3(
-                write_required(&mut members, alloc, "schemaVersion", &self.schema_version),
-                write_optional(&mut members, alloc, "mediaType", &self.media_type),
-                write_optional(&mut members, alloc, "artifactType", &self.artifact_type),
-            ),
-            try_join3(
-                write_required(&mut members, alloc, "manifests", &self.manifests),
-                write_optional(&mut members, alloc, "subject", &self.subject),
-                write_optional(&mut members, alloc, "annotations", &self.annotations),
-            ),
-        )?;
-        Ok(Value::Object(members))
+        let mut members = ObjectWriter::new(alloc);
+        write_required(&mut members, "schemaVersion", &self.schema_version);
+        write_optional(&mut members, "mediaType", &self.media_type);
+        write_optional(&mut members, "artifactType", &self.artifact_type);
+        write_required(&mut members, "manifests", &self.manifests);
+        write_optional(&mut members, "subject", &self.subject);
+        write_optional(&mut members, "annotations", &self.annotations);
+        members.object()
     }
 
     fn duplicate(&self, alloc: Global) -> Result<ImageIndex> {

@@ -2,9 +2,11 @@
 //! The file `oci-layout` of an image's folder (image specification, "Image Layout", "oci-layout file").
 ghost use Rattle.std.specs.Prelude.{◌≡◌, IfOk, IfErr};
 
-use oci_json_model::{OciMember, OciRecord, fault, required_owned, taken, write_required};
+use oci_json_model::{
+    ObjectWriter, OciMember, OciRecord, fault, required_owned, taken, write_required,
+};
 use oci_text_base::{OciSpecError, Result, UninitializedFieldError};
-use serde_json::{Map, Value};
+use serde_json::Value;
 use std::alloc::Global;
 use std::io::{Read, Write};
 use std::rt::Files;
@@ -158,14 +160,13 @@ impl OciRecord for OciLayout {
     }
 
     fn to_value(&self, alloc: Global) -> Result<Value> {
-        let mut members = Map::new(alloc);
+        let mut members = ObjectWriter::new(alloc);
         write_required(
             &mut members,
-            alloc,
             "imageLayoutVersion",
             &self.image_layout_version,
-        )?;
-        Ok(Value::Object(members))
+        );
+        members.object()
     }
 
     fn duplicate(&self, alloc: Global) -> Result<OciLayout> {

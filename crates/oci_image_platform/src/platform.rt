@@ -3,12 +3,12 @@
 ghost use Rattle.std.specs.Prelude.{◌≡◌, IfOk, IfErr};
 
 use oci_json_model::{
-    OciMember, OciRecord, copy_optional, fault, optional_either_owned, optional_owned,
-    required_owned, taken_8, try_join2, try_join3, write_optional, write_required,
+    ObjectWriter, OciMember, OciRecord, copy_optional, fault, optional_either_owned,
+    optional_owned, required_owned, taken_8, try_join2, try_join3, write_optional, write_required,
 };
 use oci_text::{Arch, Os};
 use oci_text_base::{OciSpecError, Result, UninitializedFieldError};
-use serde_json::{Map, Value};
+use serde_json::Value;
 use std::alloc::Global;
 
 const NAME: &str = "Platform";
@@ -246,20 +246,14 @@ impl OciRecord for Platform {
     }
 
     fn to_value(&self, alloc: Global) -> Result<Value> {
-        let mut members = Map::new(alloc);
-        try_join2(
-            try_join3(
-                write_required(&mut members, alloc, "architecture", &self.architecture),
-                write_required(&mut members, alloc, "os", &self.os),
-                write_optional(&mut members, alloc, "os.version", &self.os_version),
-            ),
-            try_join3(
-                write_optional(&mut members, alloc, "os.features", &self.os_features),
-                write_optional(&mut members, alloc, "variant", &self.variant),
-                write_optional(&mut members, alloc, "features", &self.features),
-            ),
-        )?;
-        Ok(Value::Object(members))
+        let mut members = ObjectWriter::new(alloc);
+        write_required(&mut members, "architecture", &self.architecture);
+        write_required(&mut members, "os", &self.os);
+        write_optional(&mut members, "os.version", &self.os_version);
+        write_optional(&mut members, "os.features", &self.os_features);
+        write_optional(&mut members, "variant", &self.variant);
+        write_optional(&mut members, "features", &self.features);
+        members.object()
     }
 
     fn duplicate(&self, alloc: Global) -> Result<Platform> {

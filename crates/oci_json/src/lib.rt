@@ -13,7 +13,7 @@ pub use oci_json_members::{
     unless_empty, write_nullable, write_optional_as, write_unless_empty,
 };
 pub use oci_json_model::{
-    Found, OciMember, OciRecord, copy_optional, fault, optional, optional_either,
+    Found, ObjectWriter, OciMember, OciRecord, copy_optional, fault, optional, optional_either,
     optional_either_owned, optional_owned, required, required_owned, taken, taken_5, taken_6,
     taken_7, taken_8, taken_9, taken_10, try_join2, try_join3, try_join4, try_join5,
     write_optional, write_required,

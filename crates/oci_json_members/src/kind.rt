@@ -1,23 +1,23 @@
 //! Kinds of members, and the readers and writers of optional members of a kind.
-ghost use Rattle.std.specs.Prelude.{◌≡◌, None, option_map, IfOk, IfErr, OnOk, OnErr};
-ghost use Rattle.std.specs.BTreeMap.{IsUnchanged};
-ghost use Rattle.serde_json.specs.View.{view, members_view};
+ghost use Rattle.std.specs.Prelude.{◌≡◌, None, option_map, IfOk, IfErr};
+ghost use Rattle.serde_json.specs.View.{view};
 ghost use Rattle.serde_json.specs.Find.{get};
 ghost use Rattle.oci_text_base.specs.Refused.{IsSchema, IsMemoryOrSchema};
+ghost use Rattle.oci_json_model.specs.Adds.{Adds, FailsOf};
 ghost use Rattle.oci_json_model.specs.Plain.{Plain};
 ghost use Rattle.oci_json_model.specs.Shape.{Shape};
 ghost use Rattle.oci_json_model.specs.Shape as presence;
-ghost use Rattle.oci_json_model.specs.Fits.{Fits, FitsMember, IfFilled};
+ghost use Rattle.oci_json_model.specs.Fits.{Fits};
 ghost use Rattle.oci_json_model.specs.Means.{Means, MeansMember};
 ghost use Rattle.oci_json_model.specs.Refused.{IsRefused, IsMemberRefused, RefusesRecords};
 ghost use Rattle.oci_json_model.specs.Types.{perhaps};
-ghost use Rattle.oci_json_model.specs.Value.{value as json_of, with_member, member_value};
+ghost use Rattle.oci_json_model.specs.Value.{value as json_of};
 ghost use Rattle.oci_json_model.specs.Writable.{Writable};
 
-use oci_json_model::Found;
 use oci_json_model::fault::placed;
+use oci_json_model::{Found, ObjectWriter};
 use oci_text_base::{OciSpecError, Result};
-use serde_json::{Map, Value};
+use serde_json::Value;
 use std::alloc::Global;
 
 /// A way to read and write values of a type that has other ways too: a list of strings, for one, may be an array in JSON or the
@@ -147,32 +147,20 @@ pub fn optional_as_owned<K: OciKind<T>, T>(
 }
 
 /// Writes a member of a kind unless it is none. The error for content that is not serializable is placed at the owner and the name.
-#[tactic(auto, using(oci_json_model::proofs::Writers::inserted))]
 pub fn write_optional_as<K: OciKind<T>, T>(
-    members: &mut Map<String, Value>,
-    alloc: Global,
+    members: &mut ObjectWriter,
     owner: &'static str,
     name: &'static str,
     x: &Option<T>,
-) -> Result<()>
-    ensures ok { OnOk result (members_view members.new.entries ≡ with_member name.now (member_value presence.optional (json_of K.shape) (perhaps K.plain x.now)) (members_view members.old.entries)) }
-    ensures fits { OnOk result (FitsMember presence.optional (Fits K.shape) (perhaps K.plain x.now)) }
-    ensures writable { OnOk result (IfFilled (Writable K.shape) (perhaps K.plain x.now)) }
-    ensures err { IfErr result (λ e. IsSchema e → ¬ IfFilled (Writable K.shape) (perhaps K.plain x.now)) }
-    ensures unchanged { OnErr result (IsUnchanged members.old members.new) }
-    ensures kind { IfErr result IsMemoryOrSchema }
+)
+    ensures ok { Adds members.old members.new name.now presence.optional K.shape (perhaps K.plain x.now) }
+    ensures err { FailsOf members.old members.new K.shape (perhaps K.plain x.now) }
 {
-    match x {
-        Some(x) => {
-            let written = match K::write(x, alloc) {
-                Ok(written) => written,
-                Err(fault) => return Err(placed(fault, owner, name)),
-            };
-            let key = String::from_str(alloc, name)?;
-            members.insert(key, written)?;
-            Ok(())
+    if let Some(x) = x {
+        match K::write(x, members.alloc()) {
+            Ok(written) => members.insert(name, written),
+            Err(fault) => members.fail(placed(fault, owner, name)),
         }
-        None => Ok(()),
     }
 }
 

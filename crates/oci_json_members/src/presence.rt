@@ -1,23 +1,20 @@
 //! Members with a default, members that are written as null where they are none, and lists that are omitted where they are empty.
-ghost use Rattle.std.specs.Prelude.{◌≡◌, None, [], false, pos, IfOk, IfErr, OnOk, OnErr};
-ghost use Rattle.std.specs.BTreeMap.{IsUnchanged};
-ghost use Rattle.serde_json.specs.View.{view, members_view};
+ghost use Rattle.std.specs.Prelude.{◌≡◌, None, [], false, pos, IfOk, IfErr};
+ghost use Rattle.serde_json.specs.View.{view};
 ghost use Rattle.serde_json.specs.Find.{get};
 ghost use Rattle.oci_text_base.specs.Refused.{IsSchema, IsMemoryOrSchema};
+ghost use Rattle.oci_json_model.specs.Adds.{Adds, FailsOf};
 ghost use Rattle.oci_json_model.specs.Plain as plain_tree;
 ghost use Rattle.oci_json_model.specs.Plain.{Plain};
 ghost use Rattle.oci_json_model.specs.Shape as presence;
-ghost use Rattle.oci_json_model.specs.Fits.{Fits, FitsMember, IfFilled};
 ghost use Rattle.oci_json_model.specs.Means.{Means, MeansMember};
 ghost use Rattle.oci_json_model.specs.Refused.{RefusesRecords};
 ghost use Rattle.oci_json_model.specs.Types.{given, perhaps, list_plain};
-ghost use Rattle.oci_json_model.specs.Value.{value as json_of, with_member, member_value};
-ghost use Rattle.oci_json_model.specs.Writable.{Writable};
 
 use oci_json_model::fault::placed;
-use oci_json_model::{OciMember, optional, write_required};
+use oci_json_model::{ObjectWriter, OciMember, optional, write_required};
 use oci_text_base::Result;
-use serde_json::{Map, Value};
+use serde_json::Value;
 use std::alloc::Global;
 
 /// A type with a default value, which an absent member has.
@@ -144,51 +141,24 @@ pub fn unless_empty<T: OciMember>(
 }
 
 /// Writes a member, and null where it is none.
-pub fn write_nullable<T: OciMember>(
-    members: &mut Map<String, Value>,
-    alloc: Global,
-    name: &str,
-    x: &Option<T>,
-) -> Result<()>
-    ensures ok { OnOk result (members_view members.new.entries ≡ with_member name.now (member_value presence.nullable (json_of T.shape) (perhaps T.plain x.now)) (members_view members.old.entries)) }
-    ensures fits { OnOk result (FitsMember presence.nullable (Fits T.shape) (perhaps T.plain x.now)) }
-    ensures writable { OnOk result (IfFilled (Writable T.shape) (perhaps T.plain x.now)) }
-    ensures err { IfErr result (λ e. IsSchema e → ¬ IfFilled (Writable T.shape) (perhaps T.plain x.now)) }
-    ensures unchanged { OnErr result (IsUnchanged members.old members.new) }
-    ensures kind { IfErr result IsMemoryOrSchema }
+pub fn write_nullable<T: OciMember>(members: &mut ObjectWriter, name: &str, x: &Option<T>)
+    ensures ok { Adds members.old members.new name.now presence.nullable T.shape (perhaps T.plain x.now) }
+    ensures err { FailsOf members.old members.new T.shape (perhaps T.plain x.now) }
 {
     match x {
-        Some(x) => write_required(members, alloc, name, x),
-        None => {
-            let key = String::from_str(alloc, name)?;
-            members.insert(key, Value::Null)?;
-            Ok(())
-        }
+        Some(x) => write_required(members, name, x),
+        None => members.insert(name, Value::Null),
     }
 }
 
 /// Writes a list unless it is none or empty.
-pub fn write_unless_empty<T: OciMember>(
-    members: &mut Map<String, Value>,
-    alloc: Global,
-    name: &str,
-    x: &Option<Vec<T>>,
-) -> Result<()>
-    ensures ok { OnOk result (members_view members.new.entries ≡ with_member name.now (member_value presence.unless_empty (json_of (presence.list T.shape)) (perhaps (list_plain T.plain) x.now)) (members_view members.old.entries)) }
-    ensures fits { OnOk result (FitsMember presence.unless_empty (Fits (presence.list T.shape)) (perhaps (list_plain T.plain) x.now)) }
-    ensures writable { OnOk result (IfFilled (Writable (presence.list T.shape)) (perhaps (list_plain T.plain) x.now)) }
-    ensures err { IfErr result (λ e. IsSchema e → ¬ IfFilled (Writable (presence.list T.shape)) (perhaps (list_plain T.plain) x.now)) }
-    ensures unchanged { OnErr result (IsUnchanged members.old members.new) }
-    ensures kind { IfErr result IsMemoryOrSchema }
+pub fn write_unless_empty<T: OciMember>(members: &mut ObjectWriter, name: &str, x: &Option<Vec<T>>)
+    ensures ok { Adds members.old members.new name.now presence.unless_empty (presence.list T.shape) (perhaps (list_plain T.plain) x.now) }
+    ensures err { FailsOf members.old members.new (presence.list T.shape) (perhaps (list_plain T.plain) x.now) }
 {
-    match x {
-        Some(items) => {
-            if items.is_empty() {
-                Ok(())
-            } else {
-                write_required(members, alloc, name, items)
-            }
+    if let Some(items) = x {
+        if !items.is_empty() {
+            write_required(members, name, items);
         }
-        None => Ok(()),
     }
 }

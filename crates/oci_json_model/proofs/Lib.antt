@@ -10,4 +10,5 @@ pub mod Removed
 pub mod Smaller
 pub mod Tables
 pub mod Together
+pub mod Unfaulted
 pub mod Writers

@@ -1,6 +1,6 @@
 -- The answers of several calls that are put together, as try_join2 to try_join5 do: what is known of each that is not refused.
 use Rattle.std.proofs.Common.{◌≡◌, Result, Ok, subst}
-use Rattle.std.specs.Result.{IfOk, OnOk}
+use Rattle.std.specs.Result.{IfOk}
 use Rattle.oci_text_base.specs.declared.error.OciSpecError.{OciSpecError}
 
 -- an answer of the library's
@@ -10,7 +10,3 @@ Answer T = Result T OciSpecError
 -- what a call that is not refused says of its answer
 pub answered : {T : Type 0} (P : T → Type 0) (r : Answer T) (x : T) → r ≡ Ok x → IfOk r P → P x
 answered P r x is known = subst (λ q. IfOk q P) is known
-
--- what a call that is not refused has done
-pub done : {T : Type 0} (P : Type 0) (r : Answer T) (x : T) → r ≡ Ok x → OnOk r P → P
-done P r x is known = subst (λ q. OnOk q P) is known

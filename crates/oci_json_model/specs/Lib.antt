@@ -1,3 +1,4 @@
+pub mod Adds
 pub mod Built
 pub mod ClosedNames
 pub mod Erased

@@ -11,6 +11,7 @@ pub mod list;
 pub mod map;
 pub mod member;
 pub mod number;
+pub mod object_writer;
 pub mod owned;
 pub mod record;
 pub mod take;
@@ -21,9 +22,8 @@ pub use all::{try_join2, try_join3, try_join4, try_join5};
 pub use closed::{read_name, write_name};
 pub use closed_name::{ClosedName, named, parse_name};
 pub use json_name::JsonName;
-pub use member::{
-    copy_optional, optional, optional_either, required, write_optional, write_required,
-};
+pub use member::{copy_optional, optional, optional_either, required};
+pub use object_writer::{ObjectWriter, write_optional, write_required};
 pub use owned::{Found, optional_either_owned, optional_owned, required_owned};
 pub use record::{OciMember, OciRecord};
 pub use take::{take_member, taken, taken_5, taken_6, taken_7, taken_8, taken_9, taken_10};

@@ -1,21 +1,17 @@
-//! Readers and writers of a record's members.
-ghost use Rattle.std.specs.Prelude.{◌≡◌, Some, None, option_map, IfOk, IfErr, OnOk, OnErr};
-ghost use Rattle.std.specs.BTreeMap.{IsUnchanged};
-ghost use Rattle.serde_json.specs.View.{view, members_view};
+//! Readers of a record's members, and the copying of one.
+ghost use Rattle.std.specs.Prelude.{◌≡◌, Some, None, option_map, IfOk, IfErr};
+ghost use Rattle.serde_json.specs.View.{view};
 ghost use Rattle.serde_json.specs.Find.{get};
 ghost use Rattle.oci_text_base.specs.Refused.{IsSchema, IsMemoryOrSchema};
 ghost use Rattle.oci_json_model.specs.Shape as presence;
-ghost use Rattle.oci_json_model.specs.Fits.{Fits, FitsMember, IfFilled};
 ghost use Rattle.oci_json_model.specs.Means.{Means, MeansMember, MeansEither};
 ghost use Rattle.oci_json_model.specs.Refused.{IsMemberRefused, RefusesRecords};
 ghost use Rattle.oci_json_model.specs.Types.{given, perhaps};
-ghost use Rattle.oci_json_model.specs.Value.{value as json_of, with_member, member_value};
-ghost use Rattle.oci_json_model.specs.Writable.{Writable};
 
 use crate::fault::{placed, refused};
 use crate::record::OciMember;
 use oci_text_base::{OciSpecError, Result};
-use serde_json::{Map, Value};
+use serde_json::Value;
 use std::alloc::Global;
 
 /// Reads a member that has to be there.
@@ -108,47 +104,6 @@ pub fn optional_either<T: OciMember>(
             },
             Some(_) => Err(refused(owner, name)),
         },
-    }
-}
-
-/// Writes a member that is always written.
-#[tactic(auto, using(crate::proofs::Writers::inserted))]
-pub fn write_required<T: OciMember>(
-    members: &mut Map<String, Value>,
-    alloc: Global,
-    name: &str,
-    x: &T,
-) -> Result<()>
-    ensures ok { OnOk result (members_view members.new.entries ≡ with_member name.now (member_value presence.required (json_of T.shape) (given T.plain x.now)) (members_view members.old.entries)) }
-    ensures fits { OnOk result (FitsMember presence.required (Fits T.shape) (given T.plain x.now)) }
-    ensures writable { OnOk result (IfFilled (Writable T.shape) (given T.plain x.now)) }
-    ensures err { IfErr result (λ e. IsSchema e → ¬ IfFilled (Writable T.shape) (given T.plain x.now)) }
-    ensures unchanged { OnErr result (IsUnchanged members.old members.new) }
-    ensures kind { IfErr result IsMemoryOrSchema }
-{
-    let written = x.write(alloc)?;
-    let key = String::from_str(alloc, name)?;
-    members.insert(key, written)?;
-    Ok(())
-}
-
-/// Writes a member unless it is none.
-pub fn write_optional<T: OciMember>(
-    members: &mut Map<String, Value>,
-    alloc: Global,
-    name: &str,
-    x: &Option<T>,
-) -> Result<()>
-    ensures ok { OnOk result (members_view members.new.entries ≡ with_member name.now (member_value presence.optional (json_of T.shape) (perhaps T.plain x.now)) (members_view members.old.entries)) }
-    ensures fits { OnOk result (FitsMember presence.optional (Fits T.shape) (perhaps T.plain x.now)) }
-    ensures writable { OnOk result (IfFilled (Writable T.shape) (perhaps T.plain x.now)) }
-    ensures err { IfErr result (λ e. IsSchema e → ¬ IfFilled (Writable T.shape) (perhaps T.plain x.now)) }
-    ensures unchanged { OnErr result (IsUnchanged members.old members.new) }
-    ensures kind { IfErr result IsMemoryOrSchema }
-{
-    match x {
-        Some(x) => write_required(members, alloc, name, x),
-        None => Ok(()),
     }
 }
 

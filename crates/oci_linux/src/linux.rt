@@ -10,7 +10,7 @@ use crate::defaults::resources_without_rules;
 pub use builder::LinuxBuilder;
 use oci_cgroups::LinuxResources;
 use oci_json_model::{
-    OciRecord, copy_optional, fault, optional, try_join4, try_join5, write_optional,
+    ObjectWriter, OciRecord, copy_optional, fault, optional, try_join4, try_join5, write_optional,
 };
 use oci_linux_namespaces::{
     LinuxDevice, LinuxIdMapping, LinuxNamespace, LinuxNetDevice, LinuxTimeOffset,
@@ -20,7 +20,7 @@ use oci_runtime_defaults::{
     get_default_maskedpaths, get_default_namespaces, get_default_readonly_paths,
 };
 use oci_text_base::{OciSpecError, Result};
-use serde_json::{Map, Value};
+use serde_json::Value;
 use std::alloc::Global;
 use std::collections::BTreeMap;
 
@@ -195,40 +195,25 @@ impl OciRecord for Linux {
     }
 
     fn to_value(&self, alloc: Global) -> Result<Value> {
-        let mut members = Map::new(alloc);
-        try_join4(
-            try_join5(
-                write_optional(&mut members, alloc, "netDevices", &self.net_devices),
-                write_optional(&mut members, alloc, "uidMappings", &self.uid_mappings),
-                write_optional(&mut members, alloc, "gidMappings", &self.gid_mappings),
-                write_optional(&mut members, alloc, "sysctl", &self.sysctl),
-                write_optional(&mut members, alloc, "resources", &self.resources),
-            ),
-            try_join4(
-                write_optional(&mut members, alloc, "cgroupsPath", &self.cgroups_path),
-                write_optional(&mut members, alloc, "namespaces", &self.namespaces),
-                write_optional(&mut members, alloc, "devices", &self.devices),
-                write_optional(&mut members, alloc, "seccomp", &self.seccomp),
-            ),
-            try_join4(
-                write_optional(
-                    &mut members,
-                    alloc,
-                    "rootfsPropagation",
-                    &self.rootfs_propagation,
-                ),
-                write_optional(&mut members, alloc, "maskedPaths", &self.masked_paths),
-                write_optional(&mut members, alloc, "readonlyPaths", &self.readonly_paths),
-                write_optional(&mut members, alloc, "mountLabel", &self.mount_label),
-            ),
-            try_join4(
-                write_optional(&mut members, alloc, "intelRdt", &self.intel_rdt),
-                write_optional(&mut members, alloc, "memoryPolicy", &self.memory_policy),
-                write_optional(&mut members, alloc, "personality", &self.personality),
-                write_optional(&mut members, alloc, "timeOffsets", &self.time_offsets),
-            ),
-        )?;
-        Ok(Value::Object(members))
+        let mut members = ObjectWriter::new(alloc);
+        write_optional(&mut members, "netDevices", &self.net_devices);
+        write_optional(&mut members, "uidMappings", &self.uid_mappings);
+        write_optional(&mut members, "gidMappings", &self.gid_mappings);
+        write_optional(&mut members, "sysctl", &self.sysctl);
+        write_optional(&mut members, "resources", &self.resources);
+        write_optional(&mut members, "cgroupsPath", &self.cgroups_path);
+        write_optional(&mut members, "namespaces", &self.namespaces);
+        write_optional(&mut members, "devices", &self.devices);
+        write_optional(&mut members, "seccomp", &self.seccomp);
+        write_optional(&mut members, "rootfsPropagation", &self.rootfs_propagation);
+        write_optional(&mut members, "maskedPaths", &self.masked_paths);
+        write_optional(&mut members, "readonlyPaths", &self.readonly_paths);
+        write_optional(&mut members, "mountLabel", &self.mount_label);
+        write_optional(&mut members, "intelRdt", &self.intel_rdt);
+        write_optional(&mut members, "memoryPolicy", &self.memory_policy);
+        write_optional(&mut members, "personality", &self.personality);
+        write_optional(&mut members, "timeOffsets", &self.time_offsets);
+        members.object()
     }
 
     fn duplicate(&self, alloc: Global) -> Result<Linux> {

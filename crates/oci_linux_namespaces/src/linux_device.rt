@@ -4,12 +4,12 @@ ghost use Rattle.std.specs.Prelude.{◌≡◌, IfOk, IfErr};
 
 use oci_json_members::defaulted;
 use oci_json_model::{
-    OciMember, OciRecord, fault, optional, required, try_join2, try_join3, try_join4,
+    ObjectWriter, OciMember, OciRecord, fault, optional, required, try_join2, try_join3, try_join4,
     write_optional, write_required,
 };
 use oci_linux_names::LinuxDeviceType;
 use oci_text_base::{OciSpecError, Result};
-use serde_json::{Map, Value};
+use serde_json::Value;
 use std::alloc::Global;
 
 const NAME: &str = "LinuxDevice";
@@ -279,21 +279,15 @@ impl OciRecord for LinuxDevice {
     }
 
     fn to_value(&self, alloc: Global) -> Result<Value> {
-        let mut members = Map::new(alloc);
-        try_join2(
-            try_join4(
-                write_required(&mut members, alloc, "path", &self.path),
-                write_required(&mut members, alloc, "type", &self.typ),
-                write_required(&mut members, alloc, "major", &self.major),
-                write_required(&mut members, alloc, "minor", &self.minor),
-            ),
-            try_join3(
-                write_optional(&mut members, alloc, "fileMode", &self.file_mode),
-                write_optional(&mut members, alloc, "uid", &self.uid),
-                write_optional(&mut members, alloc, "gid", &self.gid),
-            ),
-        )?;
-        Ok(Value::Object(members))
+        let mut members = ObjectWriter::new(alloc);
+        write_required(&mut members, "path", &self.path);
+        write_required(&mut members, "type", &self.typ);
+        write_required(&mut members, "major", &self.major);
+        write_required(&mut members, "minor", &self.minor);
+        write_optional(&mut members, "fileMode", &self.file_mode);
+        write_optional(&mut members, "uid", &self.uid);
+        write_optional(&mut members, "gid", &self.gid);
+        members.object()
     }
 
     fn duplicate(&self, alloc: Global) -> Result<LinuxDevice> {

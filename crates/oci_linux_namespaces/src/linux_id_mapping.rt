@@ -3,9 +3,9 @@
 ghost use Rattle.std.specs.Prelude.{◌≡◌, IfOk, IfErr};
 
 use oci_json_members::defaulted;
-use oci_json_model::{OciRecord, fault, try_join3, write_required};
+use oci_json_model::{ObjectWriter, OciRecord, fault, try_join3, write_required};
 use oci_text_base::{OciSpecError, Result};
-use serde_json::{Map, Value};
+use serde_json::Value;
 use std::alloc::Global;
 
 const NAME: &str = "LinuxIdMapping";
@@ -92,13 +92,11 @@ impl OciRecord for LinuxIdMapping {
     }
 
     fn to_value(&self, alloc: Global) -> Result<Value> {
-        let mut members = Map::new(alloc);
-        try_join3(
-            write_required(&mut members, alloc, "hostID", &self.host_id),
-            write_required(&mut members, alloc, "containerID", &self.container_id),
-            write_required(&mut members, alloc, "size", &self.size),
-        )?;
-        Ok(Value::Object(members))
+        let mut members = ObjectWriter::new(alloc);
+        write_required(&mut members, "hostID", &self.host_id);
+        write_required(&mut members, "containerID", &self.container_id);
+        write_required(&mut members, "size", &self.size);
+        members.object()
     }
 
     fn duplicate(&self, _alloc: Global) -> Result<LinuxIdMapping> {

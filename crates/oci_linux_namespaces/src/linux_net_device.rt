@@ -3,9 +3,9 @@
 ghost use Rattle.std.specs.Prelude.{◌≡◌, IfOk, IfErr};
 
 use oci_json_members::{nullable, write_nullable};
-use oci_json_model::{OciRecord, copy_optional, fault};
+use oci_json_model::{ObjectWriter, OciRecord, copy_optional, fault};
 use oci_text_base::{OciSpecError, Result};
-use serde_json::{Map, Value};
+use serde_json::Value;
 use std::alloc::Global;
 
 const NAME: &str = "LinuxNetDevice";
@@ -87,9 +87,9 @@ impl OciRecord for LinuxNetDevice {
     }
 
     fn to_value(&self, alloc: Global) -> Result<Value> {
-        let mut members = Map::new(alloc);
-        write_nullable(&mut members, alloc, "name", &self.name)?;
-        Ok(Value::Object(members))
+        let mut members = ObjectWriter::new(alloc);
+        write_nullable(&mut members, "name", &self.name);
+        members.object()
     }
 
     fn duplicate(&self, alloc: Global) -> Result<LinuxNetDevice> {

@@ -2,9 +2,9 @@
 //! By how much a clock of a container's time namespace differs (runtime specification, "Linux Container Configuration", "Offset for Time Namespace").
 ghost use Rattle.std.specs.Prelude.{◌≡◌, IfOk, IfErr};
 
-use oci_json_model::{OciRecord, fault, optional, try_join2, write_optional};
+use oci_json_model::{ObjectWriter, OciRecord, fault, optional, try_join2, write_optional};
 use oci_text_base::{OciSpecError, Result};
-use serde_json::{Map, Value};
+use serde_json::Value;
 use std::alloc::Global;
 
 const NAME: &str = "LinuxTimeOffset";
@@ -100,12 +100,10 @@ impl OciRecord for LinuxTimeOffset {
     }
 
     fn to_value(&self, alloc: Global) -> Result<Value> {
-        let mut members = Map::new(alloc);
-        try_join2(
-            write_optional(&mut members, alloc, "secs", &self.secs),
-            write_optional(&mut members, alloc, "nanosecs", &self.nanosecs),
-        )?;
-        Ok(Value::Object(members))
+        let mut members = ObjectWriter::new(alloc);
+        write_optional(&mut members, "secs", &self.secs);
+        write_optional(&mut members, "nanosecs", &self.nanosecs);
+        members.object()
     }
 
     fn duplicate(&self, _alloc: Global) -> Result<LinuxTimeOffset> {

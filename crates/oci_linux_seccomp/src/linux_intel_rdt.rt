@@ -4,10 +4,11 @@ ghost use Rattle.std.specs.Prelude.{◌≡◌, IfOk, IfErr};
 
 use oci_json_members::{unless_empty, write_unless_empty};
 use oci_json_model::{
-    OciRecord, copy_optional, fault, optional, try_join2, try_join3, try_join4, write_optional,
+    ObjectWriter, OciRecord, copy_optional, fault, optional, try_join2, try_join3, try_join4,
+    write_optional,
 };
 use oci_text_base::{OciSpecError, Result};
-use serde_json::{Map, Value};
+use serde_json::Value;
 use std::alloc::Global;
 
 const NAME: &str = "LinuxIntelRdt";
@@ -279,26 +280,15 @@ impl OciRecord for LinuxIntelRdt {
     }
 
     fn to_value(&self, alloc: Global) -> Result<Value> {
-        let mut members = Map::new(alloc);
-        try_join2(
-            try_join4(
-                write_optional(&mut members, alloc, "closID", &self.clos_id),
-                write_unless_empty(&mut members, alloc, "schemata", &self.schemata),
-                write_optional(&mut members, alloc, "l3CacheSchema", &self.l3_cache_schema),
-                write_optional(&mut members, alloc, "memBwSchema", &self.mem_bw_schema),
-            ),
-            try_join3(
-                write_optional(&mut members, alloc, "enableCmt", &self.enable_cmt),
-                write_optional(&mut members, alloc, "enableMbm", &self.enable_mbm),
-                write_optional(
-                    &mut members,
-                    alloc,
-                    "enableMonitoring",
-                    &self.enable_monitoring,
-                ),
-            ),
-        )?;
-        Ok(Value::Object(members))
+        let mut members = ObjectWriter::new(alloc);
+        write_optional(&mut members, "closID", &self.clos_id);
+        write_unless_empty(&mut members, "schemata", &self.schemata);
+        write_optional(&mut members, "l3CacheSchema", &self.l3_cache_schema);
+        write_optional(&mut members, "memBwSchema", &self.mem_bw_schema);
+        write_optional(&mut members, "enableCmt", &self.enable_cmt);
+        write_optional(&mut members, "enableMbm", &self.enable_mbm);
+        write_optional(&mut members, "enableMonitoring", &self.enable_monitoring);
+        members.object()
     }
 
     fn duplicate(&self, alloc: Global) -> Result<LinuxIntelRdt> {

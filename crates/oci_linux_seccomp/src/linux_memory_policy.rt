@@ -3,12 +3,12 @@
 ghost use Rattle.std.specs.Prelude.{◌≡◌, IfOk, IfErr};
 
 use oci_json_model::{
-    OciRecord, copy_optional, fault, optional, required, try_join2, try_join3, write_optional,
-    write_required,
+    ObjectWriter, OciRecord, copy_optional, fault, optional, required, try_join2, try_join3,
+    write_optional, write_required,
 };
 use oci_linux_names::{MemoryPolicyFlagType, MemoryPolicyModeType};
 use oci_text_base::{OciSpecError, Result, UninitializedFieldError};
-use serde_json::{Map, Value};
+use serde_json::Value;
 use std::alloc::Global;
 
 const NAME: &str = "LinuxMemoryPolicy";
@@ -133,13 +133,11 @@ impl OciRecord for LinuxMemoryPolicy {
     }
 
     fn to_value(&self, alloc: Global) -> Result<Value> {
-        let mut members = Map::new(alloc);
-        try_join3(
-            write_required(&mut members, alloc, "mode", &self.mode),
-            write_optional(&mut members, alloc, "nodes", &self.nodes),
-            write_optional(&mut members, alloc, "flags", &self.flags),
-        )?;
-        Ok(Value::Object(members))
+        let mut members = ObjectWriter::new(alloc);
+        write_required(&mut members, "mode", &self.mode);
+        write_optional(&mut members, "nodes", &self.nodes);
+        write_optional(&mut members, "flags", &self.flags);
+        members.object()
     }
 
     fn duplicate(&self, alloc: Global) -> Result<LinuxMemoryPolicy> {

@@ -4,12 +4,12 @@ ghost use Rattle.std.specs.Prelude.{◌≡◌, IfOk, IfErr};
 
 use crate::linux_syscall::LinuxSyscall;
 use oci_json_model::{
-    OciRecord, copy_optional, fault, optional, required, try_join2, try_join3, try_join4,
-    try_join5, write_optional, write_required,
+    ObjectWriter, OciRecord, copy_optional, fault, optional, required, try_join2, try_join3,
+    try_join4, try_join5, write_optional, write_required,
 };
 use oci_linux_names::{LinuxSeccompAction, LinuxSeccompFilterFlag, SArch};
 use oci_text_base::{OciSpecError, Result};
-use serde_json::{Map, Value};
+use serde_json::Value;
 use std::alloc::Global;
 
 const NAME: &str = "LinuxSeccomp";
@@ -226,31 +226,15 @@ impl OciRecord for LinuxSeccomp {
     }
 
     fn to_value(&self, alloc: Global) -> Result<Value> {
-        let mut members = Map::new(alloc);
-        try_join2(
-            try_join4(
-                write_required(&mut members, alloc, "defaultAction", &self.default_action),
-                write_optional(
-                    &mut members,
-                    alloc,
-                    "defaultErrnoRet",
-                    &self.default_errno_ret,
-                ),
-                write_optional(&mut members, alloc, "architectures", &self.architectures),
-                write_optional(&mut members, alloc, "flags", &self.flags),
-            ),
-            try_join3(
-                write_optional(&mut members, alloc, "listenerPath", &self.listener_path),
-                write_optional(
-                    &mut members,
-                    alloc,
-                    "listenerMetadata",
-                    &self.listener_metadata,
-                ),
-                write_optional(&mut members, alloc, "syscalls", &self.syscalls),
-            ),
-        )?;
-        Ok(Value::Object(members))
+        let mut members = ObjectWriter::new(alloc);
+        write_required(&mut members, "defaultAction", &self.default_action);
+        write_optional(&mut members, "defaultErrnoRet", &self.default_errno_ret);
+        write_optional(&mut members, "architectures", &self.architectures);
+        write_optional(&mut members, "flags", &self.flags);
+        write_optional(&mut members, "listenerPath", &self.listener_path);
+        write_optional(&mut members, "listenerMetadata", &self.listener_metadata);
+        write_optional(&mut members, "syscalls", &self.syscalls);
+        members.object()
     }
 
     fn duplicate(&self, alloc: Global) -> Result<LinuxSeccomp> {

@@ -3,11 +3,11 @@
 ghost use Rattle.std.specs.Prelude.{◌≡◌, IfOk, IfErr};
 
 use oci_json_model::{
-    OciRecord, fault, optional, required, try_join4, write_optional, write_required,
+    ObjectWriter, OciRecord, fault, optional, required, try_join4, write_optional, write_required,
 };
 use oci_linux_names::LinuxSeccompOperator;
 use oci_text_base::{OciSpecError, Result};
-use serde_json::{Map, Value};
+use serde_json::Value;
 use std::alloc::Global;
 
 const NAME: &str = "LinuxSeccompArg";
@@ -104,14 +104,12 @@ impl OciRecord for LinuxSeccompArg {
     }
 
     fn to_value(&self, alloc: Global) -> Result<Value> {
-        let mut members = Map::new(alloc);
-        try_join4(
-            write_required(&mut members, alloc, "index", &self.index),
-            write_required(&mut members, alloc, "value", &self.value),
-            write_optional(&mut members, alloc, "valueTwo", &self.value_two),
-            write_required(&mut members, alloc, "op", &self.op),
-        )?;
-        Ok(Value::Object(members))
+        let mut members = ObjectWriter::new(alloc);
+        write_required(&mut members, "index", &self.index);
+        write_required(&mut members, "value", &self.value);
+        write_optional(&mut members, "valueTwo", &self.value_two);
+        write_required(&mut members, "op", &self.op);
+        members.object()
     }
 
     fn duplicate(&self, _alloc: Global) -> Result<LinuxSeccompArg> {

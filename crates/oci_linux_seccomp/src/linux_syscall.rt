@@ -4,12 +4,12 @@ ghost use Rattle.std.specs.Prelude.{◌≡◌, IfOk, IfErr};
 
 use crate::linux_seccomp_arg::LinuxSeccompArg;
 use oci_json_model::{
-    OciMember, OciRecord, copy_optional, fault, optional, required, try_join2, try_join4,
-    write_optional, write_required,
+    ObjectWriter, OciMember, OciRecord, copy_optional, fault, optional, required, try_join2,
+    try_join4, write_optional, write_required,
 };
 use oci_linux_names::LinuxSeccompAction;
 use oci_text_base::{OciSpecError, Result};
-use serde_json::{Map, Value};
+use serde_json::Value;
 use std::alloc::Global;
 
 const NAME: &str = "LinuxSyscall";
@@ -155,14 +155,12 @@ impl OciRecord for LinuxSyscall {
     }
 
     fn to_value(&self, alloc: Global) -> Result<Value> {
-        let mut members = Map::new(alloc);
-        try_join4(
-            write_required(&mut members, alloc, "names", &self.names),
-            write_required(&mut members, alloc, "action", &self.action),
-            write_optional(&mut members, alloc, "errnoRet", &self.errno_ret),
-            write_optional(&mut members, alloc, "args", &self.args),
-        )?;
-        Ok(Value::Object(members))
+        let mut members = ObjectWriter::new(alloc);
+        write_required(&mut members, "names", &self.names);
+        write_required(&mut members, "action", &self.action);
+        write_optional(&mut members, "errnoRet", &self.errno_ret);
+        write_optional(&mut members, "args", &self.args);
+        members.object()
     }
 
     fn duplicate(&self, alloc: Global) -> Result<LinuxSyscall> {

@@ -6,10 +6,10 @@ use crate::solaris_anet::SolarisAnet;
 use crate::solaris_capped_cpu::SolarisCappedCPU;
 use crate::solaris_capped_memory::SolarisCappedMemory;
 use oci_json_model::{
-    OciRecord, copy_optional, fault, optional, try_join2, try_join3, write_optional,
+    ObjectWriter, OciRecord, copy_optional, fault, optional, try_join2, try_join3, write_optional,
 };
 use oci_text_base::{OciSpecError, Result};
-use serde_json::{Map, Value};
+use serde_json::Value;
 use std::alloc::Global;
 
 const NAME: &str = "Solaris";
@@ -201,20 +201,14 @@ impl OciRecord for Solaris {
     }
 
     fn to_value(&self, alloc: Global) -> Result<Value> {
-        let mut members = Map::new(alloc);
-        try_join2(
-            try_join3(
-                write_optional(&mut members, alloc, "milestone", &self.milestone),
-                write_optional(&mut members, alloc, "limitpriv", &self.limitpriv),
-                write_optional(&mut members, alloc, "maxShmMemory", &self.max_shm_memory),
-            ),
-            try_join3(
-                write_optional(&mut members, alloc, "anet", &self.anet),
-                write_optional(&mut members, alloc, "cappedCPU", &self.capped_cpu),
-                write_optional(&mut members, alloc, "cappedMemory", &self.capped_memory),
-            ),
-        )?;
-        Ok(Value::Object(members))
+        let mut members = ObjectWriter::new(alloc);
+        write_optional(&mut members, "milestone", &self.milestone);
+        write_optional(&mut members, "limitpriv", &self.limitpriv);
+        write_optional(&mut members, "maxShmMemory", &self.max_shm_memory);
+        write_optional(&mut members, "anet", &self.anet);
+        write_optional(&mut members, "cappedCPU", &self.capped_cpu);
+        write_optional(&mut members, "cappedMemory", &self.capped_memory);
+        members.object()
     }
 
     fn duplicate(&self, alloc: Global) -> Result<Solaris> {

@@ -3,10 +3,11 @@
 ghost use Rattle.std.specs.Prelude.{◌≡◌, IfOk, IfErr};
 
 use oci_json_model::{
-    OciRecord, copy_optional, fault, optional, try_join2, try_join3, try_join4, write_optional,
+    ObjectWriter, OciRecord, copy_optional, fault, optional, try_join2, try_join3, try_join4,
+    write_optional,
 };
 use oci_text_base::{OciSpecError, Result};
-use serde_json::{Map, Value};
+use serde_json::Value;
 use std::alloc::Global;
 
 const NAME: &str = "SolarisAnet";
@@ -223,26 +224,19 @@ impl OciRecord for SolarisAnet {
     }
 
     fn to_value(&self, alloc: Global) -> Result<Value> {
-        let mut members = Map::new(alloc);
-        try_join2(
-            try_join4(
-                write_optional(&mut members, alloc, "linkname", &self.linkname),
-                write_optional(&mut members, alloc, "lowerLink", &self.lower_link),
-                write_optional(&mut members, alloc, "allowedAddress", &self.allowed_address),
-                write_optional(
-                    &mut members,
-                    alloc,
-                    "configureAllowedAddress",
-                    &self.configure_allowed_address,
-                ),
-            ),
-            try_join3(
-                write_optional(&mut members, alloc, "defrouter", &self.defrouter),
-                write_optional(&mut members, alloc, "linkProtection", &self.link_protection),
-                write_optional(&mut members, alloc, "macAddress", &self.mac_address),
-            ),
-        )?;
-        Ok(Value::Object(members))
+        let mut members = ObjectWriter::new(alloc);
+        write_optional(&mut members, "linkname", &self.linkname);
+        write_optional(&mut members, "lowerLink", &self.lower_link);
+        write_optional(&mut members, "allowedAddress", &self.allowed_address);
+        write_optional(
+            &mut members,
+            "configureAllowedAddress",
+            &self.configure_allowed_address,
+        );
+        write_optional(&mut members, "defrouter", &self.defrouter);
+        write_optional(&mut members, "linkProtection", &self.link_protection);
+        write_optional(&mut members, "macAddress", &self.mac_address);
+        members.object()
     }
 
     fn duplicate(&self, alloc: Global) -> Result<SolarisAnet> {

@@ -2,9 +2,9 @@
 //! How much processor time a Solaris container may use (runtime specification, "Solaris Application Container Configuration", "CappedCPU").
 ghost use Rattle.std.specs.Prelude.{◌≡◌, IfOk, IfErr};
 
-use oci_json_model::{OciRecord, copy_optional, fault, optional, write_optional};
+use oci_json_model::{ObjectWriter, OciRecord, copy_optional, fault, optional, write_optional};
 use oci_text_base::{OciSpecError, Result};
-use serde_json::{Map, Value};
+use serde_json::Value;
 use std::alloc::Global;
 
 const NAME: &str = "SolarisCappedCPU";
@@ -77,9 +77,9 @@ impl OciRecord for SolarisCappedCPU {
     }
 
     fn to_value(&self, alloc: Global) -> Result<Value> {
-        let mut members = Map::new(alloc);
-        write_optional(&mut members, alloc, "ncpus", &self.ncpus)?;
-        Ok(Value::Object(members))
+        let mut members = ObjectWriter::new(alloc);
+        write_optional(&mut members, "ncpus", &self.ncpus);
+        members.object()
     }
 
     fn duplicate(&self, alloc: Global) -> Result<SolarisCappedCPU> {

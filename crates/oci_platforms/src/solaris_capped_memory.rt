@@ -2,9 +2,11 @@
 //! How much memory a Solaris container may use (runtime specification, "Solaris Application Container Configuration", "CappedMemory").
 ghost use Rattle.std.specs.Prelude.{◌≡◌, IfOk, IfErr};
 
-use oci_json_model::{OciRecord, copy_optional, fault, optional, try_join2, write_optional};
+use oci_json_model::{
+    ObjectWriter, OciRecord, copy_optional, fault, optional, try_join2, write_optional,
+};
 use oci_text_base::{OciSpecError, Result};
-use serde_json::{Map, Value};
+use serde_json::Value;
 use std::alloc::Global;
 
 const NAME: &str = "SolarisCappedMemory";
@@ -99,12 +101,10 @@ impl OciRecord for SolarisCappedMemory {
     }
 
     fn to_value(&self, alloc: Global) -> Result<Value> {
-        let mut members = Map::new(alloc);
-        try_join2(
-            write_optional(&mut members, alloc, "physical", &self.physical),
-            write_optional(&mut members, alloc, "swap", &self.swap),
-        )?;
-        Ok(Value::Object(members))
+        let mut members = ObjectWriter::new(alloc);
+        write_optional(&mut members, "physical", &self.physical);
+        write_optional(&mut members, "swap", &self.swap);
+        members.object()
     }
 
     fn duplicate(&self, alloc: Global) -> Result<SolarisCappedMemory> {

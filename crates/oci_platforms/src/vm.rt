@@ -6,11 +6,11 @@ use crate::vm_hypervisor::VMHypervisor;
 use crate::vm_image::VMImage;
 use crate::vm_kernel::VMKernel;
 use oci_json_model::{
-    OciMember, OciRecord, copy_optional, fault, optional, required, try_join3, write_optional,
-    write_required,
+    ObjectWriter, OciMember, OciRecord, copy_optional, fault, optional, required, try_join3,
+    write_optional, write_required,
 };
 use oci_text_base::{OciSpecError, Result};
-use serde_json::{Map, Value};
+use serde_json::Value;
 use std::alloc::Global;
 
 const NAME: &str = "VM";
@@ -135,13 +135,11 @@ impl OciRecord for VM {
     }
 
     fn to_value(&self, alloc: Global) -> Result<Value> {
-        let mut members = Map::new(alloc);
-        try_join3(
-            write_optional(&mut members, alloc, "hypervisor", &self.hypervisor),
-            write_required(&mut members, alloc, "kernel", &self.kernel),
-            write_optional(&mut members, alloc, "image", &self.image),
-        )?;
-        Ok(Value::Object(members))
+        let mut members = ObjectWriter::new(alloc);
+        write_optional(&mut members, "hypervisor", &self.hypervisor);
+        write_required(&mut members, "kernel", &self.kernel);
+        write_optional(&mut members, "image", &self.image);
+        members.object()
     }
 
     fn duplicate(&self, alloc: Global) -> Result<VM> {

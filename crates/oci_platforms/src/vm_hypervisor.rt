@@ -3,11 +3,11 @@
 ghost use Rattle.std.specs.Prelude.{◌≡◌, IfOk, IfErr};
 
 use oci_json_model::{
-    OciMember, OciRecord, copy_optional, fault, optional, required, try_join2, write_optional,
-    write_required,
+    ObjectWriter, OciMember, OciRecord, copy_optional, fault, optional, required, try_join2,
+    write_optional, write_required,
 };
 use oci_text_base::{OciSpecError, Result};
-use serde_json::{Map, Value};
+use serde_json::Value;
 use std::alloc::Global;
 
 const NAME: &str = "VMHypervisor";
@@ -102,12 +102,10 @@ impl OciRecord for VMHypervisor {
     }
 
     fn to_value(&self, alloc: Global) -> Result<Value> {
-        let mut members = Map::new(alloc);
-        try_join2(
-            write_required(&mut members, alloc, "path", &self.path),
-            write_optional(&mut members, alloc, "parameters", &self.parameters),
-        )?;
-        Ok(Value::Object(members))
+        let mut members = ObjectWriter::new(alloc);
+        write_required(&mut members, "path", &self.path);
+        write_optional(&mut members, "parameters", &self.parameters);
+        members.object()
     }
 
     fn duplicate(&self, alloc: Global) -> Result<VMHypervisor> {

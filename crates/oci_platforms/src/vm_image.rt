@@ -2,9 +2,11 @@
 //! The image that a virtual machine's root is in (runtime specification, "Virtual-machine-specific Container Configuration", "Image Object").
 ghost use Rattle.std.specs.Prelude.{◌≡◌, IfOk, IfErr};
 
-use oci_json_model::{OciMember, OciRecord, fault, required, try_join2, write_required};
+use oci_json_model::{
+    ObjectWriter, OciMember, OciRecord, fault, required, try_join2, write_required,
+};
 use oci_text_base::{OciSpecError, Result};
-use serde_json::{Map, Value};
+use serde_json::Value;
 use std::alloc::Global;
 
 const NAME: &str = "VMImage";
@@ -100,12 +102,10 @@ impl OciRecord for VMImage {
     }
 
     fn to_value(&self, alloc: Global) -> Result<Value> {
-        let mut members = Map::new(alloc);
-        try_join2(
-            write_required(&mut members, alloc, "path", &self.path),
-            write_required(&mut members, alloc, "format", &self.format),
-        )?;
-        Ok(Value::Object(members))
+        let mut members = ObjectWriter::new(alloc);
+        write_required(&mut members, "path", &self.path);
+        write_required(&mut members, "format", &self.format);
+        members.object()
     }
 
     fn duplicate(&self, alloc: Global) -> Result<VMImage> {

@@ -3,9 +3,9 @@
 ghost use Rattle.std.specs.Prelude.{◌≡◌, IfOk, IfErr};
 
 use crate::zos_namespace::ZOSNamespace;
-use oci_json_model::{OciRecord, copy_optional, fault, optional, write_optional};
+use oci_json_model::{ObjectWriter, OciRecord, copy_optional, fault, optional, write_optional};
 use oci_text_base::{OciSpecError, Result};
-use serde_json::{Map, Value};
+use serde_json::Value;
 use std::alloc::Global;
 
 const NAME: &str = "ZOS";
@@ -79,9 +79,9 @@ impl OciRecord for ZOS {
     }
 
     fn to_value(&self, alloc: Global) -> Result<Value> {
-        let mut members = Map::new(alloc);
-        write_optional(&mut members, alloc, "namespaces", &self.namespaces)?;
-        Ok(Value::Object(members))
+        let mut members = ObjectWriter::new(alloc);
+        write_optional(&mut members, "namespaces", &self.namespaces);
+        members.object()
     }
 
     fn duplicate(&self, alloc: Global) -> Result<ZOS> {

@@ -3,11 +3,12 @@
 ghost use Rattle.std.specs.Prelude.{◌≡◌, IfOk, IfErr};
 
 use oci_json_model::{
-    OciRecord, copy_optional, fault, optional, required, try_join2, write_optional, write_required,
+    ObjectWriter, OciRecord, copy_optional, fault, optional, required, try_join2, write_optional,
+    write_required,
 };
 use oci_runtime_names::ZOSNamespaceType;
 use oci_text_base::{OciSpecError, Result};
-use serde_json::{Map, Value};
+use serde_json::Value;
 use std::alloc::Global;
 
 const NAME: &str = "ZOSNamespace";
@@ -103,12 +104,10 @@ impl OciRecord for ZOSNamespace {
     }
 
     fn to_value(&self, alloc: Global) -> Result<Value> {
-        let mut members = Map::new(alloc);
-        try_join2(
-            write_required(&mut members, alloc, "type", &self.typ),
-            write_optional(&mut members, alloc, "path", &self.path),
-        )?;
-        Ok(Value::Object(members))
+        let mut members = ObjectWriter::new(alloc);
+        write_required(&mut members, "type", &self.typ);
+        write_optional(&mut members, "path", &self.path);
+        members.object()
     }
 
     fn duplicate(&self, alloc: Global) -> Result<ZOSNamespace> {

@@ -10,10 +10,11 @@ use oci_json_members::{
     FreeValues, copy_optional_as, equal_optional_values, optional_as, write_optional_as,
 };
 use oci_json_model::{
-    OciRecord, copy_optional, fault, optional, try_join2, try_join4, try_join5, write_optional,
+    ObjectWriter, OciRecord, copy_optional, fault, optional, try_join2, try_join4, try_join5,
+    write_optional,
 };
 use oci_text_base::{OciSpecError, Result};
-use serde_json::{Map, Value};
+use serde_json::Value;
 use std::alloc::Global;
 use std::collections::BTreeMap;
 
@@ -290,33 +291,25 @@ impl OciRecord for Windows {
     }
 
     fn to_value(&self, alloc: Global) -> Result<Value> {
-        let mut members = Map::new(alloc);
-        try_join2(
-            try_join4(
-                write_optional(&mut members, alloc, "layerFolders", &self.layer_folders),
-                write_optional(&mut members, alloc, "devices", &self.devices),
-                write_optional(&mut members, alloc, "resources", &self.resources),
-                write_optional_as::<FreeValues, BTreeMap<String, Option<Value>>>(
-                    &mut members,
-                    alloc,
-                    NAME,
-                    "credentialSpec",
-                    &self.credential_spec,
-                ),
-            ),
-            try_join4(
-                write_optional(&mut members, alloc, "servicing", &self.servicing),
-                write_optional(
-                    &mut members,
-                    alloc,
-                    "ignoreFlushesDuringBoot",
-                    &self.ignore_flushes_during_boot,
-                ),
-                write_optional(&mut members, alloc, "hyperv", &self.hyperv),
-                write_optional(&mut members, alloc, "network", &self.network),
-            ),
-        )?;
-        Ok(Value::Object(members))
+        let mut members = ObjectWriter::new(alloc);
+        write_optional(&mut members, "layerFolders", &self.layer_folders);
+        write_optional(&mut members, "devices", &self.devices);
+        write_optional(&mut members, "resources", &self.resources);
+        write_optional_as::<FreeValues, BTreeMap<String, Option<Value>>>(
+            &mut members,
+            NAME,
+            "credentialSpec",
+            &self.credential_spec,
+        );
+        write_optional(&mut members, "servicing", &self.servicing);
+        write_optional(
+            &mut members,
+            "ignoreFlushesDuringBoot",
+            &self.ignore_flushes_during_boot,
+        );
+        write_optional(&mut members, "hyperv", &self.hyperv);
+        write_optional(&mut members, "network", &self.network);
+        members.object()
     }
 
     fn duplicate(&self, alloc: Global) -> Result<Windows> {

@@ -2,9 +2,9 @@
 //! How much processor time a Windows container may use (runtime specification, "Windows-specific Container Configuration", "CPU").
 ghost use Rattle.std.specs.Prelude.{◌≡◌, IfOk, IfErr};
 
-use oci_json_model::{OciRecord, fault, optional, try_join3, write_optional};
+use oci_json_model::{ObjectWriter, OciRecord, fault, optional, try_join3, write_optional};
 use oci_text_base::{OciSpecError, Result};
-use serde_json::{Map, Value};
+use serde_json::Value;
 use std::alloc::Global;
 
 const NAME: &str = "WindowsCPUResources";
@@ -116,13 +116,11 @@ impl OciRecord for WindowsCPUResources {
     }
 
     fn to_value(&self, alloc: Global) -> Result<Value> {
-        let mut members = Map::new(alloc);
-        try_join3(
-            write_optional(&mut members, alloc, "count", &self.count),
-            write_optional(&mut members, alloc, "shares", &self.shares),
-            write_optional(&mut members, alloc, "maximum", &self.maximum),
-        )?;
-        Ok(Value::Object(members))
+        let mut members = ObjectWriter::new(alloc);
+        write_optional(&mut members, "count", &self.count);
+        write_optional(&mut members, "shares", &self.shares);
+        write_optional(&mut members, "maximum", &self.maximum);
+        members.object()
     }
 
     fn duplicate(&self, _alloc: Global) -> Result<WindowsCPUResources> {

@@ -2,9 +2,11 @@
 //! A device of the host that a Windows container has (runtime specification, "Windows-specific Container Configuration", "Devices").
 ghost use Rattle.std.specs.Prelude.{◌≡◌, IfOk, IfErr};
 
-use oci_json_model::{OciMember, OciRecord, fault, required, try_join2, write_required};
+use oci_json_model::{
+    ObjectWriter, OciMember, OciRecord, fault, required, try_join2, write_required,
+};
 use oci_text_base::{OciSpecError, Result};
-use serde_json::{Map, Value};
+use serde_json::Value;
 use std::alloc::Global;
 
 const NAME: &str = "WindowsDevice";
@@ -99,12 +101,10 @@ impl OciRecord for WindowsDevice {
     }
 
     fn to_value(&self, alloc: Global) -> Result<Value> {
-        let mut members = Map::new(alloc);
-        try_join2(
-            write_required(&mut members, alloc, "id", &self.id),
-            write_required(&mut members, alloc, "idType", &self.id_type),
-        )?;
-        Ok(Value::Object(members))
+        let mut members = ObjectWriter::new(alloc);
+        write_required(&mut members, "id", &self.id);
+        write_required(&mut members, "idType", &self.id_type);
+        members.object()
     }
 
     fn duplicate(&self, alloc: Global) -> Result<WindowsDevice> {

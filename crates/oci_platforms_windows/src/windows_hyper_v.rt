@@ -2,9 +2,9 @@
 //! What a Windows container that Hyper-V keeps apart has (runtime specification, "Windows-specific Container Configuration", "HyperV").
 ghost use Rattle.std.specs.Prelude.{◌≡◌, IfOk, IfErr};
 
-use oci_json_model::{OciRecord, copy_optional, fault, optional, write_optional};
+use oci_json_model::{ObjectWriter, OciRecord, copy_optional, fault, optional, write_optional};
 use oci_text_base::{OciSpecError, Result};
-use serde_json::{Map, Value};
+use serde_json::Value;
 use std::alloc::Global;
 
 const NAME: &str = "WindowsHyperV";
@@ -79,9 +79,9 @@ impl OciRecord for WindowsHyperV {
     }
 
     fn to_value(&self, alloc: Global) -> Result<Value> {
-        let mut members = Map::new(alloc);
-        write_optional(&mut members, alloc, "utilityVmPath", &self.utility_vm_path)?;
-        Ok(Value::Object(members))
+        let mut members = ObjectWriter::new(alloc);
+        write_optional(&mut members, "utilityVmPath", &self.utility_vm_path);
+        members.object()
     }
 
     fn duplicate(&self, alloc: Global) -> Result<WindowsHyperV> {

@@ -2,9 +2,9 @@
 //! How much memory a Windows container may use (runtime specification, "Windows-specific Container Configuration", "Memory").
 ghost use Rattle.std.specs.Prelude.{◌≡◌, IfOk, IfErr};
 
-use oci_json_model::{OciRecord, fault, optional, write_optional};
+use oci_json_model::{ObjectWriter, OciRecord, fault, optional, write_optional};
 use oci_text_base::{OciSpecError, Result};
-use serde_json::{Map, Value};
+use serde_json::Value;
 use std::alloc::Global;
 
 const NAME: &str = "WindowsMemoryResources";
@@ -71,9 +71,9 @@ impl OciRecord for WindowsMemoryResources {
     }
 
     fn to_value(&self, alloc: Global) -> Result<Value> {
-        let mut members = Map::new(alloc);
-        write_optional(&mut members, alloc, "limit", &self.limit)?;
-        Ok(Value::Object(members))
+        let mut members = ObjectWriter::new(alloc);
+        write_optional(&mut members, "limit", &self.limit);
+        members.object()
     }
 
     fn duplicate(&self, _alloc: Global) -> Result<WindowsMemoryResources> {

@@ -3,10 +3,10 @@
 ghost use Rattle.std.specs.Prelude.{◌≡◌, IfOk, IfErr};
 
 use oci_json_model::{
-    OciRecord, copy_optional, fault, optional, try_join4, try_join5, write_optional,
+    ObjectWriter, OciRecord, copy_optional, fault, optional, try_join4, try_join5, write_optional,
 };
 use oci_text_base::{OciSpecError, Result};
-use serde_json::{Map, Value};
+use serde_json::Value;
 use std::alloc::Global;
 
 const NAME: &str = "WindowsNetwork";
@@ -182,30 +182,21 @@ impl OciRecord for WindowsNetwork {
     }
 
     fn to_value(&self, alloc: Global) -> Result<Value> {
-        let mut members = Map::new(alloc);
-        try_join5(
-            write_optional(&mut members, alloc, "endpointList", &self.endpoint_list),
-            write_optional(
-                &mut members,
-                alloc,
-                "allowUnqualifiedDNSQuery",
-                &self.allow_unqualified_dns_query,
-            ),
-            write_optional(&mut members, alloc, "DNSSearchList", &self.dns_search_list),
-            write_optional(
-                &mut members,
-                alloc,
-                "networkSharedContainerName",
-                &self.network_shared_container_name,
-            ),
-            write_optional(
-                &mut members,
-                alloc,
-                "networkNamespace",
-                &self.network_namespace,
-            ),
-        )?;
-        Ok(Value::Object(members))
+        let mut members = ObjectWriter::new(alloc);
+        write_optional(&mut members, "endpointList", &self.endpoint_list);
+        write_optional(
+            &mut members,
+            "allowUnqualifiedDNSQuery",
+            &self.allow_unqualified_dns_query,
+        );
+        write_optional(&mut members, "DNSSearchList", &self.dns_search_list);
+        write_optional(
+            &mut members,
+            "networkSharedContainerName",
+            &self.network_shared_container_name,
+        );
+        write_optional(&mut members, "networkNamespace", &self.network_namespace);
+        members.object()
     }
 
     fn duplicate(&self, alloc: Global) -> Result<WindowsNetwork> {

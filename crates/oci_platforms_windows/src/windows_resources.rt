@@ -5,9 +5,9 @@ ghost use Rattle.std.specs.Prelude.{◌≡◌, IfOk, IfErr};
 use crate::windows_cpu_resources::WindowsCPUResources;
 use crate::windows_memory_resources::WindowsMemoryResources;
 use crate::windows_storage_resources::WindowsStorageResources;
-use oci_json_model::{OciRecord, fault, optional, try_join3, write_optional};
+use oci_json_model::{ObjectWriter, OciRecord, fault, optional, try_join3, write_optional};
 use oci_text_base::{OciSpecError, Result};
-use serde_json::{Map, Value};
+use serde_json::Value;
 use std::alloc::Global;
 
 const NAME: &str = "WindowsResources";
@@ -122,13 +122,11 @@ impl OciRecord for WindowsResources {
     }
 
     fn to_value(&self, alloc: Global) -> Result<Value> {
-        let mut members = Map::new(alloc);
-        try_join3(
-            write_optional(&mut members, alloc, "memory", &self.memory),
-            write_optional(&mut members, alloc, "cpu", &self.cpu),
-            write_optional(&mut members, alloc, "storage", &self.storage),
-        )?;
-        Ok(Value::Object(members))
+        let mut members = ObjectWriter::new(alloc);
+        write_optional(&mut members, "memory", &self.memory);
+        write_optional(&mut members, "cpu", &self.cpu);
+        write_optional(&mut members, "storage", &self.storage);
+        members.object()
     }
 
     fn duplicate(&self, _alloc: Global) -> Result<WindowsResources> {

@@ -2,9 +2,9 @@
 //! How a Windows container may use its system drive (runtime specification, "Windows-specific Container Configuration", "Storage").
 ghost use Rattle.std.specs.Prelude.{◌≡◌, IfOk, IfErr};
 
-use oci_json_model::{OciRecord, fault, optional, try_join3, write_optional};
+use oci_json_model::{ObjectWriter, OciRecord, fault, optional, try_join3, write_optional};
 use oci_text_base::{OciSpecError, Result};
-use serde_json::{Map, Value};
+use serde_json::Value;
 use std::alloc::Global;
 
 const NAME: &str = "WindowsStorageResources";
@@ -116,13 +116,11 @@ impl OciRecord for WindowsStorageResources {
     }
 
     fn to_value(&self, alloc: Global) -> Result<Value> {
-        let mut members = Map::new(alloc);
-        try_join3(
-            write_optional(&mut members, alloc, "iops", &self.iops),
-            write_optional(&mut members, alloc, "bps", &self.bps),
-            write_optional(&mut members, alloc, "sandboxSize", &self.sandbox_size),
-        )?;
-        Ok(Value::Object(members))
+        let mut members = ObjectWriter::new(alloc);
+        write_optional(&mut members, "iops", &self.iops);
+        write_optional(&mut members, "bps", &self.bps);
+        write_optional(&mut members, "sandboxSize", &self.sandbox_size);
+        members.object()
     }
 
     fn duplicate(&self, _alloc: Global) -> Result<WindowsStorageResources> {

@@ -3,9 +3,9 @@
 ghost use Rattle.std.specs.Prelude.{◌≡◌, IfOk, IfErr};
 
 use oci_json_members::defaulted;
-use oci_json_model::{OciRecord, fault, try_join2, write_required};
+use oci_json_model::{ObjectWriter, OciRecord, fault, try_join2, write_required};
 use oci_text_base::{OciSpecError, Result};
-use serde_json::{Map, Value};
+use serde_json::Value;
 use std::alloc::Global;
 
 const NAME: &str = "Box";
@@ -77,12 +77,10 @@ impl OciRecord for Box {
     }
 
     fn to_value(&self, alloc: Global) -> Result<Value> {
-        let mut members = Map::new(alloc);
-        try_join2(
-            write_required(&mut members, alloc, "height", &self.height),
-            write_required(&mut members, alloc, "width", &self.width),
-        )?;
-        Ok(Value::Object(members))
+        let mut members = ObjectWriter::new(alloc);
+        write_required(&mut members, "height", &self.height);
+        write_required(&mut members, "width", &self.width);
+        members.object()
     }
 
     fn duplicate(&self, _alloc: Global) -> Result<Box> {

@@ -5,10 +5,10 @@ ghost use Rattle.std.specs.Prelude.{◌≡◌, IfOk, IfErr};
 mod build;
 
 use oci_json_members::{copy_optional_as, optional_as, write_optional_as};
-use oci_json_model::{OciRecord, fault, try_join2};
+use oci_json_model::{ObjectWriter, OciRecord, fault, try_join2};
 use oci_process_names::CpuTexts;
 use oci_text_base::{OciSpecError, Result};
-use serde_json::{Map, Value};
+use serde_json::Value;
 use std::alloc::Global;
 
 const NAME: &str = "ExecCPUAffinity";
@@ -112,24 +112,15 @@ impl OciRecord for ExecCPUAffinity {
     }
 
     fn to_value(&self, alloc: Global) -> Result<Value> {
-        let mut members = Map::new(alloc);
-        try_join2(
-            write_optional_as::<CpuTexts, String>(
-                &mut members,
-                alloc,
-                NAME,
-                "initial",
-                &self.initial,
-            ),
-            write_optional_as::<CpuTexts, String>(
-                &mut members,
-                alloc,
-                NAME,
-                "final",
-                &self.cpu_affinity_final,
-            ),
-        )?;
-        Ok(Value::Object(members))
+        let mut members = ObjectWriter::new(alloc);
+        write_optional_as::<CpuTexts, String>(&mut members, NAME, "initial", &self.initial);
+        write_optional_as::<CpuTexts, String>(
+            &mut members,
+            NAME,
+            "final",
+            &self.cpu_affinity_final,
+        );
+        members.object()
     }
 
     fn duplicate(&self, alloc: Global) -> Result<ExecCPUAffinity> {

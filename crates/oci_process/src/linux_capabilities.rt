@@ -3,10 +3,10 @@
 ghost use Rattle.std.specs.Prelude.{◌≡◌, IfOk, IfErr};
 
 use oci_json_members::{copy_optional_as, optional_as, write_optional_as};
-use oci_json_model::{OciRecord, fault, try_join5};
+use oci_json_model::{ObjectWriter, OciRecord, fault, try_join5};
 use oci_process_names::{Capability, Caps, default_capabilities};
 use oci_text_base::{OciSpecError, Result};
-use serde_json::{Map, Value};
+use serde_json::Value;
 use std::alloc::Global;
 use std::collections::HashSet;
 
@@ -179,45 +179,38 @@ impl OciRecord for LinuxCapabilities {
     }
 
     fn to_value(&self, alloc: Global) -> Result<Value> {
-        let mut members = Map::new(alloc);
-        try_join5(
-            write_optional_as::<Caps, HashSet<Capability>>(
-                &mut members,
-                alloc,
-                NAME,
-                "bounding",
-                &self.bounding,
-            ),
-            write_optional_as::<Caps, HashSet<Capability>>(
-                &mut members,
-                alloc,
-                NAME,
-                "effective",
-                &self.effective,
-            ),
-            write_optional_as::<Caps, HashSet<Capability>>(
-                &mut members,
-                alloc,
-                NAME,
-                "inheritable",
-                &self.inheritable,
-            ),
-            write_optional_as::<Caps, HashSet<Capability>>(
-                &mut members,
-                alloc,
-                NAME,
-                "permitted",
-                &self.permitted,
-            ),
-            write_optional_as::<Caps, HashSet<Capability>>(
-                &mut members,
-                alloc,
-                NAME,
-                "ambient",
-                &self.ambient,
-            ),
-        )?;
-        Ok(Value::Object(members))
+        let mut members = ObjectWriter::new(alloc);
+        write_optional_as::<Caps, HashSet<Capability>>(
+            &mut members,
+            NAME,
+            "bounding",
+            &self.bounding,
+        );
+        write_optional_as::<Caps, HashSet<Capability>>(
+            &mut members,
+            NAME,
+            "effective",
+            &self.effective,
+        );
+        write_optional_as::<Caps, HashSet<Capability>>(
+            &mut members,
+            NAME,
+            "inheritable",
+            &self.inheritable,
+        );
+        write_optional_as::<Caps, HashSet<Capability>>(
+            &mut members,
+            NAME,
+            "permitted",
+            &self.permitted,
+        );
+        write_optional_as::<Caps, HashSet<Capability>>(
+            &mut members,
+            NAME,
+            "ambient",
+            &self.ambient,
+        );
+        members.object()
     }
 
     fn duplicate(&self, alloc: Global) -> Result<LinuxCapabilities> {

@@ -3,10 +3,10 @@
 ghost use Rattle.std.specs.Prelude.{◌≡◌, IfOk, IfErr};
 
 use oci_json_members::defaulted;
-use oci_json_model::{OciRecord, fault, try_join2, write_required};
+use oci_json_model::{ObjectWriter, OciRecord, fault, try_join2, write_required};
 use oci_process_names::IOPriorityClass;
 use oci_text_base::{OciSpecError, Result};
-use serde_json::{Map, Value};
+use serde_json::Value;
 use std::alloc::Global;
 
 const NAME: &str = "LinuxIOPriority";
@@ -80,12 +80,10 @@ impl OciRecord for LinuxIOPriority {
     }
 
     fn to_value(&self, alloc: Global) -> Result<Value> {
-        let mut members = Map::new(alloc);
-        try_join2(
-            write_required(&mut members, alloc, "class", &self.class),
-            write_required(&mut members, alloc, "priority", &self.priority),
-        )?;
-        Ok(Value::Object(members))
+        let mut members = ObjectWriter::new(alloc);
+        write_required(&mut members, "class", &self.class);
+        write_required(&mut members, "priority", &self.priority);
+        members.object()
     }
 
     fn duplicate(&self, _alloc: Global) -> Result<LinuxIOPriority> {

@@ -3,10 +3,10 @@
 ghost use Rattle.std.specs.Prelude.{◌≡◌, IfOk, IfErr};
 
 use oci_json_members::defaulted;
-use oci_json_model::{OciRecord, fault, required, try_join3, write_required};
+use oci_json_model::{ObjectWriter, OciRecord, fault, required, try_join3, write_required};
 use oci_process_names::PosixRlimitType;
 use oci_text_base::{OciSpecError, Result};
-use serde_json::{Map, Value};
+use serde_json::Value;
 use std::alloc::Global;
 
 const NAME: &str = "PosixRlimit";
@@ -90,13 +90,11 @@ impl OciRecord for PosixRlimit {
     }
 
     fn to_value(&self, alloc: Global) -> Result<Value> {
-        let mut members = Map::new(alloc);
-        try_join3(
-            write_required(&mut members, alloc, "type", &self.typ),
-            write_required(&mut members, alloc, "hard", &self.hard),
-            write_required(&mut members, alloc, "soft", &self.soft),
-        )?;
-        Ok(Value::Object(members))
+        let mut members = ObjectWriter::new(alloc);
+        write_required(&mut members, "type", &self.typ);
+        write_required(&mut members, "hard", &self.hard);
+        write_required(&mut members, "soft", &self.soft);
+        members.object()
     }
 
     fn duplicate(&self, _alloc: Global) -> Result<PosixRlimit> {

@@ -15,11 +15,11 @@ use crate::scheduler::Scheduler;
 use crate::user::User;
 pub use builder::ProcessBuilder;
 use oci_json_model::{
-    OciMember, OciRecord, copy_optional, fault, optional, required, try_join2, try_join3,
-    try_join4, write_optional, write_required,
+    ObjectWriter, OciMember, OciRecord, copy_optional, fault, optional, required, try_join2,
+    try_join3, try_join4, write_optional, write_required,
 };
 use oci_text_base::{OciSpecError, Result};
-use serde_json::{Map, Value};
+use serde_json::Value;
 use std::alloc::Global;
 
 const NAME: &str = "Process";
@@ -191,49 +191,24 @@ impl OciRecord for Process {
     }
 
     fn to_value(&self, alloc: Global) -> Result<Value> {
-        let mut members = Map::new(alloc);
-        try_join4(
-            try_join4(
-                write_optional(&mut members, alloc, "terminal", &self.terminal),
-                write_optional(&mut members, alloc, "consoleSize", &self.console_size),
-                write_required(&mut members, alloc, "user", &self.user),
-                write_optional(&mut members, alloc, "args", &self.args),
-            ),
-            try_join4(
-                write_optional(&mut members, alloc, "commandLine", &self.command_line),
-                write_optional(&mut members, alloc, "env", &self.env),
-                write_required(&mut members, alloc, "cwd", &self.cwd),
-                write_optional(&mut members, alloc, "capabilities", &self.capabilities),
-            ),
-            try_join4(
-                write_optional(&mut members, alloc, "rlimits", &self.rlimits),
-                write_optional(
-                    &mut members,
-                    alloc,
-                    "noNewPrivileges",
-                    &self.no_new_privileges,
-                ),
-                write_optional(
-                    &mut members,
-                    alloc,
-                    "apparmorProfile",
-                    &self.apparmor_profile,
-                ),
-                write_optional(&mut members, alloc, "oomScoreAdj", &self.oom_score_adj),
-            ),
-            try_join4(
-                write_optional(&mut members, alloc, "selinuxLabel", &self.selinux_label),
-                write_optional(&mut members, alloc, "ioPriority", &self.io_priority),
-                write_optional(&mut members, alloc, "scheduler", &self.scheduler),
-                write_optional(
-                    &mut members,
-                    alloc,
-                    "execCPUAffinity",
-                    &self.exec_cpu_affinity,
-                ),
-            ),
-        )?;
-        Ok(Value::Object(members))
+        let mut members = ObjectWriter::new(alloc);
+        write_optional(&mut members, "terminal", &self.terminal);
+        write_optional(&mut members, "consoleSize", &self.console_size);
+        write_required(&mut members, "user", &self.user);
+        write_optional(&mut members, "args", &self.args);
+        write_optional(&mut members, "commandLine", &self.command_line);
+        write_optional(&mut members, "env", &self.env);
+        write_required(&mut members, "cwd", &self.cwd);
+        write_optional(&mut members, "capabilities", &self.capabilities);
+        write_optional(&mut members, "rlimits", &self.rlimits);
+        write_optional(&mut members, "noNewPrivileges", &self.no_new_privileges);
+        write_optional(&mut members, "apparmorProfile", &self.apparmor_profile);
+        write_optional(&mut members, "oomScoreAdj", &self.oom_score_adj);
+        write_optional(&mut members, "selinuxLabel", &self.selinux_label);
+        write_optional(&mut members, "ioPriority", &self.io_priority);
+        write_optional(&mut members, "scheduler", &self.scheduler);
+        write_optional(&mut members, "execCPUAffinity", &self.exec_cpu_affinity);
+        members.object()
     }
 
     fn duplicate(&self, alloc: Global) -> Result<Process> {

@@ -3,12 +3,12 @@
 ghost use Rattle.std.specs.Prelude.{◌≡◌, IfOk, IfErr};
 
 use oci_json_model::{
-    OciRecord, copy_optional, fault, optional, required, try_join2, try_join3, try_join4,
-    write_optional, write_required,
+    ObjectWriter, OciRecord, copy_optional, fault, optional, required, try_join2, try_join3,
+    try_join4, write_optional, write_required,
 };
 use oci_process_names::{LinuxSchedulerFlag, LinuxSchedulerPolicy};
 use oci_text_base::{OciSpecError, Result};
-use serde_json::{Map, Value};
+use serde_json::Value;
 use std::alloc::Global;
 
 const NAME: &str = "Scheduler";
@@ -220,21 +220,15 @@ impl OciRecord for Scheduler {
     }
 
     fn to_value(&self, alloc: Global) -> Result<Value> {
-        let mut members = Map::new(alloc);
-        try_join2(
-            try_join4(
-                write_required(&mut members, alloc, "policy", &self.policy),
-                write_optional(&mut members, alloc, "nice", &self.nice),
-                write_optional(&mut members, alloc, "priority", &self.priority),
-                write_optional(&mut members, alloc, "flags", &self.flags),
-            ),
-            try_join3(
-                write_optional(&mut members, alloc, "runtime", &self.runtime),
-                write_optional(&mut members, alloc, "deadline", &self.deadline),
-                write_optional(&mut members, alloc, "period", &self.period),
-            ),
-        )?;
-        Ok(Value::Object(members))
+        let mut members = ObjectWriter::new(alloc);
+        write_required(&mut members, "policy", &self.policy);
+        write_optional(&mut members, "nice", &self.nice);
+        write_optional(&mut members, "priority", &self.priority);
+        write_optional(&mut members, "flags", &self.flags);
+        write_optional(&mut members, "runtime", &self.runtime);
+        write_optional(&mut members, "deadline", &self.deadline);
+        write_optional(&mut members, "period", &self.period);
+        members.object()
     }
 
     fn duplicate(&self, alloc: Global) -> Result<Scheduler> {

@@ -4,10 +4,11 @@ ghost use Rattle.std.specs.Prelude.{◌≡◌, IfOk, IfErr};
 
 use oci_json_members::defaulted;
 use oci_json_model::{
-    OciRecord, copy_optional, fault, optional, try_join2, try_join5, write_optional, write_required,
+    ObjectWriter, OciRecord, copy_optional, fault, optional, try_join2, try_join5, write_optional,
+    write_required,
 };
 use oci_text_base::{OciSpecError, Result};
-use serde_json::{Map, Value};
+use serde_json::Value;
 use std::alloc::Global;
 
 const NAME: &str = "User";
@@ -213,15 +214,13 @@ impl OciRecord for User {
     }
 
     fn to_value(&self, alloc: Global) -> Result<Value> {
-        let mut members = Map::new(alloc);
-        try_join5(
-            write_required(&mut members, alloc, "uid", &self.uid),
-            write_required(&mut members, alloc, "gid", &self.gid),
-            write_optional(&mut members, alloc, "umask", &self.umask),
-            write_optional(&mut members, alloc, "additionalGids", &self.additional_gids),
-            write_optional(&mut members, alloc, "username", &self.username),
-        )?;
-        Ok(Value::Object(members))
+        let mut members = ObjectWriter::new(alloc);
+        write_required(&mut members, "uid", &self.uid);
+        write_required(&mut members, "gid", &self.gid);
+        write_optional(&mut members, "umask", &self.umask);
+        write_optional(&mut members, "additionalGids", &self.additional_gids);
+        write_optional(&mut members, "username", &self.username);
+        members.object()
     }
 
     fn duplicate(&self, alloc: Global) -> Result<User> {

@@ -9,12 +9,12 @@ use crate::limits::limit;
 use crate::names::{Named, default_name, repository_text};
 use crate::texts::{copied, lent, mark_if, owned, some_text, tag_or_latest, text_or_empty};
 use oci_json_model::{
-    OciRecord, fault, optional, optional_owned, required, required_owned, taken_5, try_join5,
-    write_optional, write_required,
+    ObjectWriter, OciRecord, fault, optional, optional_owned, required, required_owned, taken_5,
+    try_join5, write_optional, write_required,
 };
 use oci_reference_scan::{ParseError, parts};
 use oci_text_base::OciSpecError;
-use serde_json::{Map, Value};
+use serde_json::Value;
 use std::alloc::{AllocError, Global};
 use std::fmt;
 use std::hash::{Hash, Hasher};
@@ -391,20 +391,13 @@ impl OciRecord for Reference {
     }
 
     fn to_value(&self, alloc: Global) -> oci_text_base::Result<Value> {
-        let mut members = Map::new(alloc);
-        try_join5(
-            write_required(&mut members, alloc, "registry", &self.registry),
-            write_optional(
-                &mut members,
-                alloc,
-                "mirror_registry",
-                &self.mirror_registry,
-            ),
-            write_required(&mut members, alloc, "repository", &self.repository),
-            write_optional(&mut members, alloc, "tag", &self.tag),
-            write_optional(&mut members, alloc, "digest", &self.digest),
-        )?;
-        Ok(Value::Object(members))
+        let mut members = ObjectWriter::new(alloc);
+        write_required(&mut members, "registry", &self.registry);
+        write_optional(&mut members, "mirror_registry", &self.mirror_registry);
+        write_required(&mut members, "repository", &self.repository);
+        write_optional(&mut members, "tag", &self.tag);
+        write_optional(&mut members, "digest", &self.digest);
+        members.object()
     }
 
     fn duplicate(&self, _alloc: Global) -> oci_text_base::Result<Reference> {

@@ -3,8 +3,8 @@ pub use Rattle.oci_json_model.specs.Types
 pub use Rattle.oci_json_model.specs.Writable
 pub use Rattle.oci_linux.specs.Linux
 pub use Rattle.oci_process.specs.Process
-pub use Rattle.oci_runtime_defaults.specs.Answers
-pub use Rattle.oci_runtime_defaults.specs.Canonical
+pub use Rattle.oci_runtime_root.specs.Answers
+pub use Rattle.oci_runtime_root.specs.Canonical
 pub use Rattle.oci_runtime_names.specs.ContainerState
 pub use Rattle.oci_runtime_records.specs.ContainerProcessState
 pub use Rattle.oci_runtime_records.specs.DefaultMounts

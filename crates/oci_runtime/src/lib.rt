@@ -5,7 +5,7 @@
 pub mod spec_builder;
 pub mod versions;
 
-pub use oci_runtime_defaults::Answer;
+pub use oci_runtime_root::Answer;
 pub use oci_runtime_records::{
     ContainerProcessState, ContainerProcessStateBuilder, ContainerState, Hook, HookBuilder, Hooks,
     HooksBuilder, Mount, MountBuilder, Root, RootBuilder, SECCOMP_FD_NAME, State, StateBuilder,

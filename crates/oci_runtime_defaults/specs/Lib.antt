@@ -1,4 +1,2 @@
-pub mod Answers
-pub mod Canonical
 pub mod Defaults
 pub mod DeviceRule

@@ -1,21 +1,17 @@
 //! What the configuration of a container is made of besides its records: the namespaces and paths that it has by default, the
-//! rule that allows a device, the path of its root made canonical, and the version, root and mounts with which it begins (runtime
-//! specification, "Configuration", "Linux Container Configuration").
+//! rule that allows a device, and the version, root and mounts with which it begins (runtime specification, "Configuration", "Linux
+//! Container Configuration").
 #![tactic(auto)]
 
-pub mod answer;
 pub mod beginnings;
 mod defaults;
 mod device_rule;
-pub mod rootfs;
 pub mod texts;
 
-pub use answer::Answer;
 pub use beginnings::rootless_parts;
 pub use defaults::{
     get_default_maskedpaths, get_default_namespaces, get_default_readonly_paths,
     get_rootless_namespaces,
 };
 pub use device_rule::cgroup_of;
-pub use rootfs::canonicalize;
 pub use texts::text_of;

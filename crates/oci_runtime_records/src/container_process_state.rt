@@ -6,11 +6,11 @@ use crate::absent::defaulted_state;
 use crate::state::State;
 use oci_json_members::defaulted;
 use oci_json_model::{
-    OciMember, OciRecord, copy_optional, fault, optional, try_join4, try_join5, write_optional,
-    write_required,
+    ObjectWriter, OciMember, OciRecord, copy_optional, fault, optional, try_join4, try_join5,
+    write_optional, write_required,
 };
 use oci_text_base::{OciSpecError, Result};
-use serde_json::{Map, Value};
+use serde_json::Value;
 use std::alloc::Global;
 
 const NAME: &str = "ContainerProcessState";
@@ -220,15 +220,13 @@ impl OciRecord for ContainerProcessState {
     }
 
     fn to_value(&self, alloc: Global) -> Result<Value> {
-        let mut members = Map::new(alloc);
-        try_join5(
-            write_required(&mut members, alloc, "ociVersion", &self.version),
-            write_required(&mut members, alloc, "fds", &self.fds),
-            write_required(&mut members, alloc, "pid", &self.pid),
-            write_optional(&mut members, alloc, "metadata", &self.metadata),
-            write_required(&mut members, alloc, "state", &self.state),
-        )?;
-        Ok(Value::Object(members))
+        let mut members = ObjectWriter::new(alloc);
+        write_required(&mut members, "ociVersion", &self.version);
+        write_required(&mut members, "fds", &self.fds);
+        write_required(&mut members, "pid", &self.pid);
+        write_optional(&mut members, "metadata", &self.metadata);
+        write_required(&mut members, "state", &self.state);
+        members.object()
     }
 
     fn duplicate(&self, alloc: Global) -> Result<ContainerProcessState> {

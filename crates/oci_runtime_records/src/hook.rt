@@ -3,11 +3,11 @@
 ghost use Rattle.std.specs.Prelude.{◌≡◌, IfOk, IfErr};
 
 use oci_json_model::{
-    OciMember, OciRecord, copy_optional, fault, optional, required, try_join3, try_join4,
-    write_optional, write_required,
+    ObjectWriter, OciMember, OciRecord, copy_optional, fault, optional, required, try_join3,
+    try_join4, write_optional, write_required,
 };
 use oci_text_base::{OciSpecError, Result};
-use serde_json::{Map, Value};
+use serde_json::Value;
 use std::alloc::Global;
 
 const NAME: &str = "Hook";
@@ -183,14 +183,12 @@ impl OciRecord for Hook {
     }
 
     fn to_value(&self, alloc: Global) -> Result<Value> {
-        let mut members = Map::new(alloc);
-        try_join4(
-            write_required(&mut members, alloc, "path", &self.path),
-            write_optional(&mut members, alloc, "args", &self.args),
-            write_optional(&mut members, alloc, "env", &self.env),
-            write_optional(&mut members, alloc, "timeout", &self.timeout),
-        )?;
-        Ok(Value::Object(members))
+        let mut members = ObjectWriter::new(alloc);
+        write_required(&mut members, "path", &self.path);
+        write_optional(&mut members, "args", &self.args);
+        write_optional(&mut members, "env", &self.env);
+        write_optional(&mut members, "timeout", &self.timeout);
+        members.object()
     }
 
     fn duplicate(&self, alloc: Global) -> Result<Hook> {

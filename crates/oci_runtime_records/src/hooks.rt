@@ -4,10 +4,10 @@ ghost use Rattle.std.specs.Prelude.{◌≡◌, IfOk, IfErr};
 
 use crate::hook::Hook;
 use oci_json_model::{
-    OciRecord, copy_optional, fault, optional, try_join2, try_join3, write_optional,
+    ObjectWriter, OciRecord, copy_optional, fault, optional, try_join2, try_join3, write_optional,
 };
 use oci_text_base::{OciSpecError, Result};
-use serde_json::{Map, Value};
+use serde_json::Value;
 use std::alloc::Global;
 
 const NAME: &str = "Hooks";
@@ -252,25 +252,14 @@ impl OciRecord for Hooks {
     }
 
     fn to_value(&self, alloc: Global) -> Result<Value> {
-        let mut members = Map::new(alloc);
-        try_join2(
-            try_join3(
-                write_optional(&mut members, alloc, "prestart", &self.prestart),
-                write_optional(&mut members, alloc, "createRuntime", &self.create_runtime),
-                write_optional(
-                    &mut members,
-                    alloc,
-                    "createContainer",
-                    &self.create_container,
-                ),
-            ),
-            try_join3(
-                write_optional(&mut members, alloc, "startContainer", &self.start_container),
-                write_optional(&mut members, alloc, "poststart", &self.poststart),
-                write_optional(&mut members, alloc, "poststop", &self.poststop),
-            ),
-        )?;
-        Ok(Value::Object(members))
+        let mut members = ObjectWriter::new(alloc);
+        write_optional(&mut members, "prestart", &self.prestart);
+        write_optional(&mut members, "createRuntime", &self.create_runtime);
+        write_optional(&mut members, "createContainer", &self.create_container);
+        write_optional(&mut members, "startContainer", &self.start_container);
+        write_optional(&mut members, "poststart", &self.poststart);
+        write_optional(&mut members, "poststop", &self.poststop);
+        members.object()
     }
 
     fn duplicate(&self, alloc: Global) -> Result<Hooks> {

@@ -6,12 +6,12 @@ mod build;
 mod rows;
 
 use oci_json_model::{
-    OciMember, OciRecord, copy_optional, fault, optional, required, taken, try_join2, try_join3,
-    write_optional, write_required,
+    ObjectWriter, OciMember, OciRecord, copy_optional, fault, optional, required, taken, try_join2,
+    try_join3, write_optional, write_required,
 };
 use oci_linux_namespaces::LinuxIdMapping;
 use oci_text_base::{OciSpecError, Result};
-use serde_json::{Map, Value};
+use serde_json::Value;
 use std::alloc::Global;
 
 const NAME: &str = "Mount";
@@ -255,20 +255,14 @@ impl OciRecord for Mount {
     }
 
     fn to_value(&self, alloc: Global) -> Result<Value> {
-        let mut members = Map::new(alloc);
-        try_join2(
-            try_join3(
-                write_required(&mut members, alloc, "destination", &self.destination),
-                write_optional(&mut members, alloc, "type", &self.typ),
-                write_optional(&mut members, alloc, "source", &self.source),
-            ),
-            try_join3(
-                write_optional(&mut members, alloc, "options", &self.options),
-                write_optional(&mut members, alloc, "uidMappings", &self.uid_mappings),
-                write_optional(&mut members, alloc, "gidMappings", &self.gid_mappings),
-            ),
-        )?;
-        Ok(Value::Object(members))
+        let mut members = ObjectWriter::new(alloc);
+        write_required(&mut members, "destination", &self.destination);
+        write_optional(&mut members, "type", &self.typ);
+        write_optional(&mut members, "source", &self.source);
+        write_optional(&mut members, "options", &self.options);
+        write_optional(&mut members, "uidMappings", &self.uid_mappings);
+        write_optional(&mut members, "gidMappings", &self.gid_mappings);
+        members.object()
     }
 
     fn duplicate(&self, alloc: Global) -> Result<Mount> {

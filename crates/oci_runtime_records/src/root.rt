@@ -4,10 +4,10 @@ ghost use Rattle.std.specs.Prelude.{◌≡◌, IfOk, IfErr};
 
 use oci_json_members::defaulted;
 use oci_json_model::{
-    OciMember, OciRecord, fault, optional, try_join2, write_optional, write_required,
+    ObjectWriter, OciMember, OciRecord, fault, optional, try_join2, write_optional, write_required,
 };
 use oci_text_base::{OciSpecError, Result};
-use serde_json::{Map, Value};
+use serde_json::Value;
 use std::alloc::Global;
 
 const NAME: &str = "Root";
@@ -105,12 +105,10 @@ impl OciRecord for Root {
     }
 
     fn to_value(&self, alloc: Global) -> Result<Value> {
-        let mut members = Map::new(alloc);
-        try_join2(
-            write_required(&mut members, alloc, "path", &self.path),
-            write_optional(&mut members, alloc, "readonly", &self.readonly),
-        )?;
-        Ok(Value::Object(members))
+        let mut members = ObjectWriter::new(alloc);
+        write_required(&mut members, "path", &self.path);
+        write_optional(&mut members, "readonly", &self.readonly);
+        members.object()
     }
 
     fn duplicate(&self, alloc: Global) -> Result<Root> {

@@ -6,12 +6,12 @@ mod files;
 
 use oci_json_members::defaulted;
 use oci_json_model::{
-    OciMember, OciRecord, copy_optional, fault, optional, try_join2, try_join3, try_join4,
-    write_optional, write_required,
+    ObjectWriter, OciMember, OciRecord, copy_optional, fault, optional, try_join2, try_join3,
+    try_join4, write_optional, write_required,
 };
 use oci_runtime_names::ContainerState;
 use oci_text_base::{OciSpecError, Result};
-use serde_json::{Map, Value};
+use serde_json::Value;
 use std::alloc::Global;
 use std::collections::BTreeMap;
 
@@ -256,20 +256,14 @@ impl OciRecord for State {
     }
 
     fn to_value(&self, alloc: Global) -> Result<Value> {
-        let mut members = Map::new(alloc);
-        try_join2(
-            try_join3(
-                write_required(&mut members, alloc, "ociVersion", &self.version),
-                write_required(&mut members, alloc, "id", &self.id),
-                write_required(&mut members, alloc, "status", &self.status),
-            ),
-            try_join3(
-                write_optional(&mut members, alloc, "pid", &self.pid),
-                write_required(&mut members, alloc, "bundle", &self.bundle),
-                write_optional(&mut members, alloc, "annotations", &self.annotations),
-            ),
-        )?;
-        Ok(Value::Object(members))
+        let mut members = ObjectWriter::new(alloc);
+        write_required(&mut members, "ociVersion", &self.version);
+        write_required(&mut members, "id", &self.id);
+        write_required(&mut members, "status", &self.status);
+        write_optional(&mut members, "pid", &self.pid);
+        write_required(&mut members, "bundle", &self.bundle);
+        write_optional(&mut members, "annotations", &self.annotations);
+        members.object()
     }
 
     fn duplicate(&self, alloc: Global) -> Result<State> {

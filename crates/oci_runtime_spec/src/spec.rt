@@ -9,8 +9,8 @@ mod rootless;
 
 use oci_json_members::defaulted;
 use oci_json_model::{
-    OciMember, OciRecord, copy_optional, fault, optional, try_join2, try_join3, try_join5,
-    write_optional, write_required,
+    ObjectWriter, OciMember, OciRecord, copy_optional, fault, optional, try_join2, try_join3,
+    try_join5, write_optional, write_required,
 };
 use oci_linux::Linux;
 use oci_linux_namespaces::LinuxIdMapping;
@@ -20,7 +20,7 @@ use oci_process::Process;
 use oci_runtime_defaults::text_of;
 use oci_runtime_records::{Hooks, Mount, Root, get_default_mounts};
 use oci_text_base::{OciSpecError, Result};
-use serde_json::{Map, Value};
+use serde_json::Value;
 use std::alloc::Global;
 use std::collections::BTreeMap;
 
@@ -227,31 +227,23 @@ impl OciRecord for Spec {
     }
 
     fn to_value(&self, alloc: Global) -> Result<Value> {
-        let mut members = Map::new(alloc);
-        try_join3(
-            try_join5(
-                write_required(&mut members, alloc, "ociVersion", &self.version),
-                write_optional(&mut members, alloc, "root", &self.root),
-                write_optional(&mut members, alloc, "mounts", &self.mounts),
-                write_optional(&mut members, alloc, "process", &self.process),
-                write_optional(&mut members, alloc, "hostname", &self.hostname),
-            ),
-            try_join5(
-                write_optional(&mut members, alloc, "domainname", &self.domainname),
-                write_optional(&mut members, alloc, "hooks", &self.hooks),
-                write_optional(&mut members, alloc, "annotations", &self.annotations),
-                write_optional(&mut members, alloc, "linux", &self.linux),
-                write_optional(&mut members, alloc, "solaris", &self.solaris),
-            ),
-            try_join5(
-                write_optional(&mut members, alloc, "windows", &self.windows),
-                write_optional(&mut members, alloc, "vm", &self.vm),
-                write_optional(&mut members, alloc, "zos", &self.zos),
-                write_optional(&mut members, alloc, "uidMappings", &self.uid_mappings),
-                write_optional(&mut members, alloc, "gidMappings", &self.gid_mappings),
-            ),
-        )?;
-        Ok(Value::Object(members))
+        let mut members = ObjectWriter::new(alloc);
+        write_required(&mut members, "ociVersion", &self.version);
+        write_optional(&mut members, "root", &self.root);
+        write_optional(&mut members, "mounts", &self.mounts);
+        write_optional(&mut members, "process", &self.process);
+        write_optional(&mut members, "hostname", &self.hostname);
+        write_optional(&mut members, "domainname", &self.domainname);
+        write_optional(&mut members, "hooks", &self.hooks);
+        write_optional(&mut members, "annotations", &self.annotations);
+        write_optional(&mut members, "linux", &self.linux);
+        write_optional(&mut members, "solaris", &self.solaris);
+        write_optional(&mut members, "windows", &self.windows);
+        write_optional(&mut members, "vm", &self.vm);
+        write_optional(&mut members, "zos", &self.zos);
+        write_optional(&mut members, "uidMappings", &self.uid_mappings);
+        write_optional(&mut members, "gidMappings", &self.gid_mappings);
+        members.object()
     }
 
     fn duplicate(&self, alloc: Global) -> Result<Spec> {

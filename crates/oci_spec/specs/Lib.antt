@@ -146,8 +146,8 @@ pub use Rattle.oci_rules.specs.Breaks
 pub use Rattle.oci_rules.specs.Documents
 pub use Rattle.oci_rules.specs.Listed
 pub use Rattle.oci_rules.specs.Tables
-pub use Rattle.oci_runtime_defaults.specs.Answers
-pub use Rattle.oci_runtime_defaults.specs.Canonical
+pub use Rattle.oci_runtime_root.specs.Answers
+pub use Rattle.oci_runtime_root.specs.Canonical
 pub use Rattle.oci_runtime_defaults.specs.Defaults
 pub use Rattle.oci_runtime_defaults.specs.DeviceRule
 pub use Rattle.oci_runtime_names.specs.ContainerState

@@ -2,11 +2,11 @@
 ghost use Rattle.std.specs.Prelude.{◌≡◌, ◌⊎◌, Some, IfErr, OnOk, OnErr, IfSome, IsSome, IsNone, string_bytes, codes, unwrap_or, false};
 ghost use Rattle.std.specs.Fn.{FnReturnsAt};
 ghost use Rattle.oci_text_base.specs.Refused.{Refuses};
-ghost use Rattle.oci_runtime_defaults.specs.Answers.{Answered};
-ghost use Rattle.oci_runtime_defaults.specs.Canonical.{Resolves, Stops};
+ghost use Rattle.oci_runtime_root.specs.Answers.{Answered};
+ghost use Rattle.oci_runtime_root.specs.Canonical.{Resolves, Stops};
 
 use super::Spec;
-use oci_runtime_defaults::{Answer, canonicalize};
+use oci_runtime_root::{Answer, canonicalize};
 use oci_text_base::{OciSpecError, Result};
 use std::alloc::Global;
 

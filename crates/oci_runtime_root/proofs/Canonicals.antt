@@ -5,7 +5,7 @@ use Rattle.std.specs.declared.result.Result.TheVariants.{Ok, Err}
 use Rattle.std.specs.declared.alloc.Global.{Global}
 use Rattle.oci_text_base.specs.declared.error.OciSpecError.{OciSpecError}
 use Rattle.oci_text_base.specs.declared.error.OciSpecError.TheVariants.{Memory}
-use Rattle.oci_runtime_defaults.specs.Canonical.{is_absolute, joined, Resolves, Stops}
+use Rattle.oci_runtime_root.specs.Canonical.{is_absolute, joined, Resolves, Stops}
 
 -- its answer to the path behind the folder
 pub resolved : (Answers : List ℕ → List ℕ → Type 0) (bundle path folder whole : List ℕ) → is_absolute path ≡ false → Answers bundle folder → whole ≡ joined folder path

@@ -1,7 +1,7 @@
 //! What a resolver of paths answers.
 ghost use Rattle.std.specs.Prelude.{ℕ, List, string_bytes, IfOk, IfErr};
 ghost use Rattle.oci_text_base.specs.declared.error.OciSpecError.{OciSpecError};
-ghost use Rattle.oci_runtime_defaults.specs.Answers.{GivesText, GivesError};
+ghost use Rattle.oci_runtime_root.specs.Answers.{GivesText, GivesError};
 
 use oci_text_base::Result;
 

@@ -2,8 +2,8 @@
 ghost use Rattle.std.specs.Prelude.{◌≡◌, ◌⊎◌, Some, IfOk, IfErr, IfSome, IsSome, IsNone, OnOk, OnErr, codes, false, string_bytes, unwrap_or};
 ghost use Rattle.std.specs.Fn.{FnReturnsAt};
 ghost use Rattle.oci_text_base.specs.Refused.{Refuses};
-ghost use Rattle.oci_runtime_defaults.specs.Answers.{Answered};
-ghost use Rattle.oci_runtime_defaults.specs.Canonical.{is_absolute, joined, Resolves, Stops};
+ghost use Rattle.oci_runtime_root.specs.Answers.{Answered};
+ghost use Rattle.oci_runtime_root.specs.Canonical.{is_absolute, joined, Resolves, Stops};
 
 use crate::answer::Answer;
 use oci_runtime_records::Root;

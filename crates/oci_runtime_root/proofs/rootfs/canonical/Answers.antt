@@ -1,10 +1,10 @@
 use Rattle.std.proofs.Common.{◌≡◌, ℕ, List, false, string_bytes}
 use Rattle.std.specs.Fn.{FnReturnsAt}
 use Rattle.oci_text_base.specs.declared.error.OciSpecError.{OciSpecError}
-use Rattle.oci_runtime_defaults.specs.Answers.{Answered}
-use Rattle.oci_runtime_defaults.specs.Canonical.{is_absolute, joined}
-use Rattle.oci_runtime_defaults.proofs.Canonicals.{stopped}
-use Rattle.oci_runtime_defaults.proofs.rootfs.canonical.Goals as goal
+use Rattle.oci_runtime_root.specs.Answers.{Answered}
+use Rattle.oci_runtime_root.specs.Canonical.{is_absolute, joined}
+use Rattle.oci_runtime_root.proofs.Canonicals.{stopped}
+use Rattle.oci_runtime_root.proofs.rootfs.canonical.Goals as goal
 
 pub returns-clause-err : goal.returns-clause-err
 returns-clause-err g c =
