@@ -1,5 +1,5 @@
 //! Documents that nothing is wrong with, straight from their bytes.
-ghost use Rattle.std.specs.Prelude.{◌≡◌, ℕ, List, [], false, IfSome, IsTrue};
+ghost use Rattle.std.specs.Prelude.{◌≡◌, List, [], false, IfSome, IsTrue};
 ghost use Rattle.oci_kinds.specs.declared.kind.Kind.{Kind as kind_type};
 ghost use Rattle.oci_rules.specs.Rules.{Rule as rule_data};
 ghost use Rattle.oci_check.specs.Checks.{IsAsked, IsOfKind, IsRight};

@@ -1,5 +1,5 @@
 //! The algorithms by which a content can be verified.
-ghost use Rattle.std.specs.Prelude.{◌≡◌, ◌↔◌, ℕ, List, IfSome, IfNone, IsSome};
+ghost use Rattle.std.specs.Prelude.{◌≡◌, IfSome, IfNone};
 ghost use Rattle.oci_content.specs.declared.algorithm.Algorithm.{Algorithm};
 ghost use Rattle.oci_content.specs.Content.{algorithm_name, IsBy};
 

@@ -1,5 +1,5 @@
 //! What hashes a content by the algorithm that a digest names.
-ghost use Rattle.std.specs.Prelude.{◌≡◌, ◌++◌, [], ℕ, List, length};
+ghost use Rattle.std.specs.Prelude.{◌++◌, [], ℕ, List, length};
 ghost use Rattle.oci_content.specs.Content.{Tells};
 ghost use Rattle.oci_content.specs.Hashing.{Takes};
 

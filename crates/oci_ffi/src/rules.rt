@@ -1,9 +1,7 @@
 //! The rules that a document breaks.
-ghost use Rattle.std.specs.Prelude.{◌≡◌, ◌≤◌, ◌<◌, ◌++◌, ◌↔◌, ℕ, List, [], map, length, None, IfOk, IfErr, OnOk, IsSomeAnd};
-ghost use Rattle.std.specs.List.{flat_map};
+ghost use Rattle.std.specs.Prelude.{◌≡◌, ◌≤◌, ◌<◌, ◌++◌, ◌↔◌, ℕ, List, map, length, None, IfOk, OnOk, IsSomeAnd};
 ghost use Rattle.serde_json.specs.View.{view};
 ghost use Rattle.oci_json_io.specs.Engines.{IsNoJson};
-ghost use Rattle.oci_text_base.specs.Refused.{IsJson, IsSchema};
 ghost use Rattle.oci_kinds.specs.declared.kind.Kind.{Kind};
 ghost use Rattle.oci_rule_books.specs.Kinds as books;
 ghost use Rattle.oci_rules.specs.Breaks.{KeepsAll};
@@ -11,7 +9,7 @@ ghost use Rattle.oci_rules.specs.Listed.{all_broken};
 ghost use Rattle.oci_rules.specs.Tables.{rule_of, level_of as level_for, platform_of as platform_for};
 ghost use Rattle.oci_ffi.specs.Buffers.{Fills, Overflows, Untouched};
 ghost use Rattle.oci_ffi.specs.Kinds.{kind_numbered};
-ghost use Rattle.oci_ffi.specs.Rules.{Counts, level_numbered, platform_numbered, rules_up_to};
+ghost use Rattle.oci_ffi.specs.Rules.{Counts, level_numbered, rules_up_to};
 
 use crate::buffer::put;
 use crate::input::status_of;

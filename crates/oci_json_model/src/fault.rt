@@ -1,5 +1,4 @@
 //! Errors of values that the schema rejects.
-ghost use Rattle.std.specs.Prelude.{◌↔◌};
 ghost use Rattle.oci_text_base.specs.Refused.{IsSchema, IsMemoryOrSchema};
 
 use oci_text_base::{OciSpecError, SchemaFault, SerDeError};

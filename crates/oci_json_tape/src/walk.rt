@@ -1,5 +1,5 @@
 //! Walks over the items of an array and the members of an object, in the order of the text.
-ghost use Rattle.std.specs.Prelude.{◌≡◌, ◌<◌, length, option_map, Some, None, MatchOption, OnSome};
+ghost use Rattle.std.specs.Prelude.{◌≡◌, ◌<◌, length, option_map, None, MatchOption, OnSome};
 ghost use Rattle.serde_json.specs.Data.{Data, Items as DataItems, Members as DataMembers, array, object, no_members};
 ghost use Rattle.serde_json.specs.Find.{as_array, as_object};
 ghost use Rattle.oci_json_tape.specs.Elements.{BeginsWithData};

@@ -1,5 +1,5 @@
 //! A store that keeps only what verifies: an example of verdicts in use.
-ghost use Rattle.std.specs.Prelude.{◌≡◌, ◌∷◌, ◌++◌, [], IfOk, OnErr, List};
+ghost use Rattle.std.specs.Prelude.{◌≡◌, ◌∷◌, ◌++◌, [], IfOk, OnErr};
 ghost use Rattle.std.specs.List.{All};
 ghost use Rattle.oci_content.specs.Content.{Tells};
 ghost use Rattle.oci_layout.specs.Shelf.{IsRight};

@@ -3,7 +3,7 @@ ghost use Rattle.std.specs.Prelude.{◌≡◌, ◌↔◌, ℕ, List, Some, None,
 ghost use Rattle.oci_text_base.specs.Digest.{IsDigest};
 ghost use Rattle.oci_reference.specs.Accepted.{Accepted};
 ghost use Rattle.oci_reference.specs.Parts.{Parts};
-ghost use Rattle.oci_reference.specs.Replaced.{pinned, IsSupported};
+ghost use Rattle.oci_reference.specs.Replaced.{IsSupported};
 ghost use Rattle.oci_reference.specs.Whole.{whole};
 
 use oci_image_descriptor::Descriptor;

@@ -4,7 +4,7 @@ ghost use Rattle.serde_json.specs.Data.{Data, null, number};
 ghost use Rattle.serde_json.specs.Find.{of_integer};
 ghost use Rattle.oci_json_model.specs.Shape.{Shape};
 ghost use Rattle.oci_json_model.specs.Value.{value as json_of};
-ghost use Rattle.oci_schema_types.specs.Shapes.{scalar_shape, schema_shape, default_plain};
+ghost use Rattle.oci_schema_types.specs.Shapes.{scalar_shape, default_plain};
 ghost use Rattle.oci_schema_bytes.specs.Fields.{written_for};
 ghost use Rattle.oci_schema_bytes.specs.Walks.{IfDone, WritesTree};
 

@@ -1,6 +1,6 @@
 //! The members of an object that are written.
-ghost use Rattle.std.specs.Prelude.{◌≡◌, ◌<◌, ◌↔◌, [], ℕ, true, false, length, slice_set, Option, Some, None, IfSome, IsTrue};
-ghost use Rattle.serde_json.specs.Data.{Data, Members};
+ghost use Rattle.std.specs.Prelude.{◌≡◌, ◌<◌, [], ℕ, true, false, Some, None, IsTrue};
+ghost use Rattle.serde_json.specs.Data.{Data};
 ghost use Rattle.serde_json.specs.Find.{get};
 ghost use Rattle.oci_json_model.specs.Means.{get_second};
 ghost use Rattle.oci_json_model.specs.Shape.{Shape};

@@ -41,7 +41,6 @@ impl Model for Digest {
 
 impl PartialEq for Digest {
     ghost use Rattle.std.specs.Prelude.{bytes_eq};
-    ghost use Rattle.std.specs.Cmp as cmp;
     ghost use Rattle.std.proofs.Common.{rules};
 
     ghost eq = { bytes_eq };

@@ -30,7 +30,6 @@ impl Model for Sha256Digest {
 
 impl PartialEq for Sha256Digest {
     ghost use Rattle.std.specs.Prelude.{bytes_eq};
-    ghost use Rattle.std.specs.Cmp as cmp;
     ghost use Rattle.std.proofs.Common.{rules};
 
     ghost eq = { bytes_eq };

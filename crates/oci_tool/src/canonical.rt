@@ -4,7 +4,6 @@ ghost use Rattle.std.specs.Io.KnownBytes.{Appends, Keeps};
 ghost use Rattle.oci_json_io.specs.Engines.{WritesDocument};
 ghost use Rattle.oci_schema.specs.Normalizes.{WritesPretty};
 ghost use Rattle.oci_kinds.specs.Kinds.{shape_of};
-ghost use Rattle.oci_check.specs.Checks.{IsAsked};
 ghost use Rattle.oci_tool.specs.Formats.{Formats, HasNoForm, IsSerDe, IsUnformatted, IsUnformattedAs};
 ghost use Rattle.oci_json_io.specs.Engines.{MeansBytes};
 ghost use Rattle.oci_json_model.specs.Plain.{Plain};

@@ -1,5 +1,5 @@
 //! Which affinities the builder of `ExecCPUAffinity` rejects.
-ghost use Rattle.std.specs.Prelude.{◌≡◌, ◌++◌, ◌⊎◌, ℕ, List, Some, IfOk, IfErr, codes, string_bytes};
+ghost use Rattle.std.specs.Prelude.{◌≡◌, ◌⊎◌, ℕ, List, Some, IfOk, IfErr, string_bytes};
 ghost use Rattle.oci_text_base.specs.Refused.{Says};
 ghost use Rattle.oci_process_names.specs.Affinities.{AreLists, IsFirstOther};
 ghost use Rattle.oci_process.specs.RefusedAffinities.{affinity_refusal};
