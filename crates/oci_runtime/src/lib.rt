@@ -5,12 +5,12 @@
 pub mod spec_builder;
 pub mod versions;
 
-pub use oci_runtime_root::Answer;
 pub use oci_runtime_records::{
     ContainerProcessState, ContainerProcessStateBuilder, ContainerState, Hook, HookBuilder, Hooks,
     HooksBuilder, Mount, MountBuilder, Root, RootBuilder, SECCOMP_FD_NAME, State, StateBuilder,
     get_default_mounts, get_rootless_mounts,
 };
+pub use oci_runtime_root::Answer;
 pub use oci_runtime_spec::Spec;
 pub use spec_builder::SpecBuilder;
 pub use versions::{VERSION, VERSION_DEV, VERSION_MAJOR, VERSION_MINOR, VERSION_PATCH, version};

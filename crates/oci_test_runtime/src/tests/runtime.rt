@@ -2,8 +2,8 @@
 
 use super::{check_is, check_written};
 use oci_linux_namespaces::{LinuxIdMapping, LinuxIdMappingBuilder};
-use oci_runtime_root::{Answer, canonicalize};
 use oci_runtime_records::{MountBuilder, Root};
+use oci_runtime_root::{Answer, canonicalize};
 use oci_text_base::{OciSpecError, Result};
 use std::alloc::Global;
 use std::process::Abort;
