@@ -39,7 +39,7 @@ returns-clause-ok c =
 
 
 def write_answers(r):
-    """The answers for what a long record writes, member by member from the last: its object, and that it fits its shape."""
+    """The answers for what a long record writes, member by member from the last: its object, that it fits its shape, and why there is an error."""
     calls = called(["write_optional_as" if m.type.kind else "write_" + WRITE[m.presence] for m in r.members])
     count = len(calls)
     lets = "".join(f"    let told_{at} = c.{calls[at]}.ensures.ok {f'told_{at + 1}.0.0' if at + 1 < count else 'none'} in\n" for at in reversed(range(count)))
