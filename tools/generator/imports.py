@@ -5,13 +5,13 @@ from generator.text import called_in, used, uses
 JOINS = [f"try_join{n}" for n in range(2, 6)]
 # functions of `oci_json_members`: those that are called with types, and the others
 KIND_CALLS = ["copy_optional_as", "optional_as", "optional_as_owned", "write_optional_as"]
-MEMBER_CALLS = ["defaulted", "nullable", "unless_empty", "write_nullable", "write_unless_empty", "equal_optional_values"]
+MEMBER_CALLS = ["defaulted", "nullable", "unless_empty", "write_nullable", "write_unless_empty"]
 # functions of `oci_json_model`
 MODEL_CALLS = ["copy_optional", "optional", "optional_either", "required", "write_optional", "write_required", "optional_owned",
                "required_owned", "optional_either_owned"]
 TAKES = ["taken"] + [f"taken_{n}" for n in range(5, 11)]
 # kinds of members that are in another crate than `oci_json_members`
-KIND_CRATES = {"Caps": "oci_process_names", "CpuTexts": "oci_process_names"}
+KIND_CRATES = {"Caps": "oci_process_names", "CpuTexts": "oci_process_names", "Detail": "oci_json_trees", "FreeValues": "oci_json_trees"}
 
 
 def model_calls(body):
@@ -24,10 +24,11 @@ def imports(r, body, schema):
     held = " ".join(m.type.rust for m in r.members)
     crates = {"oci_json_model": schema, "oci_text_base": used(["OciSpecError", "Result", "UninitializedFieldError"], body)}
     crates["oci_json_members"] = used(KIND_CALLS, body) + called_in(MEMBER_CALLS, body)
+    crates["oci_json_trees"] = called_in(["equal_optional_values"], body)
     crates["oci_text"] = used(["Digest"], body) + used(["Arch", "ErrorCode", "MediaType", "Os"], held)
     crates["oci_process_names"] = used(["Capability"], held)
     for kind in used(sorted({m.type.kind for m in r.members if m.type.kind}), body):
-        crates[KIND_CRATES.get(kind, "oci_json_members")].append(kind)
+        crates.setdefault(KIND_CRATES.get(kind, "oci_json_members"), []).append(kind)
     local = []
     parts = [(name, r.book.names[name]) for name in r.enums()] + r.parts()
     for name, crate in parts:

@@ -2,11 +2,12 @@
 //! One error of a registry's reply (distribution specification, "Error Codes").
 ghost use Rattle.std.specs.Prelude.{◌≡◌, IfOk, IfErr};
 
-use oci_json_members::{Detail, copy_optional_as, optional_as, write_optional_as};
+use oci_json_members::{copy_optional_as, optional_as, write_optional_as};
 use oci_json_model::{
     ObjectWriter, OciMember, OciRecord, copy_optional, fault, optional, required, try_join3,
     write_optional, write_required,
 };
+use oci_json_trees::Detail;
 use oci_text::ErrorCode;
 use oci_text_base::{OciSpecError, Result, UninitializedFieldError};
 use serde_json::Value;

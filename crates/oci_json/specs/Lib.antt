@@ -4,8 +4,6 @@ pub mod Details
 pub mod Examples
 pub mod Readable
 pub use Rattle.oci_json_io.specs.Engines
-pub use Rattle.oci_json_members.specs.Alike
-pub use Rattle.oci_json_members.specs.FreeValues
 pub use Rattle.oci_json_members.specs.DefaultMembers
 pub use Rattle.oci_json_members.specs.Keys
 pub use Rattle.oci_json_model.specs.Built
@@ -23,4 +21,6 @@ pub use Rattle.oci_json_model.specs.Types
 pub use Rattle.oci_json_model.specs.Value
 pub use Rattle.oci_json_model.specs.WellFormed
 pub use Rattle.oci_json_model.specs.Writable
+pub use Rattle.oci_json_trees.specs.Alike
+pub use Rattle.oci_json_trees.specs.FreeValues
 pub use Rattle.oci_text_base.specs.Refused as Faults

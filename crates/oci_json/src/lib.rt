@@ -8,13 +8,15 @@ pub use oci_json_io::{
     to_string_pretty, to_writer, to_writer_pretty, write_text,
 };
 pub use oci_json_members::{
-    Detail, FreeValues, Keys, OciDefault, OciKind, copy_optional_as, defaulted,
-    equal_optional_values, equal_trees, equal_values, nullable, optional_as, optional_as_owned,
-    unless_empty, write_nullable, write_optional_as, write_unless_empty,
+    Keys, OciDefault, OciKind, copy_optional_as, defaulted, nullable, optional_as,
+    optional_as_owned, unless_empty, write_nullable, write_optional_as, write_unless_empty,
 };
 pub use oci_json_model::{
     Found, ObjectWriter, OciMember, OciRecord, copy_optional, fault, optional, optional_either,
     optional_either_owned, optional_owned, required, required_owned, taken, taken_5, taken_6,
     taken_7, taken_8, taken_9, taken_10, try_join2, try_join3, try_join4, try_join5,
     write_optional, write_required,
+};
+pub use oci_json_trees::{
+    Detail, FreeValues, equal_optional_values, equal_trees, equal_values,
 };

@@ -1,9 +1,5 @@
-pub mod Alike
 pub mod DefaultMembers
-pub mod FreeValues
 pub mod Keys
-pub mod SameFree
-pub mod SameTrees
 pub use Rattle.oci_json_model.specs.Erased
 pub use Rattle.oci_json_model.specs.Fits
 pub use Rattle.oci_json_model.specs.Means

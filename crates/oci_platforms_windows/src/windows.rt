@@ -6,13 +6,12 @@ use crate::windows_device::WindowsDevice;
 use crate::windows_hyper_v::WindowsHyperV;
 use crate::windows_network::WindowsNetwork;
 use crate::windows_resources::WindowsResources;
-use oci_json_members::{
-    FreeValues, copy_optional_as, equal_optional_values, optional_as, write_optional_as,
-};
+use oci_json_members::{copy_optional_as, optional_as, write_optional_as};
 use oci_json_model::{
     ObjectWriter, OciRecord, copy_optional, fault, optional, try_join2, try_join4, try_join5,
     write_optional,
 };
+use oci_json_trees::{FreeValues, equal_optional_values};
 use oci_text_base::{OciSpecError, Result};
 use serde_json::Value;
 use std::alloc::Global;
@@ -35,7 +34,7 @@ pub struct Windows {
 
 impl PartialEq for Windows {
     ghost use Rattle.std.specs.Cmp.{partial_equiv_from_equiv};
-    ghost use Rattle.oci_json_members.specs.SameFree.{agrees_equiv};
+    ghost use Rattle.oci_json_trees.specs.SameFree.{agrees_equiv};
     ghost use Rattle.oci_platforms_windows.specs.Windows.{windows_eq, windows_same};
 
     ghost eq = { windows_eq };
@@ -57,7 +56,7 @@ impl PartialEq for Windows {
 }
 
 impl Eq for Windows {
-    ghost use Rattle.oci_json_members.specs.SameFree.{agrees_equiv};
+    ghost use Rattle.oci_json_trees.specs.SameFree.{agrees_equiv};
     ghost use Rattle.oci_platforms_windows.specs.Windows.{windows_same};
 
     ghost laws = { agrees_equiv windows_same };

@@ -12,8 +12,9 @@ ghost use Rattle.oci_schema_types.specs.Shapes.{scalar_shape};
 
 use crate::kept::has_no_items;
 use crate::scalar::scalar_allows;
-use oci_json_members::{Detail, Keys, OciKind};
+use oci_json_members::{Keys, OciKind};
 use oci_json_model::fault::refused;
+use oci_json_trees::Detail;
 use oci_process_names::Caps;
 use oci_schema_types::Scalar;
 use oci_text_base::Result;

@@ -1,0 +1,3 @@
+pub mod Erasing
+pub mod FreeMaps
+pub mod RefusedDetails
