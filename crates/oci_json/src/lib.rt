@@ -17,6 +17,4 @@ pub use oci_json_model::{
     taken_7, taken_8, taken_9, taken_10, try_join2, try_join3, try_join4, try_join5,
     write_optional, write_required,
 };
-pub use oci_json_trees::{
-    Detail, FreeValues, equal_optional_values, equal_trees, equal_values,
-};
+pub use oci_json_trees::{Detail, FreeValues, equal_optional_values, equal_trees, equal_values};
