@@ -11,7 +11,6 @@ mod long;
 mod references;
 mod scanner;
 mod streams;
-mod texts;
 
 /// A text that a call answers; or the kind of its refusal and what it names, of a document's the record and its member.
 type Answer<'a> = std::result::Result<&'a str, (&'a str, &'a str)>;

@@ -1,5 +1,5 @@
-//! Image documents that are made in code, in files. What texts are read as is in the rows of `oci_test_golden`, and what else these
-//! documents do is run in `oci_test_vectors`.
+//! Image documents in files. What texts are read as is in the rows of `oci_test_golden`, and what else these documents do is run in
+//! `oci_test_vectors`.
 
 use super::check_text;
 use oci_json_io::to_string;
@@ -9,7 +9,6 @@ use std::alloc::Global;
 use std::process::Abort;
 
 mod files;
-mod made;
 
 /// An answer is this text.
 fn check(rt: &impl Abort, found: Result<String>, expected: &str) {
