@@ -9,14 +9,16 @@ ROWS = [
     ("C", "c", "", (*CALLS, "none")),
     ("Rust", "rust", "", CALLS),
     ("Go", "go", "", CALLS),
-    ("Rattle, a workspace a call", "oci_bench", "", ("manifest", "spec"), "fresh"),
-    ("Rattle", "oci_bench", "", ("manifest", "spec"), "bytes"),
+    ("Rattle, a workspace a call", "oci_tests", "", ("manifest", "spec"), "fresh"),
+    ("Rattle", "oci_tests", "", ("manifest", "spec"), "bytes"),
     ("the crate `oci-spec`", "crate", "", CALLS),
     ("the same in byte order", "crate", "_ordered", ("manifest", "spec")),
     ("Go, `encoding/json`", "go_peers", "", ("manifest", "spec")),
     ("Go, `go-digest`", "go", "_go", ("digest",)),
 ]
 TEXT_CALLS = ("from_str", "parts", "scanner")
+# what stands before the name of a call
+BEFORE = {"oci_tests": ("bench",)}
 
 
 def with_words(program, *before, after=()):
@@ -26,11 +28,11 @@ def with_words(program, *before, after=()):
 
 def references(bench):
     """References by length: nanoseconds beside the peers, and instructions."""
-    bench.programs.built("oci_bench")
+    program = bench.programs.built("oci_tests")
     rows = []
     for text in texts():
         path = bench.inputs.text("text", text)
-        ours = {call: with_words(bench.programs.built("oci_bench"), "texts", path, after=(call,)) for call in TEXT_CALLS}
+        ours = {call: with_words(program, "bench", "texts", path, after=(call,)) for call in TEXT_CALLS}
         crate = with_words(bench.programs.crate, "from_str", path)
         go = with_words(bench.programs.go_peers, "reference", path)
         title = f"reference of {len(text)} bytes"
@@ -46,7 +48,7 @@ def found_programs(bench):
     found = bench.programs.bindings()
     found |= {"crate": bench.programs.crate, "go_peers": bench.programs.go_peers}
     try:
-        found["oci_bench"] = bench.programs.built("oci_bench")
+        found["oci_tests"] = bench.programs.built("oci_tests")
     except Missing:
         pass
     return {name: program for name, program in found.items() if program}
@@ -63,7 +65,7 @@ def bindings(bench):
     for call in (*CALLS, "none"):
         path = call_path(bench, call)
         mine = [it for it in ROWS if call in it[3] and it[1] in found]
-        commands = {title: with_words(found[program], call + ending, path, after=words) for title, program, ending, _, *words in mine}
+        commands = {title: with_words(found[program], *BEFORE.get(program, ()), call + ending, path, after=words) for title, program, ending, _, *words in mine}
         times = bench.times(f"times of the call {call}", commands)
         works = [(None if program.startswith("go") else commands[title], 0) for title, program, *_ in mine]
         counts = bench.counts(f"instructions of the call {call}", works)

@@ -7,7 +7,7 @@ from benchmarks.go_program import build_go, build_go_peers
 from benchmarks.measuring import OUT, SOURCES, TOP, Missing, called, said
 from benchmarks.upstream import build_crate
 
-# the ways from a document's bytes to its text that `oci_bench` takes
+# the ways from a document's bytes to its text that `oci_tests bench` takes
 LANES = ("bytes", "value", "tape")
 # those that the crate takes: their short names, and the endings of the calls
 CRATE = {"T": "", "Ts": "_ordered", "V": "_value"}
@@ -75,8 +75,8 @@ class Programs:
     def way(self, name, kind, path):
         """The command that takes a document one way; None if its program is not there."""
         if name in LANES:
-            bench = self.built("oci_bench")
-            return lambda count: [bench, kind, path, str(count), name]
+            tests = self.built("oci_tests")
+            return lambda count: [tests, "bench", kind, path, str(count), name]
         if name in CRATE:
             crate = self.crate
             return crate and (lambda count: [crate, kind + CRATE[name], path, str(count)])

@@ -67,7 +67,7 @@ def row(title, chosen, ratios):
 
 def times(bench):
     """The ratios of thirty documents of all kinds, and of thirty under 500 bytes."""
-    bench.programs.built("oci_bench")
+    bench.programs.built("oci_tests")
     lists = documents()
     small = [[it for it in them if len(it.text) < SMALL] for them in lists]
     chosen = {"of all kinds": spread(lists), f"under {SMALL} bytes": spread(small)}

@@ -27,9 +27,9 @@ CALLS = ("floor", "from_slice", "to_value", "normalize")
 
 def instructions(bench):
     """Instructions of the floor, and each other call's ratio to it."""
-    program = bench.programs.built("oci_bench")
+    program = bench.programs.built("oci_tests")
     paths = {name: bench.inputs.document(name) for name in DOCUMENTS}
-    works = [(with_words(program, kind, paths[name], after=(call,)), os.path.getsize(paths[name]))
+    works = [(with_words(program, "bench", kind, paths[name], after=(call,)), os.path.getsize(paths[name]))
              for name, kind in DOCUMENTS.items() for call in CALLS]
     found = iter(bench.counts("instructions of the steps", works))
     rows = []

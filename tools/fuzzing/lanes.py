@@ -1,6 +1,6 @@
 """Both lanes of the library on documents that were changed at random: straight from the bytes, and by way of a value.
 
-The program of crates/oci_bench, with `lanes`, takes both ways on each document that it reads, and writes a line for it.
+The program `oci_tests`, with `bench lanes`, takes both ways on each document that it reads, and writes a line for it.
 """
 import multiprocessing
 import os
@@ -10,7 +10,7 @@ import sys
 import time
 
 TOP = os.path.dirname(os.path.dirname(os.path.dirname(os.path.realpath(__file__))))
-CRATE = f"{TOP}/crates/oci_bench"
+CRATE = f"{TOP}/crates/oci_tests"
 BATCH = 500
 LINES = {b"same accepted": True, b"same rejected": False}
 
@@ -20,17 +20,17 @@ def build(folder):
     built = []
     for name, flags in (("llvm", []), ("rattle", ["--backend", "rattle"])):
         # (with no document it compares nothing, and says so with status 0)
-        made = subprocess.run(["rt", "run", *flags, "--", "lanes"], cwd=CRATE, stdin=subprocess.DEVNULL, capture_output=True, text=True, check=False)
+        made = subprocess.run(["rt", "run", *flags, "--", "bench", "lanes"], cwd=CRATE, stdin=subprocess.DEVNULL, capture_output=True, text=True, check=False)
         if made.returncode:
             sys.exit(f"rt run {' '.join(flags)}: {made.stdout}{made.stderr}")
-        built.append(shutil.copy(f"{CRATE}/out/oci_bench", f"{folder}/oci_bench_{name}"))
+        built.append(shutil.copy(f"{CRATE}/out/oci_tests", f"{folder}/oci_tests_{name}"))
     return built
 
 
 def answers(program, documents):
     """The lines that the program writes for the documents; those that are missing are empty."""
     given = b"".join(b"%s %d\n%s" % (kind, len(text), text) for kind, text in documents)
-    done = subprocess.run([program, "lanes"], input=given, capture_output=True, check=False)
+    done = subprocess.run([program, "bench", "lanes"], input=given, capture_output=True, check=False)
     lines = done.stdout.splitlines()[:len(documents)]
     if done.returncode not in (0, 1):
         print(f"{program}: ended with {done.returncode}, reported {done.stderr[-2000:]!r}", flush=True)

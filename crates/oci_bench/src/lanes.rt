@@ -7,7 +7,7 @@ use oci_schemas::OciRecords;
 use oci_text_base::{OciSpecError, Result, SerDeError};
 use serde_json::Value;
 use std::alloc::Global;
-use std::io::{BufWriter, Read, Write};
+use std::io::{BufWriter, Write};
 use std::process::ExitCode;
 
 /// The status if a document was normalized or checked in two ways.
@@ -88,16 +88,14 @@ fn line_of(verdict: Verdict) -> &'static str {
     }
 }
 
-/// Compares both ways on each document of standard input, and writes a line a document.
-pub fn compare_all(rt: &HostRuntime) -> Done<ExitCode> {
+/// Compares both ways on each document, and writes a line a document.
+pub fn compare_all(rt: &HostRuntime, documents: &[u8]) -> Done<ExitCode> {
     let alloc = rt.alloc();
-    let mut input = Vec::new(alloc);
-    rt.stdin().read_to_end(&mut input)?;
     let mut output = BufWriter::new(alloc, rt.stdout())?;
     let mut workspace = Workspace::new(alloc);
     let mut status = ExitCode::SUCCESS;
-    let mut rest = input.as_slice();
-    for _ in 0..input.len() {
+    let mut rest = documents;
+    for _ in 0..documents.len() {
         let Some((case, later)) = next_case(rest) else {
             break;
         };

@@ -2,7 +2,8 @@
 //! the records is compiled once for all of them. Each part prints how many rows or cases it had, and each that is not as it has to be.
 //!
 //! With no argument it runs all parts, each behind a line `== PART`; with an argument that part alone. With `list` it lists what breaks
-//! rules in the documents of standard input, for `tools/peers_rules`. Before any proof: `rt try $(cd data && find * -type f -printf
+//! rules in the documents of standard input, for `tools/peers_rules`; with `bench` and more words it makes a call so often as is asked,
+//! for `tools/bench`. Before any proof: `rt try $(cd data && find * -type f -printf
 //! "--data %p=data/%p ")`.
 #![tactic(auto)]
 
@@ -21,9 +22,10 @@ enum Part {
     Calls,
     StringVectors,
     StringCalls,
+    Lanes,
 }
 
-static PARTS: [(&str, Part); 8] = [
+static PARTS: [(&str, Part); 9] = [
     ("golden", Part::Golden),
     ("tables", Part::Tables),
     ("defaults", Part::Defaults),
@@ -32,6 +34,7 @@ static PARTS: [(&str, Part); 8] = [
     ("calls", Part::Calls),
     ("string-vectors", Part::StringVectors),
     ("string-calls", Part::StringCalls),
+    ("lanes", Part::Lanes),
 ];
 
 fn run(rt: &HostRuntime, part: Part) -> Result<(), HarnessOutOfMemory> {
@@ -44,6 +47,9 @@ fn run(rt: &HostRuntime, part: Part) -> Result<(), HarnessOutOfMemory> {
         Part::Calls => return oci_test_vectors::run_calls(rt),
         Part::StringVectors => return oci_test_memory::run_vectors(rt),
         Part::StringCalls => return oci_test_memory::run_calls(rt),
+        Part::Lanes => {
+            let _ = oci_bench::run_lanes(rt, "lanes/documents");
+        }
     }
     Ok(())
 }
@@ -67,12 +73,13 @@ fn part_of(word: &str) -> Option<Part> {
 
 /// Runs what the word asks for, and returns the status.
 fn run_named(rt: &HostRuntime, word: &str) -> ExitCode {
-    if word == "list" {
-        return listed(rt);
-    }
-    match part_of(word) {
-        Some(part) => exit(rt, run(rt, part)),
-        None => ExitCode::from(2),
+    match word {
+        "list" => listed(rt),
+        "bench" => oci_bench::run(rt),
+        _ => match part_of(word) {
+            Some(part) => exit(rt, run(rt, part)),
+            None => ExitCode::from(2),
+        },
     }
 }
 
