@@ -1,7 +1,7 @@
 """A record's `impl OciRecord`."""
 from generator.calls import SHAPES
 from generator.records import OPEN_NAMES, snake
-from generator.text import imported, together, tuple_of, used
+from generator.text import groups, imported, together, tuple_of, used
 
 SAME_TERMS = ["same_document", "same_more", "same_last", "same_given", "same_perhaps", "same_texts", "same_lists", "same_maps",
               "same_named", "same_bytes", "same_numbers", "same_integers", "same_truths", "same_variants", "same_keys", "same_sets", "same_free"]
@@ -67,14 +67,21 @@ def law_imports(r, same, well):
     return out
 
 
+def read_of(members):
+    """The call that reads a few members of a borrowed value."""
+    types = ", ".join([m.reader() for m in members] + ["_"] * len(members))
+    return f"read{len(members)}::<{types}>(alloc, value, NAME, {', '.join(f'{chr(34)}{m.name}{chr(34)}' for m in members)})"
+
+
 def borrowing(r):
-    """Deserialization from a borrowed value, member by member."""
-    return f"""    #[tactic(auto, using(oci_json_model::proofs::Readers::refuses_others))]
-    fn from_value(alloc: Global, value: &Value) -> Result<{r.name}> {{
-        if !value.is_object() {{
-            return Err(fault::refused(NAME, ""));
-        }}
-{record_of(r, [m.reads(False) for m in r.members])}    }}
+    """Deserialization from a borrowed value, up to five members at once."""
+    split = groups(r.members)
+    fields = "".join(f"            {m.field},\n" for m in r.members)
+    return f"""    fn from_value(alloc: Global, value: &Value) -> Result<{r.name}> {{
+        let {tuple_of([tuple_of([m.field for m in it]) for it in split])} = {together([read_of(it) for it in split])}?;
+        Ok({r.name} {{
+{fields}        }})
+    }}
 
 """
 
@@ -95,7 +102,7 @@ def consuming(r):
         let Some{opened} = {call}(alloc, value, &[{listed}])? else {{
             return Err(fault::refused(NAME, ""));
         }};
-{record_of(r, [m.reads(True) for m in r.members])}    }}
+{record_of(r, [m.reads_owned() for m in r.members])}    }}
 
 """
 

@@ -1,39 +1,26 @@
 """The proof answers of long records, which the search does not find."""
-from generator.records import READ, WRITE
+from generator.records import WRITE
 from generator.text import called, groups, imported, used
 
 ORDINALS = ("first", "second", "third", "fourth", "fifth")
 
 
-def parts(calls):
-    """The calls in the groups that `together` makes of them, each with its own call and the name that a proof gives to what is known of it."""
-    split = groups(calls)
-    return list(zip(called([f"try_join{len(it)}" for it in split]), ORDINALS, split))
-
-
-def known(calls, state):
-    """What is known of each group, where none of its calls fails."""
-    if len(calls) < 6:
-        return f"    let first = c.{state}.ensures.ok in\n"
-    return "".join(f"    let {word} = answered _ _ _ c.{state}.ensures.ok.{at} c.{name}.ensures.ok in\n"
-                   for at, (name, word, _) in enumerate(parts(calls)))
-
-
 def read_answers(r):
-    """The answer for what a record has read, member by member."""
-    lets, terms, imports = "", ["search rules"] * len(r.members), ""
-    if len(r.members) > 5:
-        calls = called(["optional_as" if m.type.kind else READ[m.presence] for m in r.members])
-        lets, imports = known(calls, f"in_ok-{r.members[0].field}"), "use Rattle.oci_json_model.proofs.Together.{answered}\n"
-        told_of = [f"answered _ _ _ {word}.{at} c.{it}.ensures.ok" for _, word, group in parts(calls) for at, it in enumerate(group)]
-        terms = [f"let told = {it} in search rules" if m.type.text in ("i32", "i64") else it for m, it in zip(r.members, told_of)]
-    lines = "".join(f"    ({it},\n" for it in terms)
+    """The answer for what a record has read, whose members are read in several groups."""
+    split = groups(r.members)
+    lets, lines = "", ""
+    for at, (word, call, members) in enumerate(zip(ORDINALS, called([f"read{len(it)}" for it in split]), split)):
+        lets += f"    let {word} = answered _ _ _ c.in_ok-{r.members[0].field}.ensures.ok.{at} c.{call}.ensures.ok in\n"
+        for n, m in enumerate(members):
+            told = f"{word}.{n + 1}"
+            lines += f"    (let told = {told} in search rules,\n" if m.type.text in ("i32", "i64") else f"    ({told},\n"
     return f"""-- What each member decodes to.
-{imported("std.proofs.Common", ["refl"] + used(["rules"], lines))}{imports}use Rattle.{r.book.crate}.proofs.{r.word}.{r.name}OciRecord.from_value.Goals as goal
+{imported("std.proofs.Common", ["refl"] + used(["rules"], lines))}use Rattle.oci_json_model.proofs.Together.{{answered}}
+use Rattle.{r.book.crate}.proofs.{r.word}.{r.name}OciRecord.from_value.Goals as goal
 
 pub returns-clause-ok : goal.returns-clause-ok
 returns-clause-ok c =
-{lets}    (_, (let h = c.if-not-is_object.ensures in cc), refl,
+{lets}    (_, first.0, refl,
 {lines}    tt{")" * (len(r.members) + 1)}
 """
 

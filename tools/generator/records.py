@@ -13,6 +13,8 @@ HIDDEN = {"data": "embedded_data"}
 # records whose name is a keyword in snake case
 WORDS = {"Box": "console_box"}
 READ = {"R": "required", "O": "optional", "D": "defaulted", "N": "nullable", "E": "unless_empty"}
+# how a member that is borrowed is read, as a type
+READERS = {"R": "Required", "O": "Optional", "D": "Defaulted", "N": "Nullable", "E": "UnlessEmpty"}
 WRITE = {"R": "required", "O": "optional", "D": "required", "N": "nullable", "E": "unless_empty"}
 # the defaults of a member's type: in code, as content, and the lemma by which the shape is well formed
 NO_TEXT = ("String::new(alloc)", "plain.text []", "default_text")
@@ -125,18 +127,21 @@ class Member:
     def slot(self):
         return ("perhaps " if self.optional else "given ") + self.type.plain
 
-    def reads(self, owned):
-        tail = "_owned" if owned else ""
-        what = self.field if owned else "value"
+    def reader(self):
+        """How the member is read of a value that is borrowed, as a type."""
         if self.type.kind:
-            return f'optional_as{tail}::<{self.type.kind}, {self.type.rust}>(alloc, {what}, NAME, "{self.name}")'
-        if self.second:
-            found = f"{self.field}, other_{self.field}" if owned else "value"
-            return f'optional_either{tail}(alloc, {found}, NAME, "{self.name}", "{self.second}")'
-        word = READ[self.presence]
+            return f"As<{self.type.kind}>"
         if self.presence == "D" and self.type.records:
-            word = f"defaulted_{snake(self.type.text)}"
-        return f'{word}{tail}(alloc, {what}, NAME, "{self.name}")'
+            return f"Default{self.type.text}"
+        return READERS[self.presence]
+
+    def reads_owned(self):
+        """How the member is read of a value that is consumed."""
+        if self.type.kind:
+            return f'optional_as_owned::<{self.type.kind}, {self.type.rust}>(alloc, {self.field}, NAME, "{self.name}")'
+        if self.second:
+            return f'optional_either_owned(alloc, {self.field}, other_{self.field}, NAME, "{self.name}", "{self.second}")'
+        return f'{READ[self.presence]}_owned(alloc, {self.field}, NAME, "{self.name}")'
 
     def writes(self):
         if self.type.kind:
@@ -154,7 +159,7 @@ class Member:
 
 class Record:
     # marks of one word
-    FLAGS = ("whole", "copy", "consuming", "calls", "read_answers", "write_answers")
+    FLAGS = ("whole", "copy", "consuming", "calls", "write_answers")
     # lists of words
     LISTS = ("required", "long", "by_hand", "fixed")
     # a text

@@ -30,7 +30,7 @@ def files(r):
     answers = f"proofs/{r.word}/{r.name}OciRecord"
     if len(r.members) > 8 or r.write_answers:
         out[f"{answers}/to_value/Answers.antt"] = write_answers(r)
-    if r.read_answers:
+    if len(r.members) > 5 and not r.consuming:
         out[f"{answers}/from_value/Answers.antt"] = read_answers(r)
     return {os.path.normpath(f"crates/{r.book.crate}/{path}"): text for path, text in out.items()}
 

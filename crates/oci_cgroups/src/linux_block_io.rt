@@ -5,9 +5,9 @@ ghost use Rattle.std.specs.Prelude.{◌≡◌, IfOk, IfErr};
 use crate::linux_throttle_device::LinuxThrottleDevice;
 use crate::linux_weight_device::LinuxWeightDevice;
 use oci_json_model::{
-    ObjectWriter, OciRecord, copy_optional, fault, optional, try_join2, try_join3, try_join4,
-    try_join5, write_optional,
+    ObjectWriter, OciRecord, copy_optional, try_join2, try_join5, write_optional,
 };
+use oci_json_readers::{Optional, read3, read4};
 use oci_text_base::{OciSpecError, Result};
 use serde_json::Value;
 use std::alloc::Global;
@@ -205,25 +205,27 @@ impl OciRecord for LinuxBlockIo {
 
     ghost plain = { linux_block_io_plain };
 
-    #[tactic(auto, using(oci_json_model::proofs::Readers::refuses_others))]
     fn from_value(alloc: Global, value: &Value) -> Result<LinuxBlockIo> {
-        if !value.is_object() {
-            return Err(fault::refused(NAME, ""));
-        }
         let (
             (weight, leaf_weight, weight_device, throttle_read_bps_device),
             (throttle_write_bps_device, throttle_read_iops_device, throttle_write_iops_device),
         ) = try_join2(
-            try_join4(
-                optional(alloc, value, NAME, "weight"),
-                optional(alloc, value, NAME, "leafWeight"),
-                optional(alloc, value, NAME, "weightDevice"),
-                optional(alloc, value, NAME, "throttleReadBpsDevice"),
+            read4::<Optional, Optional, Optional, Optional, _, _, _, _>(
+                alloc,
+                value,
+                NAME,
+                "weight",
+                "leafWeight",
+                "weightDevice",
+                "throttleReadBpsDevice",
             ),
-            try_join3(
-                optional(alloc, value, NAME, "throttleWriteBpsDevice"),
-                optional(alloc, value, NAME, "throttleReadIOPSDevice"),
-                optional(alloc, value, NAME, "throttleWriteIOPSDevice"),
+            read3::<Optional, Optional, Optional, _, _, _>(
+                alloc,
+                value,
+                NAME,
+                "throttleWriteBpsDevice",
+                "throttleReadIOPSDevice",
+                "throttleWriteIOPSDevice",
             ),
         )?;
         Ok(LinuxBlockIo {

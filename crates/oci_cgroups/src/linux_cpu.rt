@@ -5,10 +5,8 @@ ghost use Rattle.std.specs.Prelude.{◌≡◌, IfOk, IfErr};
 pub mod builder;
 
 pub use builder::LinuxCpuBuilder;
-use oci_json_model::{
-    ObjectWriter, OciRecord, copy_optional, fault, optional, try_join2, try_join4, try_join5,
-    write_optional,
-};
+use oci_json_model::{ObjectWriter, OciRecord, copy_optional, try_join2, write_optional};
+use oci_json_readers::{Optional, read4, read5};
 use oci_text_base::{OciSpecError, Result};
 use serde_json::Value;
 use std::alloc::Global;
@@ -230,27 +228,22 @@ impl OciRecord for LinuxCpu {
 
     ghost plain = { linux_cpu_plain };
 
-    #[tactic(auto, using(oci_json_model::proofs::Readers::refuses_others))]
     fn from_value(alloc: Global, value: &Value) -> Result<LinuxCpu> {
-        if !value.is_object() {
-            return Err(fault::refused(NAME, ""));
-        }
         let (
             (shares, quota, idle, burst, period),
             (realtime_runtime, realtime_period, cpus, mems),
         ) = try_join2(
-            try_join5(
-                optional(alloc, value, NAME, "shares"),
-                optional(alloc, value, NAME, "quota"),
-                optional(alloc, value, NAME, "idle"),
-                optional(alloc, value, NAME, "burst"),
-                optional(alloc, value, NAME, "period"),
+            read5::<Optional, Optional, Optional, Optional, Optional, _, _, _, _, _>(
+                alloc, value, NAME, "shares", "quota", "idle", "burst", "period",
             ),
-            try_join4(
-                optional(alloc, value, NAME, "realtimeRuntime"),
-                optional(alloc, value, NAME, "realtimePeriod"),
-                optional(alloc, value, NAME, "cpus"),
-                optional(alloc, value, NAME, "mems"),
+            read4::<Optional, Optional, Optional, Optional, _, _, _, _>(
+                alloc,
+                value,
+                NAME,
+                "realtimeRuntime",
+                "realtimePeriod",
+                "cpus",
+                "mems",
             ),
         )?;
         Ok(LinuxCpu {

@@ -2,11 +2,9 @@
 //! A rule for which devices a container may use, and how (runtime specification, "Linux Container Configuration", "Allowed Device list").
 ghost use Rattle.std.specs.Prelude.{◌≡◌, IfOk, IfErr};
 
-use oci_json_members::{defaulted, nullable, write_nullable};
-use oci_json_model::{
-    ObjectWriter, OciRecord, copy_optional, fault, optional, try_join5, write_optional,
-    write_required,
-};
+use oci_json_members::write_nullable;
+use oci_json_model::{ObjectWriter, OciRecord, copy_optional, write_optional, write_required};
+use oci_json_readers::{Defaulted, Nullable, Optional, read5};
 use oci_linux_names::LinuxDeviceType;
 use oci_text_base::{OciSpecError, Result};
 use serde_json::Value;
@@ -195,17 +193,20 @@ impl OciRecord for LinuxDeviceCgroup {
 
     ghost plain = { linux_device_cgroup_plain };
 
-    #[tactic(auto, using(oci_json_model::proofs::Readers::refuses_others))]
     fn from_value(alloc: Global, value: &Value) -> Result<LinuxDeviceCgroup> {
-        if !value.is_object() {
-            return Err(fault::refused(NAME, ""));
-        }
-        let (allow, typ, major, minor, access) = try_join5(
-            defaulted(alloc, value, NAME, "allow"),
-            optional(alloc, value, NAME, "type"),
-            optional(alloc, value, NAME, "major"),
-            optional(alloc, value, NAME, "minor"),
-            nullable(alloc, value, NAME, "access"),
+        let (allow, typ, major, minor, access) = read5::<
+            Defaulted,
+            Optional,
+            Optional,
+            Optional,
+            Nullable,
+            _,
+            _,
+            _,
+            _,
+            _,
+        >(
+            alloc, value, NAME, "allow", "type", "major", "minor", "access",
         )?;
         Ok(LinuxDeviceCgroup {
             allow,

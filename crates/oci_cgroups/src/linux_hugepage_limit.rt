@@ -2,8 +2,8 @@
 //! How much of the huge pages of one size a container may use (runtime specification, "Linux Container Configuration", "Huge page limits").
 ghost use Rattle.std.specs.Prelude.{◌≡◌, IfOk, IfErr};
 
-use oci_json_members::defaulted;
-use oci_json_model::{ObjectWriter, OciMember, OciRecord, fault, try_join2, write_required};
+use oci_json_model::{ObjectWriter, OciMember, OciRecord, write_required};
+use oci_json_readers::{Defaulted, read2};
 use oci_text_base::{OciSpecError, Result};
 use serde_json::Value;
 use std::alloc::Global;
@@ -89,14 +89,9 @@ impl OciRecord for LinuxHugepageLimit {
 
     ghost plain = { linux_hugepage_limit_plain };
 
-    #[tactic(auto, using(oci_json_model::proofs::Readers::refuses_others))]
     fn from_value(alloc: Global, value: &Value) -> Result<LinuxHugepageLimit> {
-        if !value.is_object() {
-            return Err(fault::refused(NAME, ""));
-        }
-        let (page_size, limit) = try_join2(
-            defaulted(alloc, value, NAME, "pageSize"),
-            defaulted(alloc, value, NAME, "limit"),
+        let (page_size, limit) = read2::<Defaulted, Defaulted, _, _>(
+            alloc, value, NAME, "pageSize", "limit",
         )?;
         Ok(LinuxHugepageLimit { page_size, limit })
     }

@@ -5,9 +5,8 @@ ghost use Rattle.std.specs.Prelude.{◌≡◌, IfOk, IfErr};
 pub mod builder;
 
 pub use builder::LinuxMemoryBuilder;
-use oci_json_model::{
-    ObjectWriter, OciRecord, fault, optional, try_join2, try_join4, try_join5, write_optional,
-};
+use oci_json_model::{ObjectWriter, OciRecord, try_join2, write_optional};
+use oci_json_readers::{Optional, read4, read5};
 use oci_text_base::{OciSpecError, Result};
 use serde_json::Value;
 use std::alloc::Global;
@@ -211,27 +210,29 @@ impl OciRecord for LinuxMemory {
 
     ghost plain = { linux_memory_plain };
 
-    #[tactic(auto, using(oci_json_model::proofs::Readers::refuses_others))]
     fn from_value(alloc: Global, value: &Value) -> Result<LinuxMemory> {
-        if !value.is_object() {
-            return Err(fault::refused(NAME, ""));
-        }
         let (
             (limit, reservation, swap, kernel, kernel_tcp),
             (swappiness, disable_oom_killer, use_hierarchy, check_before_update),
         ) = try_join2(
-            try_join5(
-                optional(alloc, value, NAME, "limit"),
-                optional(alloc, value, NAME, "reservation"),
-                optional(alloc, value, NAME, "swap"),
-                optional(alloc, value, NAME, "kernel"),
-                optional(alloc, value, NAME, "kernelTCP"),
+            read5::<Optional, Optional, Optional, Optional, Optional, _, _, _, _, _>(
+                alloc,
+                value,
+                NAME,
+                "limit",
+                "reservation",
+                "swap",
+                "kernel",
+                "kernelTCP",
             ),
-            try_join4(
-                optional(alloc, value, NAME, "swappiness"),
-                optional(alloc, value, NAME, "disableOOMKiller"),
-                optional(alloc, value, NAME, "useHierarchy"),
-                optional(alloc, value, NAME, "checkBeforeUpdate"),
+            read4::<Optional, Optional, Optional, Optional, _, _, _, _>(
+                alloc,
+                value,
+                NAME,
+                "swappiness",
+                "disableOOMKiller",
+                "useHierarchy",
+                "checkBeforeUpdate",
             ),
         )?;
         Ok(LinuxMemory {

@@ -2,8 +2,8 @@
 //! How many tasks a container may have (runtime specification, "Linux Container Configuration", "PIDs").
 ghost use Rattle.std.specs.Prelude.{◌≡◌, IfOk, IfErr};
 
-use oci_json_members::defaulted;
-use oci_json_model::{ObjectWriter, OciRecord, fault, write_required};
+use oci_json_model::{ObjectWriter, OciRecord, write_required};
+use oci_json_readers::{Defaulted, read1};
 use oci_text_base::{OciSpecError, Result};
 use serde_json::Value;
 use std::alloc::Global;
@@ -62,14 +62,9 @@ impl OciRecord for LinuxPids {
 
     ghost plain = { linux_pids_plain };
 
-    #[tactic(auto, using(oci_json_model::proofs::Readers::refuses_others))]
     fn from_value(alloc: Global, value: &Value) -> Result<LinuxPids> {
-        if !value.is_object() {
-            return Err(fault::refused(NAME, ""));
-        }
-        Ok(LinuxPids {
-            limit: defaulted(alloc, value, NAME, "limit")?,
-        })
+        let limit = read1::<Defaulted, _>(alloc, value, NAME, "limit")?;
+        Ok(LinuxPids { limit })
     }
 
     fn to_value(&self, alloc: Global) -> Result<Value> {

@@ -13,9 +13,9 @@ use crate::linux_pids::LinuxPids;
 pub use builder::LinuxResourcesBuilder;
 use oci_cgroups_network::{LinuxNetwork, LinuxRdma};
 use oci_json_model::{
-    ObjectWriter, OciRecord, copy_optional, fault, optional, try_join2, try_join3, try_join4,
-    try_join5, write_optional,
+    ObjectWriter, OciRecord, copy_optional, try_join2, try_join3, try_join4, write_optional,
 };
+use oci_json_readers::{Optional, read4, read5};
 use oci_text_base::{OciSpecError, Result};
 use serde_json::Value;
 use std::alloc::Global;
@@ -322,25 +322,20 @@ impl OciRecord for LinuxResources {
 
     ghost plain = { linux_resources_plain };
 
-    #[tactic(auto, using(oci_json_model::proofs::Readers::refuses_others))]
     fn from_value(alloc: Global, value: &Value) -> Result<LinuxResources> {
-        if !value.is_object() {
-            return Err(fault::refused(NAME, ""));
-        }
         let ((devices, memory, cpu, pids, block_io), (hugepage_limits, network, rdma, unified)) =
             try_join2(
-                try_join5(
-                    optional(alloc, value, NAME, "devices"),
-                    optional(alloc, value, NAME, "memory"),
-                    optional(alloc, value, NAME, "cpu"),
-                    optional(alloc, value, NAME, "pids"),
-                    optional(alloc, value, NAME, "blockIO"),
+                read5::<Optional, Optional, Optional, Optional, Optional, _, _, _, _, _>(
+                    alloc, value, NAME, "devices", "memory", "cpu", "pids", "blockIO",
                 ),
-                try_join4(
-                    optional(alloc, value, NAME, "hugepageLimits"),
-                    optional(alloc, value, NAME, "network"),
-                    optional(alloc, value, NAME, "rdma"),
-                    optional(alloc, value, NAME, "unified"),
+                read4::<Optional, Optional, Optional, Optional, _, _, _, _>(
+                    alloc,
+                    value,
+                    NAME,
+                    "hugepageLimits",
+                    "network",
+                    "rdma",
+                    "unified",
                 ),
             )?;
         Ok(LinuxResources {

@@ -2,8 +2,8 @@
 //! The most that a container may read from or write to one device (runtime specification, "Linux Container Configuration", "Block IO").
 ghost use Rattle.std.specs.Prelude.{◌≡◌, IfOk, IfErr};
 
-use oci_json_members::defaulted;
-use oci_json_model::{ObjectWriter, OciRecord, fault, try_join3, write_required};
+use oci_json_model::{ObjectWriter, OciRecord, write_required};
+use oci_json_readers::{Defaulted, read3};
 use oci_text_base::{OciSpecError, Result};
 use serde_json::Value;
 use std::alloc::Global;
@@ -73,15 +73,9 @@ impl OciRecord for LinuxThrottleDevice {
 
     ghost plain = { linux_throttle_device_plain };
 
-    #[tactic(auto, using(oci_json_model::proofs::Readers::refuses_others))]
     fn from_value(alloc: Global, value: &Value) -> Result<LinuxThrottleDevice> {
-        if !value.is_object() {
-            return Err(fault::refused(NAME, ""));
-        }
-        let (major, minor, rate) = try_join3(
-            defaulted(alloc, value, NAME, "major"),
-            defaulted(alloc, value, NAME, "minor"),
-            defaulted(alloc, value, NAME, "rate"),
+        let (major, minor, rate) = read3::<Defaulted, Defaulted, Defaulted, _, _, _>(
+            alloc, value, NAME, "major", "minor", "rate",
         )?;
         Ok(LinuxThrottleDevice { major, minor, rate })
     }

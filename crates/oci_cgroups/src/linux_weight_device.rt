@@ -2,10 +2,8 @@
 //! The share that a container has of one device's input and output (runtime specification, "Linux Container Configuration", "Block IO").
 ghost use Rattle.std.specs.Prelude.{◌≡◌, IfOk, IfErr};
 
-use oci_json_members::defaulted;
-use oci_json_model::{
-    ObjectWriter, OciRecord, fault, optional, try_join4, write_optional, write_required,
-};
+use oci_json_model::{ObjectWriter, OciRecord, write_optional, write_required};
+use oci_json_readers::{Defaulted, Optional, read4};
 use oci_text_base::{OciSpecError, Result};
 use serde_json::Value;
 use std::alloc::Global;
@@ -86,17 +84,17 @@ impl OciRecord for LinuxWeightDevice {
 
     ghost plain = { linux_weight_device_plain };
 
-    #[tactic(auto, using(oci_json_model::proofs::Readers::refuses_others))]
     fn from_value(alloc: Global, value: &Value) -> Result<LinuxWeightDevice> {
-        if !value.is_object() {
-            return Err(fault::refused(NAME, ""));
-        }
-        let (major, minor, weight, leaf_weight) = try_join4(
-            defaulted(alloc, value, NAME, "major"),
-            defaulted(alloc, value, NAME, "minor"),
-            optional(alloc, value, NAME, "weight"),
-            optional(alloc, value, NAME, "leafWeight"),
-        )?;
+        let (major, minor, weight, leaf_weight) = read4::<
+            Defaulted,
+            Defaulted,
+            Optional,
+            Optional,
+            _,
+            _,
+            _,
+            _,
+        >(alloc, value, NAME, "major", "minor", "weight", "leafWeight")?;
         Ok(LinuxWeightDevice {
             major,
             minor,

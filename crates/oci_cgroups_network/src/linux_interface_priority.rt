@@ -2,8 +2,8 @@
 //! The priority of a container's traffic on one network interface (runtime specification, "Linux Container Configuration", "Network").
 ghost use Rattle.std.specs.Prelude.{◌≡◌, IfOk, IfErr};
 
-use oci_json_members::defaulted;
-use oci_json_model::{ObjectWriter, OciMember, OciRecord, fault, try_join2, write_required};
+use oci_json_model::{ObjectWriter, OciMember, OciRecord, write_required};
+use oci_json_readers::{Defaulted, read2};
 use oci_text_base::{OciSpecError, Result};
 use serde_json::Value;
 use std::alloc::Global;
@@ -88,14 +88,9 @@ impl OciRecord for LinuxInterfacePriority {
 
     ghost plain = { linux_interface_priority_plain };
 
-    #[tactic(auto, using(oci_json_model::proofs::Readers::refuses_others))]
     fn from_value(alloc: Global, value: &Value) -> Result<LinuxInterfacePriority> {
-        if !value.is_object() {
-            return Err(fault::refused(NAME, ""));
-        }
-        let (name, priority) = try_join2(
-            defaulted(alloc, value, NAME, "name"),
-            defaulted(alloc, value, NAME, "priority"),
+        let (name, priority) = read2::<Defaulted, Defaulted, _, _>(
+            alloc, value, NAME, "name", "priority",
         )?;
         Ok(LinuxInterfacePriority { name, priority })
     }

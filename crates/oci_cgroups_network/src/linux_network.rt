@@ -3,9 +3,8 @@
 ghost use Rattle.std.specs.Prelude.{◌≡◌, IfOk, IfErr};
 
 use crate::linux_interface_priority::LinuxInterfacePriority;
-use oci_json_model::{
-    ObjectWriter, OciRecord, copy_optional, fault, optional, try_join2, write_optional,
-};
+use oci_json_model::{ObjectWriter, OciRecord, copy_optional, write_optional};
+use oci_json_readers::{Optional, read2};
 use oci_text_base::{OciSpecError, Result};
 use serde_json::Value;
 use std::alloc::Global;
@@ -94,14 +93,13 @@ impl OciRecord for LinuxNetwork {
 
     ghost plain = { linux_network_plain };
 
-    #[tactic(auto, using(oci_json_model::proofs::Readers::refuses_others))]
     fn from_value(alloc: Global, value: &Value) -> Result<LinuxNetwork> {
-        if !value.is_object() {
-            return Err(fault::refused(NAME, ""));
-        }
-        let (class_id, priorities) = try_join2(
-            optional(alloc, value, NAME, "classID"),
-            optional(alloc, value, NAME, "priorities"),
+        let (class_id, priorities) = read2::<Optional, Optional, _, _>(
+            alloc,
+            value,
+            NAME,
+            "classID",
+            "priorities",
         )?;
         Ok(LinuxNetwork {
             class_id,

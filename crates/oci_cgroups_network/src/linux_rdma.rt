@@ -2,7 +2,8 @@
 //! What a container may use of one device for remote direct memory access (runtime specification, "Linux Container Configuration", "RDMA").
 ghost use Rattle.std.specs.Prelude.{◌≡◌, IfOk, IfErr};
 
-use oci_json_model::{ObjectWriter, OciRecord, fault, optional, try_join2, write_optional};
+use oci_json_model::{ObjectWriter, OciRecord, write_optional};
+use oci_json_readers::{Optional, read2};
 use oci_text_base::{OciSpecError, Result};
 use serde_json::Value;
 use std::alloc::Global;
@@ -81,14 +82,13 @@ impl OciRecord for LinuxRdma {
 
     ghost plain = { linux_rdma_plain };
 
-    #[tactic(auto, using(oci_json_model::proofs::Readers::refuses_others))]
     fn from_value(alloc: Global, value: &Value) -> Result<LinuxRdma> {
-        if !value.is_object() {
-            return Err(fault::refused(NAME, ""));
-        }
-        let (hca_handles, hca_objects) = try_join2(
-            optional(alloc, value, NAME, "hcaHandles"),
-            optional(alloc, value, NAME, "hcaObjects"),
+        let (hca_handles, hca_objects) = read2::<Optional, Optional, _, _>(
+            alloc,
+            value,
+            NAME,
+            "hcaHandles",
+            "hcaObjects",
         )?;
         Ok(LinuxRdma {
             hca_handles,

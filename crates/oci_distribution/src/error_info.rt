@@ -2,11 +2,11 @@
 //! One error of a registry's reply (distribution specification, "Error Codes").
 ghost use Rattle.std.specs.Prelude.{◌≡◌, IfOk, IfErr};
 
-use oci_json_members::{copy_optional_as, optional_as, write_optional_as};
+use oci_json_members::{copy_optional_as, write_optional_as};
 use oci_json_model::{
-    ObjectWriter, OciMember, OciRecord, copy_optional, fault, optional, required, try_join3,
-    write_optional, write_required,
+    ObjectWriter, OciMember, OciRecord, copy_optional, try_join3, write_optional, write_required,
 };
+use oci_json_readers::{As, Optional, Required, read3};
 use oci_json_trees::Detail;
 use oci_text::ErrorCode;
 use oci_text_base::{OciSpecError, Result, UninitializedFieldError};
@@ -76,15 +76,9 @@ impl OciRecord for ErrorInfo {
 
     ghost plain = { error_info_plain };
 
-    #[tactic(auto, using(oci_json_model::proofs::Readers::refuses_others))]
     fn from_value(alloc: Global, value: &Value) -> Result<ErrorInfo> {
-        if !value.is_object() {
-            return Err(fault::refused(NAME, ""));
-        }
-        let (code, message, detail) = try_join3(
-            required(alloc, value, NAME, "code"),
-            optional(alloc, value, NAME, "message"),
-            optional_as::<Detail, String>(alloc, value, NAME, "detail"),
+        let (code, message, detail) = read3::<Required, Optional, As<Detail>, _, _, _>(
+            alloc, value, NAME, "code", "message", "detail",
         )?;
         Ok(ErrorInfo {
             code,

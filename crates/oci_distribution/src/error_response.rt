@@ -5,7 +5,8 @@ ghost use Rattle.std.specs.Prelude.{◌≡◌, IfOk, IfErr};
 mod own;
 
 use crate::error_info::ErrorInfo;
-use oci_json_model::{ObjectWriter, OciMember, OciRecord, fault, required, write_required};
+use oci_json_model::{ObjectWriter, OciMember, OciRecord, write_required};
+use oci_json_readers::{Required, read1};
 use oci_text_base::{OciSpecError, Result, UninitializedFieldError};
 pub use own::ERR_REGISTRY;
 use serde_json::Value;
@@ -54,14 +55,9 @@ impl OciRecord for ErrorResponse {
 
     ghost plain = { error_response_plain };
 
-    #[tactic(auto, using(oci_json_model::proofs::Readers::refuses_others))]
     fn from_value(alloc: Global, value: &Value) -> Result<ErrorResponse> {
-        if !value.is_object() {
-            return Err(fault::refused(NAME, ""));
-        }
-        Ok(ErrorResponse {
-            errors: required(alloc, value, NAME, "errors")?,
-        })
+        let errors = read1::<Required, _>(alloc, value, NAME, "errors")?;
+        Ok(ErrorResponse { errors })
     }
 
     fn to_value(&self, alloc: Global) -> Result<Value> {

@@ -2,7 +2,8 @@
 //! The repositories of a registry (distribution specification, "Listing Repositories").
 ghost use Rattle.std.specs.Prelude.{◌≡◌, IfOk, IfErr};
 
-use oci_json_model::{ObjectWriter, OciMember, OciRecord, fault, required, write_required};
+use oci_json_model::{ObjectWriter, OciMember, OciRecord, write_required};
+use oci_json_readers::{Required, read1};
 use oci_text_base::{OciSpecError, Result, UninitializedFieldError};
 use serde_json::Value;
 use std::alloc::Global;
@@ -58,14 +59,9 @@ impl OciRecord for RepositoryList {
 
     ghost plain = { repository_list_plain };
 
-    #[tactic(auto, using(oci_json_model::proofs::Readers::refuses_others))]
     fn from_value(alloc: Global, value: &Value) -> Result<RepositoryList> {
-        if !value.is_object() {
-            return Err(fault::refused(NAME, ""));
-        }
-        Ok(RepositoryList {
-            repositories: required(alloc, value, NAME, "repositories")?,
-        })
+        let repositories = read1::<Required, _>(alloc, value, NAME, "repositories")?;
+        Ok(RepositoryList { repositories })
     }
 
     fn to_value(&self, alloc: Global) -> Result<Value> {

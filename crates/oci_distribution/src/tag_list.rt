@@ -2,9 +2,8 @@
 //! The tags of a repository (distribution specification, "Listing Tags").
 ghost use Rattle.std.specs.Prelude.{◌≡◌, IfOk, IfErr};
 
-use oci_json_model::{
-    ObjectWriter, OciMember, OciRecord, fault, required, try_join2, write_required,
-};
+use oci_json_model::{ObjectWriter, OciMember, OciRecord, try_join2, write_required};
+use oci_json_readers::{Required, read2};
 use oci_text_base::{OciSpecError, Result, UninitializedFieldError};
 use serde_json::Value;
 use std::alloc::Global;
@@ -77,15 +76,8 @@ impl OciRecord for TagList {
 
     ghost plain = { tag_list_plain };
 
-    #[tactic(auto, using(oci_json_model::proofs::Readers::refuses_others))]
     fn from_value(alloc: Global, value: &Value) -> Result<TagList> {
-        if !value.is_object() {
-            return Err(fault::refused(NAME, ""));
-        }
-        let (name, tags) = try_join2(
-            required(alloc, value, NAME, "name"),
-            required(alloc, value, NAME, "tags"),
-        )?;
+        let (name, tags) = read2::<Required, Required, _, _>(alloc, value, NAME, "name", "tags")?;
         Ok(TagList { name, tags })
     }
 

@@ -2,8 +2,9 @@
 //! Whether a runtime has AppArmor, whatever its host has (runtime specification, "Linux Features Structure", `apparmor`).
 ghost use Rattle.std.specs.Prelude.{◌≡◌, IfOk, IfErr};
 
-use oci_json_members::{nullable, write_nullable};
-use oci_json_model::{ObjectWriter, OciRecord, fault};
+use oci_json_members::write_nullable;
+use oci_json_model::{ObjectWriter, OciRecord};
+use oci_json_readers::{Nullable, read1};
 use oci_text_base::{OciSpecError, Result};
 use serde_json::Value;
 use std::alloc::Global;
@@ -76,14 +77,9 @@ impl OciRecord for Apparmor {
 
     ghost plain = { apparmor_plain };
 
-    #[tactic(auto, using(oci_json_model::proofs::Readers::refuses_others))]
     fn from_value(alloc: Global, value: &Value) -> Result<Apparmor> {
-        if !value.is_object() {
-            return Err(fault::refused(NAME, ""));
-        }
-        Ok(Apparmor {
-            enabled: nullable(alloc, value, NAME, "enabled")?,
-        })
+        let enabled = read1::<Nullable, _>(alloc, value, NAME, "enabled")?;
+        Ok(Apparmor { enabled })
     }
 
     fn to_value(&self, alloc: Global) -> Result<Value> {

@@ -2,8 +2,9 @@
 //! What a runtime can do with control groups, whatever its host has (runtime specification, "Linux Features Structure", `cgroup`).
 ghost use Rattle.std.specs.Prelude.{◌≡◌, IfOk, IfErr};
 
-use oci_json_members::{nullable, write_nullable};
-use oci_json_model::{ObjectWriter, OciRecord, fault, try_join5};
+use oci_json_members::write_nullable;
+use oci_json_model::{ObjectWriter, OciRecord};
+use oci_json_readers::{Nullable, read5};
 use oci_text_base::{OciSpecError, Result};
 use serde_json::Value;
 use std::alloc::Global;
@@ -188,17 +189,27 @@ impl OciRecord for Cgroup {
 
     ghost plain = { cgroup_plain };
 
-    #[tactic(auto, using(oci_json_model::proofs::Readers::refuses_others))]
     fn from_value(alloc: Global, value: &Value) -> Result<Cgroup> {
-        if !value.is_object() {
-            return Err(fault::refused(NAME, ""));
-        }
-        let (v1, v2, systemd, systemd_user, rdma) = try_join5(
-            nullable(alloc, value, NAME, "v1"),
-            nullable(alloc, value, NAME, "v2"),
-            nullable(alloc, value, NAME, "systemd"),
-            nullable(alloc, value, NAME, "systemdUser"),
-            nullable(alloc, value, NAME, "rdma"),
+        let (v1, v2, systemd, systemd_user, rdma) = read5::<
+            Nullable,
+            Nullable,
+            Nullable,
+            Nullable,
+            Nullable,
+            _,
+            _,
+            _,
+            _,
+            _,
+        >(
+            alloc,
+            value,
+            NAME,
+            "v1",
+            "v2",
+            "systemd",
+            "systemdUser",
+            "rdma",
         )?;
         Ok(Cgroup {
             v1,

@@ -3,11 +3,12 @@
 ghost use Rattle.std.specs.Prelude.{◌≡◌, IfOk, IfErr};
 
 use crate::linux_feature::LinuxFeature;
-use oci_json_members::{nullable, write_nullable};
+use oci_json_members::write_nullable;
 use oci_json_model::{
-    ObjectWriter, OciMember, OciRecord, copy_optional, fault, required, try_join2, try_join3,
-    try_join4, write_required,
+    ObjectWriter, OciMember, OciRecord, copy_optional, try_join2, try_join3, try_join4,
+    write_required,
 };
+use oci_json_readers::{Nullable, Required, read3, read4};
 use oci_text_base::{OciSpecError, Result};
 use serde_json::Value;
 use std::alloc::Global;
@@ -254,25 +255,27 @@ impl OciRecord for Features {
 
     ghost plain = { features_plain };
 
-    #[tactic(auto, using(oci_json_model::proofs::Readers::refuses_others))]
     fn from_value(alloc: Global, value: &Value) -> Result<Features> {
-        if !value.is_object() {
-            return Err(fault::refused(NAME, ""));
-        }
         let (
             (oci_version_min, oci_version_max, hooks, mount_options),
             (linux, annotations, potentially_unsafe_config_annotations),
         ) = try_join2(
-            try_join4(
-                required(alloc, value, NAME, "ociVersionMin"),
-                required(alloc, value, NAME, "ociVersionMax"),
-                nullable(alloc, value, NAME, "hooks"),
-                nullable(alloc, value, NAME, "mountOptions"),
+            read4::<Required, Required, Nullable, Nullable, _, _, _, _>(
+                alloc,
+                value,
+                NAME,
+                "ociVersionMin",
+                "ociVersionMax",
+                "hooks",
+                "mountOptions",
             ),
-            try_join3(
-                nullable(alloc, value, NAME, "linux"),
-                nullable(alloc, value, NAME, "annotations"),
-                nullable(alloc, value, NAME, "potentiallyUnsafeConfigAnnotations"),
+            read3::<Nullable, Nullable, Nullable, _, _, _>(
+                alloc,
+                value,
+                NAME,
+                "linux",
+                "annotations",
+                "potentiallyUnsafeConfigAnnotations",
             ),
         )?;
         Ok(Features {

@@ -2,7 +2,8 @@
 //! What a runtime can do with Intel's Resource Director Technology, whatever its host has (runtime specification, "Linux Features Structure", `intelRdt`).
 ghost use Rattle.std.specs.Prelude.{◌≡◌, IfOk, IfErr};
 
-use oci_json_model::{ObjectWriter, OciRecord, fault, optional, try_join3, write_optional};
+use oci_json_model::{ObjectWriter, OciRecord, write_optional};
+use oci_json_readers::{Optional, read3};
 use oci_text_base::{OciSpecError, Result};
 use serde_json::Value;
 use std::alloc::Global;
@@ -134,15 +135,14 @@ impl OciRecord for IntelRdt {
 
     ghost plain = { intel_rdt_plain };
 
-    #[tactic(auto, using(oci_json_model::proofs::Readers::refuses_others))]
     fn from_value(alloc: Global, value: &Value) -> Result<IntelRdt> {
-        if !value.is_object() {
-            return Err(fault::refused(NAME, ""));
-        }
-        let (enabled, schemata, monitoring) = try_join3(
-            optional(alloc, value, NAME, "enabled"),
-            optional(alloc, value, NAME, "schemata"),
-            optional(alloc, value, NAME, "monitoring"),
+        let (enabled, schemata, monitoring) = read3::<Optional, Optional, Optional, _, _, _>(
+            alloc,
+            value,
+            NAME,
+            "enabled",
+            "schemata",
+            "monitoring",
         )?;
         Ok(IntelRdt {
             enabled,

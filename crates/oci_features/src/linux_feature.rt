@@ -13,8 +13,9 @@ use crate::net_devices::NetDevices;
 use crate::seccomp::Seccomp;
 use crate::selinux::Selinux;
 pub use builder::LinuxFeatureBuilder;
-use oci_json_members::{nullable, write_nullable};
-use oci_json_model::{ObjectWriter, OciRecord, copy_optional, fault, try_join2, try_join5};
+use oci_json_members::write_nullable;
+use oci_json_model::{ObjectWriter, OciRecord, copy_optional, try_join2, try_join5};
+use oci_json_readers::{Nullable, read5};
 use oci_linux_names::LinuxNamespaceType;
 use oci_text_base::{OciSpecError, Result};
 use serde_json::Value;
@@ -344,28 +345,30 @@ impl OciRecord for LinuxFeature {
 
     ghost plain = { linux_feature_plain };
 
-    #[tactic(auto, using(oci_json_model::proofs::Readers::refuses_others))]
     fn from_value(alloc: Global, value: &Value) -> Result<LinuxFeature> {
-        if !value.is_object() {
-            return Err(fault::refused(NAME, ""));
-        }
         let (
             (namespaces, capabilities, cgroup, seccomp, apparmor),
             (selinux, intel_rdt, memory_policy, mount_extensions, net_devices),
         ) = try_join2(
-            try_join5(
-                nullable(alloc, value, NAME, "namespaces"),
-                nullable(alloc, value, NAME, "capabilities"),
-                nullable(alloc, value, NAME, "cgroup"),
-                nullable(alloc, value, NAME, "seccomp"),
-                nullable(alloc, value, NAME, "apparmor"),
+            read5::<Nullable, Nullable, Nullable, Nullable, Nullable, _, _, _, _, _>(
+                alloc,
+                value,
+                NAME,
+                "namespaces",
+                "capabilities",
+                "cgroup",
+                "seccomp",
+                "apparmor",
             ),
-            try_join5(
-                nullable(alloc, value, NAME, "selinux"),
-                nullable(alloc, value, NAME, "intelRdt"),
-                nullable(alloc, value, NAME, "memoryPolicy"),
-                nullable(alloc, value, NAME, "mountExtensions"),
-                nullable(alloc, value, NAME, "netDevices"),
+            read5::<Nullable, Nullable, Nullable, Nullable, Nullable, _, _, _, _, _>(
+                alloc,
+                value,
+                NAME,
+                "selinux",
+                "intelRdt",
+                "memoryPolicy",
+                "mountExtensions",
+                "netDevices",
             ),
         )?;
         Ok(LinuxFeature {

@@ -2,8 +2,9 @@
 //! What a runtime knows of memory policies (runtime specification, "Linux Features Structure", `memoryPolicy`).
 ghost use Rattle.std.specs.Prelude.{◌≡◌, IfOk, IfErr};
 
-use oci_json_members::{nullable, write_nullable};
-use oci_json_model::{ObjectWriter, OciRecord, copy_optional, fault, try_join2};
+use oci_json_members::write_nullable;
+use oci_json_model::{ObjectWriter, OciRecord, copy_optional, try_join2};
+use oci_json_readers::{Nullable, read2};
 use oci_text_base::{OciSpecError, Result};
 use serde_json::Value;
 use std::alloc::Global;
@@ -104,14 +105,9 @@ impl OciRecord for MemoryPolicy {
 
     ghost plain = { memory_policy_plain };
 
-    #[tactic(auto, using(oci_json_model::proofs::Readers::refuses_others))]
     fn from_value(alloc: Global, value: &Value) -> Result<MemoryPolicy> {
-        if !value.is_object() {
-            return Err(fault::refused(NAME, ""));
-        }
-        let (modes, flags) = try_join2(
-            nullable(alloc, value, NAME, "modes"),
-            nullable(alloc, value, NAME, "flags"),
+        let (modes, flags) = read2::<Nullable, Nullable, _, _>(
+            alloc, value, NAME, "modes", "flags",
         )?;
         Ok(MemoryPolicy { modes, flags })
     }

@@ -3,8 +3,9 @@
 ghost use Rattle.std.specs.Prelude.{◌≡◌, IfOk, IfErr};
 
 use crate::id_map::IDMap;
-use oci_json_members::{nullable, write_nullable};
-use oci_json_model::{ObjectWriter, OciRecord, copy_optional, fault};
+use oci_json_members::write_nullable;
+use oci_json_model::{ObjectWriter, OciRecord, copy_optional};
+use oci_json_readers::{Nullable, read1};
 use oci_text_base::{OciSpecError, Result};
 use serde_json::Value;
 use std::alloc::Global;
@@ -78,14 +79,9 @@ impl OciRecord for MountExtensions {
 
     ghost plain = { mount_extensions_plain };
 
-    #[tactic(auto, using(oci_json_model::proofs::Readers::refuses_others))]
     fn from_value(alloc: Global, value: &Value) -> Result<MountExtensions> {
-        if !value.is_object() {
-            return Err(fault::refused(NAME, ""));
-        }
-        Ok(MountExtensions {
-            idmap: nullable(alloc, value, NAME, "idmap")?,
-        })
+        let idmap = read1::<Nullable, _>(alloc, value, NAME, "idmap")?;
+        Ok(MountExtensions { idmap })
     }
 
     fn to_value(&self, alloc: Global) -> Result<Value> {

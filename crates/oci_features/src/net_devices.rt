@@ -2,8 +2,9 @@
 //! Whether a runtime can move network devices into a container, whatever its host can (runtime specification, "Linux Features Structure", `netDevices`).
 ghost use Rattle.std.specs.Prelude.{◌≡◌, IfOk, IfErr};
 
-use oci_json_members::{nullable, write_nullable};
-use oci_json_model::{ObjectWriter, OciRecord, fault};
+use oci_json_members::write_nullable;
+use oci_json_model::{ObjectWriter, OciRecord};
+use oci_json_readers::{Nullable, read1};
 use oci_text_base::{OciSpecError, Result};
 use serde_json::Value;
 use std::alloc::Global;
@@ -77,14 +78,9 @@ impl OciRecord for NetDevices {
 
     ghost plain = { net_devices_plain };
 
-    #[tactic(auto, using(oci_json_model::proofs::Readers::refuses_others))]
     fn from_value(alloc: Global, value: &Value) -> Result<NetDevices> {
-        if !value.is_object() {
-            return Err(fault::refused(NAME, ""));
-        }
-        Ok(NetDevices {
-            enabled: nullable(alloc, value, NAME, "enabled")?,
-        })
+        let enabled = read1::<Nullable, _>(alloc, value, NAME, "enabled")?;
+        Ok(NetDevices { enabled })
     }
 
     fn to_value(&self, alloc: Global) -> Result<Value> {

@@ -2,10 +2,9 @@
 //! What a runtime knows of filters of system calls (runtime specification, "Linux Features Structure", `seccomp`).
 ghost use Rattle.std.specs.Prelude.{◌≡◌, IfOk, IfErr};
 
-use oci_json_members::{nullable, write_nullable};
-use oci_json_model::{
-    ObjectWriter, OciRecord, copy_optional, fault, try_join2, try_join3, try_join5,
-};
+use oci_json_members::write_nullable;
+use oci_json_model::{ObjectWriter, OciRecord, copy_optional, try_join2, try_join5};
+use oci_json_readers::{Nullable, read3};
 use oci_linux_names::{LinuxSeccompAction, SArch};
 use oci_text_base::{OciSpecError, Result};
 use serde_json::Value;
@@ -221,21 +220,23 @@ impl OciRecord for Seccomp {
 
     ghost plain = { seccomp_plain };
 
-    #[tactic(auto, using(oci_json_model::proofs::Readers::refuses_others))]
     fn from_value(alloc: Global, value: &Value) -> Result<Seccomp> {
-        if !value.is_object() {
-            return Err(fault::refused(NAME, ""));
-        }
         let ((enabled, actions, operators), (archs, known_flags, supported_flags)) = try_join2(
-            try_join3(
-                nullable(alloc, value, NAME, "enabled"),
-                nullable(alloc, value, NAME, "actions"),
-                nullable(alloc, value, NAME, "operators"),
+            read3::<Nullable, Nullable, Nullable, _, _, _>(
+                alloc,
+                value,
+                NAME,
+                "enabled",
+                "actions",
+                "operators",
             ),
-            try_join3(
-                nullable(alloc, value, NAME, "archs"),
-                nullable(alloc, value, NAME, "knownFlags"),
-                nullable(alloc, value, NAME, "supportedFlags"),
+            read3::<Nullable, Nullable, Nullable, _, _, _>(
+                alloc,
+                value,
+                NAME,
+                "archs",
+                "knownFlags",
+                "supportedFlags",
             ),
         )?;
         Ok(Seccomp {

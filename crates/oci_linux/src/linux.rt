@@ -10,8 +10,9 @@ use crate::defaults::resources_without_rules;
 pub use builder::LinuxBuilder;
 use oci_cgroups::LinuxResources;
 use oci_json_model::{
-    ObjectWriter, OciRecord, copy_optional, fault, optional, try_join4, try_join5, write_optional,
+    ObjectWriter, OciRecord, copy_optional, try_join4, try_join5, write_optional,
 };
+use oci_json_readers::{Optional, read4, read5};
 use oci_linux_namespaces::{
     LinuxDevice, LinuxIdMapping, LinuxNamespace, LinuxNetDevice, LinuxTimeOffset,
 };
@@ -136,41 +137,49 @@ impl OciRecord for Linux {
 
     ghost plain = { linux_plain };
 
-    #[tactic(auto, using(oci_json_model::proofs::Readers::refuses_others))]
     fn from_value(alloc: Global, value: &Value) -> Result<Linux> {
-        if !value.is_object() {
-            return Err(fault::refused(NAME, ""));
-        }
         let (
             (net_devices, uid_mappings, gid_mappings, sysctl, resources),
             (cgroups_path, namespaces, devices, seccomp),
             (rootfs_propagation, masked_paths, readonly_paths, mount_label),
             (intel_rdt, memory_policy, personality, time_offsets),
         ) = try_join4(
-            try_join5(
-                optional(alloc, value, NAME, "netDevices"),
-                optional(alloc, value, NAME, "uidMappings"),
-                optional(alloc, value, NAME, "gidMappings"),
-                optional(alloc, value, NAME, "sysctl"),
-                optional(alloc, value, NAME, "resources"),
+            read5::<Optional, Optional, Optional, Optional, Optional, _, _, _, _, _>(
+                alloc,
+                value,
+                NAME,
+                "netDevices",
+                "uidMappings",
+                "gidMappings",
+                "sysctl",
+                "resources",
             ),
-            try_join4(
-                optional(alloc, value, NAME, "cgroupsPath"),
-                optional(alloc, value, NAME, "namespaces"),
-                optional(alloc, value, NAME, "devices"),
-                optional(alloc, value, NAME, "seccomp"),
+            read4::<Optional, Optional, Optional, Optional, _, _, _, _>(
+                alloc,
+                value,
+                NAME,
+                "cgroupsPath",
+                "namespaces",
+                "devices",
+                "seccomp",
             ),
-            try_join4(
-                optional(alloc, value, NAME, "rootfsPropagation"),
-                optional(alloc, value, NAME, "maskedPaths"),
-                optional(alloc, value, NAME, "readonlyPaths"),
-                optional(alloc, value, NAME, "mountLabel"),
+            read4::<Optional, Optional, Optional, Optional, _, _, _, _>(
+                alloc,
+                value,
+                NAME,
+                "rootfsPropagation",
+                "maskedPaths",
+                "readonlyPaths",
+                "mountLabel",
             ),
-            try_join4(
-                optional(alloc, value, NAME, "intelRdt"),
-                optional(alloc, value, NAME, "memoryPolicy"),
-                optional(alloc, value, NAME, "personality"),
-                optional(alloc, value, NAME, "timeOffsets"),
+            read4::<Optional, Optional, Optional, Optional, _, _, _, _>(
+                alloc,
+                value,
+                NAME,
+                "intelRdt",
+                "memoryPolicy",
+                "personality",
+                "timeOffsets",
             ),
         )?;
         Ok(Linux {

@@ -2,11 +2,10 @@
 //! A device file that a container has (runtime specification, "Linux Container Configuration", "Devices").
 ghost use Rattle.std.specs.Prelude.{◌≡◌, IfOk, IfErr};
 
-use oci_json_members::defaulted;
 use oci_json_model::{
-    ObjectWriter, OciMember, OciRecord, fault, optional, required, try_join2, try_join3, try_join4,
-    write_optional, write_required,
+    ObjectWriter, OciMember, OciRecord, try_join2, write_optional, write_required,
 };
+use oci_json_readers::{Defaulted, Optional, Required, read3, read4};
 use oci_linux_names::LinuxDeviceType;
 use oci_text_base::{OciSpecError, Result};
 use serde_json::Value;
@@ -249,22 +248,13 @@ impl OciRecord for LinuxDevice {
 
     ghost plain = { linux_device_plain };
 
-    #[tactic(auto, using(oci_json_model::proofs::Readers::refuses_others))]
     fn from_value(alloc: Global, value: &Value) -> Result<LinuxDevice> {
-        if !value.is_object() {
-            return Err(fault::refused(NAME, ""));
-        }
         let ((path, typ, major, minor), (file_mode, uid, gid)) = try_join2(
-            try_join4(
-                defaulted(alloc, value, NAME, "path"),
-                required(alloc, value, NAME, "type"),
-                defaulted(alloc, value, NAME, "major"),
-                defaulted(alloc, value, NAME, "minor"),
+            read4::<Defaulted, Required, Defaulted, Defaulted, _, _, _, _>(
+                alloc, value, NAME, "path", "type", "major", "minor",
             ),
-            try_join3(
-                optional(alloc, value, NAME, "fileMode"),
-                optional(alloc, value, NAME, "uid"),
-                optional(alloc, value, NAME, "gid"),
+            read3::<Optional, Optional, Optional, _, _, _>(
+                alloc, value, NAME, "fileMode", "uid", "gid",
             ),
         )?;
         Ok(LinuxDevice {

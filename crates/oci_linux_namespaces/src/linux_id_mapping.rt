@@ -2,8 +2,8 @@
 //! A range of user or group IDs of a container, and the host's IDs that it is mapped to (runtime specification, "Linux Container Configuration", "User namespace mappings").
 ghost use Rattle.std.specs.Prelude.{◌≡◌, IfOk, IfErr};
 
-use oci_json_members::defaulted;
-use oci_json_model::{ObjectWriter, OciRecord, fault, try_join3, write_required};
+use oci_json_model::{ObjectWriter, OciRecord, write_required};
+use oci_json_readers::{Defaulted, read3};
 use oci_text_base::{OciSpecError, Result};
 use serde_json::Value;
 use std::alloc::Global;
@@ -74,15 +74,14 @@ impl OciRecord for LinuxIdMapping {
 
     ghost plain = { linux_id_mapping_plain };
 
-    #[tactic(auto, using(oci_json_model::proofs::Readers::refuses_others))]
     fn from_value(alloc: Global, value: &Value) -> Result<LinuxIdMapping> {
-        if !value.is_object() {
-            return Err(fault::refused(NAME, ""));
-        }
-        let (host_id, container_id, size) = try_join3(
-            defaulted(alloc, value, NAME, "hostID"),
-            defaulted(alloc, value, NAME, "containerID"),
-            defaulted(alloc, value, NAME, "size"),
+        let (host_id, container_id, size) = read3::<Defaulted, Defaulted, Defaulted, _, _, _>(
+            alloc,
+            value,
+            NAME,
+            "hostID",
+            "containerID",
+            "size",
         )?;
         Ok(LinuxIdMapping {
             host_id,

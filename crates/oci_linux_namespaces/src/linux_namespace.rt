@@ -2,10 +2,8 @@
 //! A namespace that a container has of its own or joins (runtime specification, "Linux Container Configuration", "Namespaces").
 ghost use Rattle.std.specs.Prelude.{◌≡◌, IfOk, IfErr};
 
-use oci_json_model::{
-    ObjectWriter, OciRecord, copy_optional, fault, optional, required, try_join2, write_optional,
-    write_required,
-};
+use oci_json_model::{ObjectWriter, OciRecord, copy_optional, write_optional, write_required};
+use oci_json_readers::{Optional, Required, read2};
 use oci_linux_names::LinuxNamespaceType;
 use oci_text_base::{OciSpecError, Result};
 use serde_json::Value;
@@ -92,15 +90,8 @@ impl OciRecord for LinuxNamespace {
 
     ghost plain = { linux_namespace_plain };
 
-    #[tactic(auto, using(oci_json_model::proofs::Readers::refuses_others))]
     fn from_value(alloc: Global, value: &Value) -> Result<LinuxNamespace> {
-        if !value.is_object() {
-            return Err(fault::refused(NAME, ""));
-        }
-        let (typ, path) = try_join2(
-            required(alloc, value, NAME, "type"),
-            optional(alloc, value, NAME, "path"),
-        )?;
+        let (typ, path) = read2::<Required, Optional, _, _>(alloc, value, NAME, "type", "path")?;
         Ok(LinuxNamespace { typ, path })
     }
 

@@ -2,8 +2,9 @@
 //! What becomes of a network device that is moved into a container (runtime specification, "Linux Container Configuration", `netDevices`).
 ghost use Rattle.std.specs.Prelude.{◌≡◌, IfOk, IfErr};
 
-use oci_json_members::{nullable, write_nullable};
-use oci_json_model::{ObjectWriter, OciRecord, copy_optional, fault};
+use oci_json_members::write_nullable;
+use oci_json_model::{ObjectWriter, OciRecord, copy_optional};
+use oci_json_readers::{Nullable, read1};
 use oci_text_base::{OciSpecError, Result};
 use serde_json::Value;
 use std::alloc::Global;
@@ -76,14 +77,9 @@ impl OciRecord for LinuxNetDevice {
 
     ghost plain = { linux_net_device_plain };
 
-    #[tactic(auto, using(oci_json_model::proofs::Readers::refuses_others))]
     fn from_value(alloc: Global, value: &Value) -> Result<LinuxNetDevice> {
-        if !value.is_object() {
-            return Err(fault::refused(NAME, ""));
-        }
-        Ok(LinuxNetDevice {
-            name: nullable(alloc, value, NAME, "name")?,
-        })
+        let name = read1::<Nullable, _>(alloc, value, NAME, "name")?;
+        Ok(LinuxNetDevice { name })
     }
 
     fn to_value(&self, alloc: Global) -> Result<Value> {

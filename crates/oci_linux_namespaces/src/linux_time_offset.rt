@@ -2,7 +2,8 @@
 //! By how much a clock of a container's time namespace differs (runtime specification, "Linux Container Configuration", "Offset for Time Namespace").
 ghost use Rattle.std.specs.Prelude.{◌≡◌, IfOk, IfErr};
 
-use oci_json_model::{ObjectWriter, OciRecord, fault, optional, try_join2, write_optional};
+use oci_json_model::{ObjectWriter, OciRecord, write_optional};
+use oci_json_readers::{Optional, read2};
 use oci_text_base::{OciSpecError, Result};
 use serde_json::Value;
 use std::alloc::Global;
@@ -87,14 +88,9 @@ impl OciRecord for LinuxTimeOffset {
 
     ghost plain = { linux_time_offset_plain };
 
-    #[tactic(auto, using(oci_json_model::proofs::Readers::refuses_others))]
     fn from_value(alloc: Global, value: &Value) -> Result<LinuxTimeOffset> {
-        if !value.is_object() {
-            return Err(fault::refused(NAME, ""));
-        }
-        let (secs, nanosecs) = try_join2(
-            optional(alloc, value, NAME, "secs"),
-            optional(alloc, value, NAME, "nanosecs"),
+        let (secs, nanosecs) = read2::<Optional, Optional, _, _>(
+            alloc, value, NAME, "secs", "nanosecs",
         )?;
         Ok(LinuxTimeOffset { secs, nanosecs })
     }

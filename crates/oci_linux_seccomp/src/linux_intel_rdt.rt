@@ -2,11 +2,11 @@
 //! A container's share of the processor's caches and memory bandwidth (runtime specification, "Linux Container Configuration", "IntelRdt").
 ghost use Rattle.std.specs.Prelude.{◌≡◌, IfOk, IfErr};
 
-use oci_json_members::{unless_empty, write_unless_empty};
+use oci_json_members::write_unless_empty;
 use oci_json_model::{
-    ObjectWriter, OciRecord, copy_optional, fault, optional, try_join2, try_join3, try_join4,
-    write_optional,
+    ObjectWriter, OciRecord, copy_optional, try_join2, try_join4, write_optional,
 };
+use oci_json_readers::{Optional, UnlessEmpty, read3, read4};
 use oci_text_base::{OciSpecError, Result};
 use serde_json::Value;
 use std::alloc::Global;
@@ -247,25 +247,27 @@ impl OciRecord for LinuxIntelRdt {
 
     ghost plain = { linux_intel_rdt_plain };
 
-    #[tactic(auto, using(oci_json_model::proofs::Readers::refuses_others))]
     fn from_value(alloc: Global, value: &Value) -> Result<LinuxIntelRdt> {
-        if !value.is_object() {
-            return Err(fault::refused(NAME, ""));
-        }
         let (
             (clos_id, schemata, l3_cache_schema, mem_bw_schema),
             (enable_cmt, enable_mbm, enable_monitoring),
         ) = try_join2(
-            try_join4(
-                optional(alloc, value, NAME, "closID"),
-                unless_empty(alloc, value, NAME, "schemata"),
-                optional(alloc, value, NAME, "l3CacheSchema"),
-                optional(alloc, value, NAME, "memBwSchema"),
+            read4::<Optional, UnlessEmpty, Optional, Optional, _, _, _, _>(
+                alloc,
+                value,
+                NAME,
+                "closID",
+                "schemata",
+                "l3CacheSchema",
+                "memBwSchema",
             ),
-            try_join3(
-                optional(alloc, value, NAME, "enableCmt"),
-                optional(alloc, value, NAME, "enableMbm"),
-                optional(alloc, value, NAME, "enableMonitoring"),
+            read3::<Optional, Optional, Optional, _, _, _>(
+                alloc,
+                value,
+                NAME,
+                "enableCmt",
+                "enableMbm",
+                "enableMonitoring",
             ),
         )?;
         Ok(LinuxIntelRdt {

@@ -3,9 +3,9 @@
 ghost use Rattle.std.specs.Prelude.{◌≡◌, IfOk, IfErr};
 
 use oci_json_model::{
-    ObjectWriter, OciRecord, copy_optional, fault, optional, required, try_join2, try_join3,
-    write_optional, write_required,
+    ObjectWriter, OciRecord, copy_optional, try_join2, write_optional, write_required,
 };
+use oci_json_readers::{Optional, Required, read3};
 use oci_linux_names::{MemoryPolicyFlagType, MemoryPolicyModeType};
 use oci_text_base::{OciSpecError, Result, UninitializedFieldError};
 use serde_json::Value;
@@ -119,15 +119,9 @@ impl OciRecord for LinuxMemoryPolicy {
 
     ghost plain = { linux_memory_policy_plain };
 
-    #[tactic(auto, using(oci_json_model::proofs::Readers::refuses_others))]
     fn from_value(alloc: Global, value: &Value) -> Result<LinuxMemoryPolicy> {
-        if !value.is_object() {
-            return Err(fault::refused(NAME, ""));
-        }
-        let (mode, nodes, flags) = try_join3(
-            required(alloc, value, NAME, "mode"),
-            optional(alloc, value, NAME, "nodes"),
-            optional(alloc, value, NAME, "flags"),
+        let (mode, nodes, flags) = read3::<Required, Optional, Optional, _, _, _>(
+            alloc, value, NAME, "mode", "nodes", "flags",
         )?;
         Ok(LinuxMemoryPolicy { mode, nodes, flags })
     }

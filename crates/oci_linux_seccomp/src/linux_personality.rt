@@ -2,10 +2,8 @@
 //! The execution domain of a container (runtime specification, "Linux Container Configuration", "Personality").
 ghost use Rattle.std.specs.Prelude.{◌≡◌, IfOk, IfErr};
 
-use oci_json_model::{
-    ObjectWriter, OciRecord, copy_optional, fault, optional, required, try_join2, write_optional,
-    write_required,
-};
+use oci_json_model::{ObjectWriter, OciRecord, copy_optional, write_optional, write_required};
+use oci_json_readers::{Optional, Required, read2};
 use oci_linux_names::LinuxPersonalityDomain;
 use oci_text_base::{OciSpecError, Result};
 use serde_json::Value;
@@ -91,14 +89,9 @@ impl OciRecord for LinuxPersonality {
 
     ghost plain = { linux_personality_plain };
 
-    #[tactic(auto, using(oci_json_model::proofs::Readers::refuses_others))]
     fn from_value(alloc: Global, value: &Value) -> Result<LinuxPersonality> {
-        if !value.is_object() {
-            return Err(fault::refused(NAME, ""));
-        }
-        let (domain, flags) = try_join2(
-            required(alloc, value, NAME, "domain"),
-            optional(alloc, value, NAME, "flags"),
+        let (domain, flags) = read2::<Required, Optional, _, _>(
+            alloc, value, NAME, "domain", "flags",
         )?;
         Ok(LinuxPersonality { domain, flags })
     }

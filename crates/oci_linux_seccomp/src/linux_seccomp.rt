@@ -4,9 +4,9 @@ ghost use Rattle.std.specs.Prelude.{◌≡◌, IfOk, IfErr};
 
 use crate::linux_syscall::LinuxSyscall;
 use oci_json_model::{
-    ObjectWriter, OciRecord, copy_optional, fault, optional, required, try_join2, try_join3,
-    try_join4, try_join5, write_optional, write_required,
+    ObjectWriter, OciRecord, copy_optional, try_join2, try_join5, write_optional, write_required,
 };
+use oci_json_readers::{Optional, Required, read3, read4};
 use oci_linux_names::{LinuxSeccompAction, LinuxSeccompFilterFlag, SArch};
 use oci_text_base::{OciSpecError, Result};
 use serde_json::Value;
@@ -193,25 +193,27 @@ impl OciRecord for LinuxSeccomp {
 
     ghost plain = { linux_seccomp_plain };
 
-    #[tactic(auto, using(oci_json_model::proofs::Readers::refuses_others))]
     fn from_value(alloc: Global, value: &Value) -> Result<LinuxSeccomp> {
-        if !value.is_object() {
-            return Err(fault::refused(NAME, ""));
-        }
         let (
             (default_action, default_errno_ret, architectures, flags),
             (listener_path, listener_metadata, syscalls),
         ) = try_join2(
-            try_join4(
-                required(alloc, value, NAME, "defaultAction"),
-                optional(alloc, value, NAME, "defaultErrnoRet"),
-                optional(alloc, value, NAME, "architectures"),
-                optional(alloc, value, NAME, "flags"),
+            read4::<Required, Optional, Optional, Optional, _, _, _, _>(
+                alloc,
+                value,
+                NAME,
+                "defaultAction",
+                "defaultErrnoRet",
+                "architectures",
+                "flags",
             ),
-            try_join3(
-                optional(alloc, value, NAME, "listenerPath"),
-                optional(alloc, value, NAME, "listenerMetadata"),
-                optional(alloc, value, NAME, "syscalls"),
+            read3::<Optional, Optional, Optional, _, _, _>(
+                alloc,
+                value,
+                NAME,
+                "listenerPath",
+                "listenerMetadata",
+                "syscalls",
             ),
         )?;
         Ok(LinuxSeccomp {

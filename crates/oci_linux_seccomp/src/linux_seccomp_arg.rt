@@ -2,9 +2,8 @@
 //! A condition on one argument of a system call (runtime specification, "Linux Container Configuration", "Seccomp", `args`).
 ghost use Rattle.std.specs.Prelude.{◌≡◌, IfOk, IfErr};
 
-use oci_json_model::{
-    ObjectWriter, OciRecord, fault, optional, required, try_join4, write_optional, write_required,
-};
+use oci_json_model::{ObjectWriter, OciRecord, write_optional, write_required};
+use oci_json_readers::{Optional, Required, read4};
 use oci_linux_names::LinuxSeccompOperator;
 use oci_text_base::{OciSpecError, Result};
 use serde_json::Value;
@@ -84,17 +83,17 @@ impl OciRecord for LinuxSeccompArg {
 
     ghost plain = { linux_seccomp_arg_plain };
 
-    #[tactic(auto, using(oci_json_model::proofs::Readers::refuses_others))]
     fn from_value(alloc: Global, value: &Value) -> Result<LinuxSeccompArg> {
-        if !value.is_object() {
-            return Err(fault::refused(NAME, ""));
-        }
-        let (index, value, value_two, op) = try_join4(
-            required(alloc, value, NAME, "index"),
-            required(alloc, value, NAME, "value"),
-            optional(alloc, value, NAME, "valueTwo"),
-            required(alloc, value, NAME, "op"),
-        )?;
+        let (index, value, value_two, op) = read4::<
+            Required,
+            Required,
+            Optional,
+            Required,
+            _,
+            _,
+            _,
+            _,
+        >(alloc, value, NAME, "index", "value", "valueTwo", "op")?;
         Ok(LinuxSeccompArg {
             index,
             value,

@@ -4,9 +4,9 @@ ghost use Rattle.std.specs.Prelude.{◌≡◌, IfOk, IfErr};
 
 use crate::linux_seccomp_arg::LinuxSeccompArg;
 use oci_json_model::{
-    ObjectWriter, OciMember, OciRecord, copy_optional, fault, optional, required, try_join2,
-    try_join4, write_optional, write_required,
+    ObjectWriter, OciMember, OciRecord, copy_optional, try_join2, write_optional, write_required,
 };
+use oci_json_readers::{Optional, Required, read4};
 use oci_linux_names::LinuxSeccompAction;
 use oci_text_base::{OciSpecError, Result};
 use serde_json::Value;
@@ -135,17 +135,17 @@ impl OciRecord for LinuxSyscall {
 
     ghost plain = { linux_syscall_plain };
 
-    #[tactic(auto, using(oci_json_model::proofs::Readers::refuses_others))]
     fn from_value(alloc: Global, value: &Value) -> Result<LinuxSyscall> {
-        if !value.is_object() {
-            return Err(fault::refused(NAME, ""));
-        }
-        let (names, action, errno_ret, args) = try_join4(
-            required(alloc, value, NAME, "names"),
-            required(alloc, value, NAME, "action"),
-            optional(alloc, value, NAME, "errnoRet"),
-            optional(alloc, value, NAME, "args"),
-        )?;
+        let (names, action, errno_ret, args) = read4::<
+            Required,
+            Required,
+            Optional,
+            Optional,
+            _,
+            _,
+            _,
+            _,
+        >(alloc, value, NAME, "names", "action", "errnoRet", "args")?;
         Ok(LinuxSyscall {
             names,
             action,

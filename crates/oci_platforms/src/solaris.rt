@@ -6,8 +6,9 @@ use crate::solaris_anet::SolarisAnet;
 use crate::solaris_capped_cpu::SolarisCappedCPU;
 use crate::solaris_capped_memory::SolarisCappedMemory;
 use oci_json_model::{
-    ObjectWriter, OciRecord, copy_optional, fault, optional, try_join2, try_join3, write_optional,
+    ObjectWriter, OciRecord, copy_optional, try_join2, try_join3, write_optional,
 };
+use oci_json_readers::{Optional, read3};
 use oci_text_base::{OciSpecError, Result};
 use serde_json::Value;
 use std::alloc::Global;
@@ -173,21 +174,23 @@ impl OciRecord for Solaris {
 
     ghost plain = { solaris_plain };
 
-    #[tactic(auto, using(oci_json_model::proofs::Readers::refuses_others))]
     fn from_value(alloc: Global, value: &Value) -> Result<Solaris> {
-        if !value.is_object() {
-            return Err(fault::refused(NAME, ""));
-        }
         let ((milestone, limitpriv, max_shm_memory), (anet, capped_cpu, capped_memory)) = try_join2(
-            try_join3(
-                optional(alloc, value, NAME, "milestone"),
-                optional(alloc, value, NAME, "limitpriv"),
-                optional(alloc, value, NAME, "maxShmMemory"),
+            read3::<Optional, Optional, Optional, _, _, _>(
+                alloc,
+                value,
+                NAME,
+                "milestone",
+                "limitpriv",
+                "maxShmMemory",
             ),
-            try_join3(
-                optional(alloc, value, NAME, "anet"),
-                optional(alloc, value, NAME, "cappedCPU"),
-                optional(alloc, value, NAME, "cappedMemory"),
+            read3::<Optional, Optional, Optional, _, _, _>(
+                alloc,
+                value,
+                NAME,
+                "anet",
+                "cappedCPU",
+                "cappedMemory",
             ),
         )?;
         Ok(Solaris {

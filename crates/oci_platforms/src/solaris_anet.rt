@@ -3,9 +3,9 @@
 ghost use Rattle.std.specs.Prelude.{◌≡◌, IfOk, IfErr};
 
 use oci_json_model::{
-    ObjectWriter, OciRecord, copy_optional, fault, optional, try_join2, try_join3, try_join4,
-    write_optional,
+    ObjectWriter, OciRecord, copy_optional, try_join2, try_join3, try_join4, write_optional,
 };
+use oci_json_readers::{Optional, read3, read4};
 use oci_text_base::{OciSpecError, Result};
 use serde_json::Value;
 use std::alloc::Global;
@@ -191,25 +191,27 @@ impl OciRecord for SolarisAnet {
 
     ghost plain = { solaris_anet_plain };
 
-    #[tactic(auto, using(oci_json_model::proofs::Readers::refuses_others))]
     fn from_value(alloc: Global, value: &Value) -> Result<SolarisAnet> {
-        if !value.is_object() {
-            return Err(fault::refused(NAME, ""));
-        }
         let (
             (linkname, lower_link, allowed_address, configure_allowed_address),
             (defrouter, link_protection, mac_address),
         ) = try_join2(
-            try_join4(
-                optional(alloc, value, NAME, "linkname"),
-                optional(alloc, value, NAME, "lowerLink"),
-                optional(alloc, value, NAME, "allowedAddress"),
-                optional(alloc, value, NAME, "configureAllowedAddress"),
+            read4::<Optional, Optional, Optional, Optional, _, _, _, _>(
+                alloc,
+                value,
+                NAME,
+                "linkname",
+                "lowerLink",
+                "allowedAddress",
+                "configureAllowedAddress",
             ),
-            try_join3(
-                optional(alloc, value, NAME, "defrouter"),
-                optional(alloc, value, NAME, "linkProtection"),
-                optional(alloc, value, NAME, "macAddress"),
+            read3::<Optional, Optional, Optional, _, _, _>(
+                alloc,
+                value,
+                NAME,
+                "defrouter",
+                "linkProtection",
+                "macAddress",
             ),
         )?;
         Ok(SolarisAnet {

@@ -2,7 +2,8 @@
 //! How much processor time a Solaris container may use (runtime specification, "Solaris Application Container Configuration", "CappedCPU").
 ghost use Rattle.std.specs.Prelude.{◌≡◌, IfOk, IfErr};
 
-use oci_json_model::{ObjectWriter, OciRecord, copy_optional, fault, optional, write_optional};
+use oci_json_model::{ObjectWriter, OciRecord, copy_optional, write_optional};
+use oci_json_readers::{Optional, read1};
 use oci_text_base::{OciSpecError, Result};
 use serde_json::Value;
 use std::alloc::Global;
@@ -66,14 +67,9 @@ impl OciRecord for SolarisCappedCPU {
 
     ghost plain = { solaris_capped_cpu_plain };
 
-    #[tactic(auto, using(oci_json_model::proofs::Readers::refuses_others))]
     fn from_value(alloc: Global, value: &Value) -> Result<SolarisCappedCPU> {
-        if !value.is_object() {
-            return Err(fault::refused(NAME, ""));
-        }
-        Ok(SolarisCappedCPU {
-            ncpus: optional(alloc, value, NAME, "ncpus")?,
-        })
+        let ncpus = read1::<Optional, _>(alloc, value, NAME, "ncpus")?;
+        Ok(SolarisCappedCPU { ncpus })
     }
 
     fn to_value(&self, alloc: Global) -> Result<Value> {

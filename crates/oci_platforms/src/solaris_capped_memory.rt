@@ -2,9 +2,8 @@
 //! How much memory a Solaris container may use (runtime specification, "Solaris Application Container Configuration", "CappedMemory").
 ghost use Rattle.std.specs.Prelude.{◌≡◌, IfOk, IfErr};
 
-use oci_json_model::{
-    ObjectWriter, OciRecord, copy_optional, fault, optional, try_join2, write_optional,
-};
+use oci_json_model::{ObjectWriter, OciRecord, copy_optional, try_join2, write_optional};
+use oci_json_readers::{Optional, read2};
 use oci_text_base::{OciSpecError, Result};
 use serde_json::Value;
 use std::alloc::Global;
@@ -88,14 +87,9 @@ impl OciRecord for SolarisCappedMemory {
 
     ghost plain = { solaris_capped_memory_plain };
 
-    #[tactic(auto, using(oci_json_model::proofs::Readers::refuses_others))]
     fn from_value(alloc: Global, value: &Value) -> Result<SolarisCappedMemory> {
-        if !value.is_object() {
-            return Err(fault::refused(NAME, ""));
-        }
-        let (physical, swap) = try_join2(
-            optional(alloc, value, NAME, "physical"),
-            optional(alloc, value, NAME, "swap"),
+        let (physical, swap) = read2::<Optional, Optional, _, _>(
+            alloc, value, NAME, "physical", "swap",
         )?;
         Ok(SolarisCappedMemory { physical, swap })
     }

@@ -6,9 +6,9 @@ use crate::vm_hypervisor::VMHypervisor;
 use crate::vm_image::VMImage;
 use crate::vm_kernel::VMKernel;
 use oci_json_model::{
-    ObjectWriter, OciMember, OciRecord, copy_optional, fault, optional, required, try_join3,
-    write_optional, write_required,
+    ObjectWriter, OciMember, OciRecord, copy_optional, try_join3, write_optional, write_required,
 };
+use oci_json_readers::{Optional, Required, read3};
 use oci_text_base::{OciSpecError, Result};
 use serde_json::Value;
 use std::alloc::Global;
@@ -117,15 +117,14 @@ impl OciRecord for VM {
 
     ghost plain = { vm_plain };
 
-    #[tactic(auto, using(oci_json_model::proofs::Readers::refuses_others))]
     fn from_value(alloc: Global, value: &Value) -> Result<VM> {
-        if !value.is_object() {
-            return Err(fault::refused(NAME, ""));
-        }
-        let (hypervisor, kernel, image) = try_join3(
-            optional(alloc, value, NAME, "hypervisor"),
-            required(alloc, value, NAME, "kernel"),
-            optional(alloc, value, NAME, "image"),
+        let (hypervisor, kernel, image) = read3::<Optional, Required, Optional, _, _, _>(
+            alloc,
+            value,
+            NAME,
+            "hypervisor",
+            "kernel",
+            "image",
         )?;
         Ok(VM {
             hypervisor,

@@ -3,9 +3,9 @@
 ghost use Rattle.std.specs.Prelude.{◌≡◌, IfOk, IfErr};
 
 use oci_json_model::{
-    ObjectWriter, OciMember, OciRecord, copy_optional, fault, optional, required, try_join2,
-    write_optional, write_required,
+    ObjectWriter, OciMember, OciRecord, copy_optional, try_join2, write_optional, write_required,
 };
+use oci_json_readers::{Optional, Required, read2};
 use oci_text_base::{OciSpecError, Result};
 use serde_json::Value;
 use std::alloc::Global;
@@ -89,14 +89,13 @@ impl OciRecord for VMHypervisor {
 
     ghost plain = { vm_hypervisor_plain };
 
-    #[tactic(auto, using(oci_json_model::proofs::Readers::refuses_others))]
     fn from_value(alloc: Global, value: &Value) -> Result<VMHypervisor> {
-        if !value.is_object() {
-            return Err(fault::refused(NAME, ""));
-        }
-        let (path, parameters) = try_join2(
-            required(alloc, value, NAME, "path"),
-            optional(alloc, value, NAME, "parameters"),
+        let (path, parameters) = read2::<Required, Optional, _, _>(
+            alloc,
+            value,
+            NAME,
+            "path",
+            "parameters",
         )?;
         Ok(VMHypervisor { path, parameters })
     }

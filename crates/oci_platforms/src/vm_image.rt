@@ -2,9 +2,8 @@
 //! The image that a virtual machine's root is in (runtime specification, "Virtual-machine-specific Container Configuration", "Image Object").
 ghost use Rattle.std.specs.Prelude.{◌≡◌, IfOk, IfErr};
 
-use oci_json_model::{
-    ObjectWriter, OciMember, OciRecord, fault, required, try_join2, write_required,
-};
+use oci_json_model::{ObjectWriter, OciMember, OciRecord, try_join2, write_required};
+use oci_json_readers::{Required, read2};
 use oci_text_base::{OciSpecError, Result};
 use serde_json::Value;
 use std::alloc::Global;
@@ -89,14 +88,9 @@ impl OciRecord for VMImage {
 
     ghost plain = { vm_image_plain };
 
-    #[tactic(auto, using(oci_json_model::proofs::Readers::refuses_others))]
     fn from_value(alloc: Global, value: &Value) -> Result<VMImage> {
-        if !value.is_object() {
-            return Err(fault::refused(NAME, ""));
-        }
-        let (path, format) = try_join2(
-            required(alloc, value, NAME, "path"),
-            required(alloc, value, NAME, "format"),
+        let (path, format) = read2::<Required, Required, _, _>(
+            alloc, value, NAME, "path", "format",
         )?;
         Ok(VMImage { path, format })
     }

@@ -3,9 +3,9 @@
 ghost use Rattle.std.specs.Prelude.{◌≡◌, IfOk, IfErr};
 
 use oci_json_model::{
-    ObjectWriter, OciMember, OciRecord, copy_optional, fault, optional, required, try_join3,
-    write_optional, write_required,
+    ObjectWriter, OciMember, OciRecord, copy_optional, try_join3, write_optional, write_required,
 };
+use oci_json_readers::{Optional, Required, read3};
 use oci_text_base::{OciSpecError, Result};
 use serde_json::Value;
 use std::alloc::Global;
@@ -111,15 +111,14 @@ impl OciRecord for VMKernel {
 
     ghost plain = { vm_kernel_plain };
 
-    #[tactic(auto, using(oci_json_model::proofs::Readers::refuses_others))]
     fn from_value(alloc: Global, value: &Value) -> Result<VMKernel> {
-        if !value.is_object() {
-            return Err(fault::refused(NAME, ""));
-        }
-        let (path, parameters, initrd) = try_join3(
-            required(alloc, value, NAME, "path"),
-            optional(alloc, value, NAME, "parameters"),
-            optional(alloc, value, NAME, "initrd"),
+        let (path, parameters, initrd) = read3::<Required, Optional, Optional, _, _, _>(
+            alloc,
+            value,
+            NAME,
+            "path",
+            "parameters",
+            "initrd",
         )?;
         Ok(VMKernel {
             path,

@@ -3,7 +3,8 @@
 ghost use Rattle.std.specs.Prelude.{◌≡◌, IfOk, IfErr};
 
 use crate::zos_namespace::ZOSNamespace;
-use oci_json_model::{ObjectWriter, OciRecord, copy_optional, fault, optional, write_optional};
+use oci_json_model::{ObjectWriter, OciRecord, copy_optional, write_optional};
+use oci_json_readers::{Optional, read1};
 use oci_text_base::{OciSpecError, Result};
 use serde_json::Value;
 use std::alloc::Global;
@@ -68,14 +69,9 @@ impl OciRecord for ZOS {
 
     ghost plain = { zos_plain };
 
-    #[tactic(auto, using(oci_json_model::proofs::Readers::refuses_others))]
     fn from_value(alloc: Global, value: &Value) -> Result<ZOS> {
-        if !value.is_object() {
-            return Err(fault::refused(NAME, ""));
-        }
-        Ok(ZOS {
-            namespaces: optional(alloc, value, NAME, "namespaces")?,
-        })
+        let namespaces = read1::<Optional, _>(alloc, value, NAME, "namespaces")?;
+        Ok(ZOS { namespaces })
     }
 
     fn to_value(&self, alloc: Global) -> Result<Value> {

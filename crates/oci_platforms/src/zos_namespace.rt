@@ -2,10 +2,8 @@
 //! A namespace that a z/OS container has of its own or joins (runtime specification, `config-zos.md`, "Namespaces").
 ghost use Rattle.std.specs.Prelude.{◌≡◌, IfOk, IfErr};
 
-use oci_json_model::{
-    ObjectWriter, OciRecord, copy_optional, fault, optional, required, try_join2, write_optional,
-    write_required,
-};
+use oci_json_model::{ObjectWriter, OciRecord, copy_optional, write_optional, write_required};
+use oci_json_readers::{Optional, Required, read2};
 use oci_runtime_names::ZOSNamespaceType;
 use oci_text_base::{OciSpecError, Result};
 use serde_json::Value;
@@ -91,15 +89,8 @@ impl OciRecord for ZOSNamespace {
 
     ghost plain = { zos_namespace_plain };
 
-    #[tactic(auto, using(oci_json_model::proofs::Readers::refuses_others))]
     fn from_value(alloc: Global, value: &Value) -> Result<ZOSNamespace> {
-        if !value.is_object() {
-            return Err(fault::refused(NAME, ""));
-        }
-        let (typ, path) = try_join2(
-            required(alloc, value, NAME, "type"),
-            optional(alloc, value, NAME, "path"),
-        )?;
+        let (typ, path) = read2::<Required, Optional, _, _>(alloc, value, NAME, "type", "path")?;
         Ok(ZOSNamespace { typ, path })
     }
 

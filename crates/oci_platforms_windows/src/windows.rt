@@ -6,11 +6,11 @@ use crate::windows_device::WindowsDevice;
 use crate::windows_hyper_v::WindowsHyperV;
 use crate::windows_network::WindowsNetwork;
 use crate::windows_resources::WindowsResources;
-use oci_json_members::{copy_optional_as, optional_as, write_optional_as};
+use oci_json_members::{copy_optional_as, write_optional_as};
 use oci_json_model::{
-    ObjectWriter, OciRecord, copy_optional, fault, optional, try_join2, try_join4, try_join5,
-    write_optional,
+    ObjectWriter, OciRecord, copy_optional, try_join2, try_join5, write_optional,
 };
+use oci_json_readers::{As, Optional, read4};
 use oci_json_trees::{FreeValues, equal_optional_values};
 use oci_text_base::{OciSpecError, Result};
 use serde_json::Value;
@@ -250,31 +250,28 @@ impl OciRecord for Windows {
 
     ghost plain = { windows_plain };
 
-    #[tactic(auto, using(oci_json_model::proofs::Readers::refuses_others))]
     fn from_value(alloc: Global, value: &Value) -> Result<Windows> {
-        if !value.is_object() {
-            return Err(fault::refused(NAME, ""));
-        }
         let (
             (layer_folders, devices, resources, credential_spec),
             (servicing, ignore_flushes_during_boot, hyperv, network),
         ) = try_join2(
-            try_join4(
-                optional(alloc, value, NAME, "layerFolders"),
-                optional(alloc, value, NAME, "devices"),
-                optional(alloc, value, NAME, "resources"),
-                optional_as::<FreeValues, BTreeMap<String, Option<Value>>>(
-                    alloc,
-                    value,
-                    NAME,
-                    "credentialSpec",
-                ),
+            read4::<Optional, Optional, Optional, As<FreeValues>, _, _, _, _>(
+                alloc,
+                value,
+                NAME,
+                "layerFolders",
+                "devices",
+                "resources",
+                "credentialSpec",
             ),
-            try_join4(
-                optional(alloc, value, NAME, "servicing"),
-                optional(alloc, value, NAME, "ignoreFlushesDuringBoot"),
-                optional(alloc, value, NAME, "hyperv"),
-                optional(alloc, value, NAME, "network"),
+            read4::<Optional, Optional, Optional, Optional, _, _, _, _>(
+                alloc,
+                value,
+                NAME,
+                "servicing",
+                "ignoreFlushesDuringBoot",
+                "hyperv",
+                "network",
             ),
         )?;
         Ok(Windows {

@@ -2,7 +2,8 @@
 //! How much processor time a Windows container may use (runtime specification, "Windows-specific Container Configuration", "CPU").
 ghost use Rattle.std.specs.Prelude.{◌≡◌, IfOk, IfErr};
 
-use oci_json_model::{ObjectWriter, OciRecord, fault, optional, try_join3, write_optional};
+use oci_json_model::{ObjectWriter, OciRecord, write_optional};
+use oci_json_readers::{Optional, read3};
 use oci_text_base::{OciSpecError, Result};
 use serde_json::Value;
 use std::alloc::Global;
@@ -98,15 +99,9 @@ impl OciRecord for WindowsCPUResources {
 
     ghost plain = { windows_cpu_resources_plain };
 
-    #[tactic(auto, using(oci_json_model::proofs::Readers::refuses_others))]
     fn from_value(alloc: Global, value: &Value) -> Result<WindowsCPUResources> {
-        if !value.is_object() {
-            return Err(fault::refused(NAME, ""));
-        }
-        let (count, shares, maximum) = try_join3(
-            optional(alloc, value, NAME, "count"),
-            optional(alloc, value, NAME, "shares"),
-            optional(alloc, value, NAME, "maximum"),
+        let (count, shares, maximum) = read3::<Optional, Optional, Optional, _, _, _>(
+            alloc, value, NAME, "count", "shares", "maximum",
         )?;
         Ok(WindowsCPUResources {
             count,

@@ -2,9 +2,8 @@
 //! A device of the host that a Windows container has (runtime specification, "Windows-specific Container Configuration", "Devices").
 ghost use Rattle.std.specs.Prelude.{◌≡◌, IfOk, IfErr};
 
-use oci_json_model::{
-    ObjectWriter, OciMember, OciRecord, fault, required, try_join2, write_required,
-};
+use oci_json_model::{ObjectWriter, OciMember, OciRecord, try_join2, write_required};
+use oci_json_readers::{Required, read2};
 use oci_text_base::{OciSpecError, Result};
 use serde_json::Value;
 use std::alloc::Global;
@@ -88,15 +87,8 @@ impl OciRecord for WindowsDevice {
 
     ghost plain = { windows_device_plain };
 
-    #[tactic(auto, using(oci_json_model::proofs::Readers::refuses_others))]
     fn from_value(alloc: Global, value: &Value) -> Result<WindowsDevice> {
-        if !value.is_object() {
-            return Err(fault::refused(NAME, ""));
-        }
-        let (id, id_type) = try_join2(
-            required(alloc, value, NAME, "id"),
-            required(alloc, value, NAME, "idType"),
-        )?;
+        let (id, id_type) = read2::<Required, Required, _, _>(alloc, value, NAME, "id", "idType")?;
         Ok(WindowsDevice { id, id_type })
     }
 

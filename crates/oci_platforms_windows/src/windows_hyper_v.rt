@@ -2,7 +2,8 @@
 //! What a Windows container that Hyper-V keeps apart has (runtime specification, "Windows-specific Container Configuration", "HyperV").
 ghost use Rattle.std.specs.Prelude.{◌≡◌, IfOk, IfErr};
 
-use oci_json_model::{ObjectWriter, OciRecord, copy_optional, fault, optional, write_optional};
+use oci_json_model::{ObjectWriter, OciRecord, copy_optional, write_optional};
+use oci_json_readers::{Optional, read1};
 use oci_text_base::{OciSpecError, Result};
 use serde_json::Value;
 use std::alloc::Global;
@@ -68,14 +69,9 @@ impl OciRecord for WindowsHyperV {
 
     ghost plain = { windows_hyper_v_plain };
 
-    #[tactic(auto, using(oci_json_model::proofs::Readers::refuses_others))]
     fn from_value(alloc: Global, value: &Value) -> Result<WindowsHyperV> {
-        if !value.is_object() {
-            return Err(fault::refused(NAME, ""));
-        }
-        Ok(WindowsHyperV {
-            utility_vm_path: optional(alloc, value, NAME, "utilityVmPath")?,
-        })
+        let utility_vm_path = read1::<Optional, _>(alloc, value, NAME, "utilityVmPath")?;
+        Ok(WindowsHyperV { utility_vm_path })
     }
 
     fn to_value(&self, alloc: Global) -> Result<Value> {

@@ -2,7 +2,8 @@
 //! How much memory a Windows container may use (runtime specification, "Windows-specific Container Configuration", "Memory").
 ghost use Rattle.std.specs.Prelude.{◌≡◌, IfOk, IfErr};
 
-use oci_json_model::{ObjectWriter, OciRecord, fault, optional, write_optional};
+use oci_json_model::{ObjectWriter, OciRecord, write_optional};
+use oci_json_readers::{Optional, read1};
 use oci_text_base::{OciSpecError, Result};
 use serde_json::Value;
 use std::alloc::Global;
@@ -60,14 +61,9 @@ impl OciRecord for WindowsMemoryResources {
 
     ghost plain = { windows_memory_resources_plain };
 
-    #[tactic(auto, using(oci_json_model::proofs::Readers::refuses_others))]
     fn from_value(alloc: Global, value: &Value) -> Result<WindowsMemoryResources> {
-        if !value.is_object() {
-            return Err(fault::refused(NAME, ""));
-        }
-        Ok(WindowsMemoryResources {
-            limit: optional(alloc, value, NAME, "limit")?,
-        })
+        let limit = read1::<Optional, _>(alloc, value, NAME, "limit")?;
+        Ok(WindowsMemoryResources { limit })
     }
 
     fn to_value(&self, alloc: Global) -> Result<Value> {

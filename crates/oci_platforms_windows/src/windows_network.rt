@@ -2,9 +2,8 @@
 //! The network of a Windows container (runtime specification, "Windows-specific Container Configuration", "Network").
 ghost use Rattle.std.specs.Prelude.{◌≡◌, IfOk, IfErr};
 
-use oci_json_model::{
-    ObjectWriter, OciRecord, copy_optional, fault, optional, try_join4, try_join5, write_optional,
-};
+use oci_json_model::{ObjectWriter, OciRecord, copy_optional, try_join4, write_optional};
+use oci_json_readers::{Optional, read5};
 use oci_text_base::{OciSpecError, Result};
 use serde_json::Value;
 use std::alloc::Global;
@@ -154,23 +153,22 @@ impl OciRecord for WindowsNetwork {
 
     ghost plain = { windows_network_plain };
 
-    #[tactic(auto, using(oci_json_model::proofs::Readers::refuses_others))]
     fn from_value(alloc: Global, value: &Value) -> Result<WindowsNetwork> {
-        if !value.is_object() {
-            return Err(fault::refused(NAME, ""));
-        }
         let (
             endpoint_list,
             allow_unqualified_dns_query,
             dns_search_list,
             network_shared_container_name,
             network_namespace,
-        ) = try_join5(
-            optional(alloc, value, NAME, "endpointList"),
-            optional(alloc, value, NAME, "allowUnqualifiedDNSQuery"),
-            optional(alloc, value, NAME, "DNSSearchList"),
-            optional(alloc, value, NAME, "networkSharedContainerName"),
-            optional(alloc, value, NAME, "networkNamespace"),
+        ) = read5::<Optional, Optional, Optional, Optional, Optional, _, _, _, _, _>(
+            alloc,
+            value,
+            NAME,
+            "endpointList",
+            "allowUnqualifiedDNSQuery",
+            "DNSSearchList",
+            "networkSharedContainerName",
+            "networkNamespace",
         )?;
         Ok(WindowsNetwork {
             endpoint_list,

@@ -5,7 +5,8 @@ ghost use Rattle.std.specs.Prelude.{◌≡◌, IfOk, IfErr};
 use crate::windows_cpu_resources::WindowsCPUResources;
 use crate::windows_memory_resources::WindowsMemoryResources;
 use crate::windows_storage_resources::WindowsStorageResources;
-use oci_json_model::{ObjectWriter, OciRecord, fault, optional, try_join3, write_optional};
+use oci_json_model::{ObjectWriter, OciRecord, write_optional};
+use oci_json_readers::{Optional, read3};
 use oci_text_base::{OciSpecError, Result};
 use serde_json::Value;
 use std::alloc::Global;
@@ -104,15 +105,9 @@ impl OciRecord for WindowsResources {
 
     ghost plain = { windows_resources_plain };
 
-    #[tactic(auto, using(oci_json_model::proofs::Readers::refuses_others))]
     fn from_value(alloc: Global, value: &Value) -> Result<WindowsResources> {
-        if !value.is_object() {
-            return Err(fault::refused(NAME, ""));
-        }
-        let (memory, cpu, storage) = try_join3(
-            optional(alloc, value, NAME, "memory"),
-            optional(alloc, value, NAME, "cpu"),
-            optional(alloc, value, NAME, "storage"),
+        let (memory, cpu, storage) = read3::<Optional, Optional, Optional, _, _, _>(
+            alloc, value, NAME, "memory", "cpu", "storage",
         )?;
         Ok(WindowsResources {
             memory,

@@ -2,7 +2,8 @@
 //! How a Windows container may use its system drive (runtime specification, "Windows-specific Container Configuration", "Storage").
 ghost use Rattle.std.specs.Prelude.{◌≡◌, IfOk, IfErr};
 
-use oci_json_model::{ObjectWriter, OciRecord, fault, optional, try_join3, write_optional};
+use oci_json_model::{ObjectWriter, OciRecord, write_optional};
+use oci_json_readers::{Optional, read3};
 use oci_text_base::{OciSpecError, Result};
 use serde_json::Value;
 use std::alloc::Global;
@@ -98,15 +99,14 @@ impl OciRecord for WindowsStorageResources {
 
     ghost plain = { windows_storage_resources_plain };
 
-    #[tactic(auto, using(oci_json_model::proofs::Readers::refuses_others))]
     fn from_value(alloc: Global, value: &Value) -> Result<WindowsStorageResources> {
-        if !value.is_object() {
-            return Err(fault::refused(NAME, ""));
-        }
-        let (iops, bps, sandbox_size) = try_join3(
-            optional(alloc, value, NAME, "iops"),
-            optional(alloc, value, NAME, "bps"),
-            optional(alloc, value, NAME, "sandboxSize"),
+        let (iops, bps, sandbox_size) = read3::<Optional, Optional, Optional, _, _, _>(
+            alloc,
+            value,
+            NAME,
+            "iops",
+            "bps",
+            "sandboxSize",
         )?;
         Ok(WindowsStorageResources {
             iops,

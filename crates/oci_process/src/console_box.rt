@@ -2,8 +2,8 @@
 //! The size of a process's terminal (runtime specification, "Configuration", "Process", `consoleSize`).
 ghost use Rattle.std.specs.Prelude.{◌≡◌, IfOk, IfErr};
 
-use oci_json_members::defaulted;
-use oci_json_model::{ObjectWriter, OciRecord, fault, try_join2, write_required};
+use oci_json_model::{ObjectWriter, OciRecord, write_required};
+use oci_json_readers::{Defaulted, read2};
 use oci_text_base::{OciSpecError, Result};
 use serde_json::Value;
 use std::alloc::Global;
@@ -64,14 +64,9 @@ impl OciRecord for Box {
 
     ghost plain = { console_box_plain };
 
-    #[tactic(auto, using(oci_json_model::proofs::Readers::refuses_others))]
     fn from_value(alloc: Global, value: &Value) -> Result<Box> {
-        if !value.is_object() {
-            return Err(fault::refused(NAME, ""));
-        }
-        let (height, width) = try_join2(
-            defaulted(alloc, value, NAME, "height"),
-            defaulted(alloc, value, NAME, "width"),
+        let (height, width) = read2::<Defaulted, Defaulted, _, _>(
+            alloc, value, NAME, "height", "width",
         )?;
         Ok(Box { height, width })
     }

@@ -4,8 +4,9 @@ ghost use Rattle.std.specs.Prelude.{◌≡◌, IfOk, IfErr};
 
 mod build;
 
-use oci_json_members::{copy_optional_as, optional_as, write_optional_as};
-use oci_json_model::{ObjectWriter, OciRecord, fault, try_join2};
+use oci_json_members::{copy_optional_as, write_optional_as};
+use oci_json_model::{ObjectWriter, OciRecord, try_join2};
+use oci_json_readers::{As, read2};
 use oci_process_names::CpuTexts;
 use oci_text_base::{OciSpecError, Result};
 use serde_json::Value;
@@ -96,14 +97,9 @@ impl OciRecord for ExecCPUAffinity {
 
     ghost plain = { exec_cpu_affinity_plain };
 
-    #[tactic(auto, using(oci_json_model::proofs::Readers::refuses_others))]
     fn from_value(alloc: Global, value: &Value) -> Result<ExecCPUAffinity> {
-        if !value.is_object() {
-            return Err(fault::refused(NAME, ""));
-        }
-        let (initial, cpu_affinity_final) = try_join2(
-            optional_as::<CpuTexts, String>(alloc, value, NAME, "initial"),
-            optional_as::<CpuTexts, String>(alloc, value, NAME, "final"),
+        let (initial, cpu_affinity_final) = read2::<As<CpuTexts>, As<CpuTexts>, _, _>(
+            alloc, value, NAME, "initial", "final",
         )?;
         Ok(ExecCPUAffinity {
             initial,

@@ -2,8 +2,9 @@
 //! The five sets of capabilities of a process (runtime specification, "Configuration", "Linux Process", `capabilities`).
 ghost use Rattle.std.specs.Prelude.{◌≡◌, IfOk, IfErr};
 
-use oci_json_members::{copy_optional_as, optional_as, write_optional_as};
-use oci_json_model::{ObjectWriter, OciRecord, fault, try_join5};
+use oci_json_members::{copy_optional_as, write_optional_as};
+use oci_json_model::{ObjectWriter, OciRecord, try_join5};
+use oci_json_readers::{As, read5};
 use oci_process_names::{Capability, Caps, default_capabilities};
 use oci_text_base::{OciSpecError, Result};
 use serde_json::Value;
@@ -157,17 +158,27 @@ impl OciRecord for LinuxCapabilities {
 
     ghost plain = { linux_capabilities_plain };
 
-    #[tactic(auto, using(oci_json_model::proofs::Readers::refuses_others))]
     fn from_value(alloc: Global, value: &Value) -> Result<LinuxCapabilities> {
-        if !value.is_object() {
-            return Err(fault::refused(NAME, ""));
-        }
-        let (bounding, effective, inheritable, permitted, ambient) = try_join5(
-            optional_as::<Caps, HashSet<Capability>>(alloc, value, NAME, "bounding"),
-            optional_as::<Caps, HashSet<Capability>>(alloc, value, NAME, "effective"),
-            optional_as::<Caps, HashSet<Capability>>(alloc, value, NAME, "inheritable"),
-            optional_as::<Caps, HashSet<Capability>>(alloc, value, NAME, "permitted"),
-            optional_as::<Caps, HashSet<Capability>>(alloc, value, NAME, "ambient"),
+        let (bounding, effective, inheritable, permitted, ambient) = read5::<
+            As<Caps>,
+            As<Caps>,
+            As<Caps>,
+            As<Caps>,
+            As<Caps>,
+            _,
+            _,
+            _,
+            _,
+            _,
+        >(
+            alloc,
+            value,
+            NAME,
+            "bounding",
+            "effective",
+            "inheritable",
+            "permitted",
+            "ambient",
         )?;
         Ok(LinuxCapabilities {
             bounding,

@@ -2,8 +2,8 @@
 //! How soon a process's input and output is served (runtime specification, "Configuration", "Linux Process", `ioPriority`).
 ghost use Rattle.std.specs.Prelude.{◌≡◌, IfOk, IfErr};
 
-use oci_json_members::defaulted;
-use oci_json_model::{ObjectWriter, OciRecord, fault, try_join2, write_required};
+use oci_json_model::{ObjectWriter, OciRecord, write_required};
+use oci_json_readers::{Defaulted, read2};
 use oci_process_names::IOPriorityClass;
 use oci_text_base::{OciSpecError, Result};
 use serde_json::Value;
@@ -67,14 +67,9 @@ impl OciRecord for LinuxIOPriority {
 
     ghost plain = { linux_io_priority_plain };
 
-    #[tactic(auto, using(oci_json_model::proofs::Readers::refuses_others))]
     fn from_value(alloc: Global, value: &Value) -> Result<LinuxIOPriority> {
-        if !value.is_object() {
-            return Err(fault::refused(NAME, ""));
-        }
-        let (class, priority) = try_join2(
-            defaulted(alloc, value, NAME, "class"),
-            defaulted(alloc, value, NAME, "priority"),
+        let (class, priority) = read2::<Defaulted, Defaulted, _, _>(
+            alloc, value, NAME, "class", "priority",
         )?;
         Ok(LinuxIOPriority { class, priority })
     }

@@ -2,8 +2,8 @@
 //! A limit on what a process may use (runtime specification, "Configuration", "POSIX process", `rlimits`).
 ghost use Rattle.std.specs.Prelude.{◌≡◌, IfOk, IfErr};
 
-use oci_json_members::defaulted;
-use oci_json_model::{ObjectWriter, OciRecord, fault, required, try_join3, write_required};
+use oci_json_model::{ObjectWriter, OciRecord, write_required};
+use oci_json_readers::{Defaulted, Required, read3};
 use oci_process_names::PosixRlimitType;
 use oci_text_base::{OciSpecError, Result};
 use serde_json::Value;
@@ -76,15 +76,9 @@ impl OciRecord for PosixRlimit {
 
     ghost plain = { posix_rlimit_plain };
 
-    #[tactic(auto, using(oci_json_model::proofs::Readers::refuses_others))]
     fn from_value(alloc: Global, value: &Value) -> Result<PosixRlimit> {
-        if !value.is_object() {
-            return Err(fault::refused(NAME, ""));
-        }
-        let (typ, hard, soft) = try_join3(
-            required(alloc, value, NAME, "type"),
-            defaulted(alloc, value, NAME, "hard"),
-            defaulted(alloc, value, NAME, "soft"),
+        let (typ, hard, soft) = read3::<Required, Defaulted, Defaulted, _, _, _>(
+            alloc, value, NAME, "type", "hard", "soft",
         )?;
         Ok(PosixRlimit { typ, hard, soft })
     }

@@ -15,9 +15,10 @@ use crate::scheduler::Scheduler;
 use crate::user::User;
 pub use builder::ProcessBuilder;
 use oci_json_model::{
-    ObjectWriter, OciMember, OciRecord, copy_optional, fault, optional, required, try_join2,
-    try_join3, try_join4, write_optional, write_required,
+    ObjectWriter, OciMember, OciRecord, copy_optional, try_join2, try_join3, try_join4,
+    write_optional, write_required,
 };
+use oci_json_readers::{Optional, Required, read4};
 use oci_text_base::{OciSpecError, Result};
 use serde_json::Value;
 use std::alloc::Global;
@@ -134,40 +135,48 @@ impl OciRecord for Process {
 
     ghost plain = { process_plain };
 
-    #[tactic(auto, using(oci_json_model::proofs::Readers::refuses_others))]
     fn from_value(alloc: Global, value: &Value) -> Result<Process> {
-        if !value.is_object() {
-            return Err(fault::refused(NAME, ""));
-        }
         let (
             (terminal, console_size, user, args),
             (command_line, env, cwd, capabilities),
             (rlimits, no_new_privileges, apparmor_profile, oom_score_adj),
             (selinux_label, io_priority, scheduler, exec_cpu_affinity),
         ) = try_join4(
-            try_join4(
-                optional(alloc, value, NAME, "terminal"),
-                optional(alloc, value, NAME, "consoleSize"),
-                required(alloc, value, NAME, "user"),
-                optional(alloc, value, NAME, "args"),
+            read4::<Optional, Optional, Required, Optional, _, _, _, _>(
+                alloc,
+                value,
+                NAME,
+                "terminal",
+                "consoleSize",
+                "user",
+                "args",
             ),
-            try_join4(
-                optional(alloc, value, NAME, "commandLine"),
-                optional(alloc, value, NAME, "env"),
-                required(alloc, value, NAME, "cwd"),
-                optional(alloc, value, NAME, "capabilities"),
+            read4::<Optional, Optional, Required, Optional, _, _, _, _>(
+                alloc,
+                value,
+                NAME,
+                "commandLine",
+                "env",
+                "cwd",
+                "capabilities",
             ),
-            try_join4(
-                optional(alloc, value, NAME, "rlimits"),
-                optional(alloc, value, NAME, "noNewPrivileges"),
-                optional(alloc, value, NAME, "apparmorProfile"),
-                optional(alloc, value, NAME, "oomScoreAdj"),
+            read4::<Optional, Optional, Optional, Optional, _, _, _, _>(
+                alloc,
+                value,
+                NAME,
+                "rlimits",
+                "noNewPrivileges",
+                "apparmorProfile",
+                "oomScoreAdj",
             ),
-            try_join4(
-                optional(alloc, value, NAME, "selinuxLabel"),
-                optional(alloc, value, NAME, "ioPriority"),
-                optional(alloc, value, NAME, "scheduler"),
-                optional(alloc, value, NAME, "execCPUAffinity"),
+            read4::<Optional, Optional, Optional, Optional, _, _, _, _>(
+                alloc,
+                value,
+                NAME,
+                "selinuxLabel",
+                "ioPriority",
+                "scheduler",
+                "execCPUAffinity",
             ),
         )?;
         Ok(Process {

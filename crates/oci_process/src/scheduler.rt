@@ -3,9 +3,9 @@
 ghost use Rattle.std.specs.Prelude.{◌≡◌, IfOk, IfErr};
 
 use oci_json_model::{
-    ObjectWriter, OciRecord, copy_optional, fault, optional, required, try_join2, try_join3,
-    try_join4, write_optional, write_required,
+    ObjectWriter, OciRecord, copy_optional, try_join2, write_optional, write_required,
 };
+use oci_json_readers::{Optional, Required, read3, read4};
 use oci_process_names::{LinuxSchedulerFlag, LinuxSchedulerPolicy};
 use oci_text_base::{OciSpecError, Result};
 use serde_json::Value;
@@ -190,22 +190,13 @@ impl OciRecord for Scheduler {
 
     ghost plain = { scheduler_plain };
 
-    #[tactic(auto, using(oci_json_model::proofs::Readers::refuses_others))]
     fn from_value(alloc: Global, value: &Value) -> Result<Scheduler> {
-        if !value.is_object() {
-            return Err(fault::refused(NAME, ""));
-        }
         let ((policy, nice, priority, flags), (runtime, deadline, period)) = try_join2(
-            try_join4(
-                required(alloc, value, NAME, "policy"),
-                optional(alloc, value, NAME, "nice"),
-                optional(alloc, value, NAME, "priority"),
-                optional(alloc, value, NAME, "flags"),
+            read4::<Required, Optional, Optional, Optional, _, _, _, _>(
+                alloc, value, NAME, "policy", "nice", "priority", "flags",
             ),
-            try_join3(
-                optional(alloc, value, NAME, "runtime"),
-                optional(alloc, value, NAME, "deadline"),
-                optional(alloc, value, NAME, "period"),
+            read3::<Optional, Optional, Optional, _, _, _>(
+                alloc, value, NAME, "runtime", "deadline", "period",
             ),
         )?;
         Ok(Scheduler {

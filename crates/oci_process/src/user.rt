@@ -2,11 +2,10 @@
 //! The user that a process runs as (runtime specification, "Configuration", "User").
 ghost use Rattle.std.specs.Prelude.{◌≡◌, IfOk, IfErr};
 
-use oci_json_members::defaulted;
 use oci_json_model::{
-    ObjectWriter, OciRecord, copy_optional, fault, optional, try_join2, try_join5, write_optional,
-    write_required,
+    ObjectWriter, OciRecord, copy_optional, try_join2, write_optional, write_required,
 };
+use oci_json_readers::{Defaulted, Optional, read5};
 use oci_text_base::{OciSpecError, Result};
 use serde_json::Value;
 use std::alloc::Global;
@@ -192,17 +191,27 @@ impl OciRecord for User {
 
     ghost plain = { user_plain };
 
-    #[tactic(auto, using(oci_json_model::proofs::Readers::refuses_others))]
     fn from_value(alloc: Global, value: &Value) -> Result<User> {
-        if !value.is_object() {
-            return Err(fault::refused(NAME, ""));
-        }
-        let (uid, gid, umask, additional_gids, username) = try_join5(
-            defaulted(alloc, value, NAME, "uid"),
-            defaulted(alloc, value, NAME, "gid"),
-            optional(alloc, value, NAME, "umask"),
-            optional(alloc, value, NAME, "additionalGids"),
-            optional(alloc, value, NAME, "username"),
+        let (uid, gid, umask, additional_gids, username) = read5::<
+            Defaulted,
+            Defaulted,
+            Optional,
+            Optional,
+            Optional,
+            _,
+            _,
+            _,
+            _,
+            _,
+        >(
+            alloc,
+            value,
+            NAME,
+            "uid",
+            "gid",
+            "umask",
+            "additionalGids",
+            "username",
         )?;
         Ok(User {
             uid,

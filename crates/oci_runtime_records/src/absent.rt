@@ -13,27 +13,34 @@ ghost use Rattle.oci_runtime_records.specs.State.{state_plain};
 use crate::state::State;
 use oci_json_model::OciMember;
 use oci_json_model::fault::placed;
+use oci_json_readers::MemberReader;
 use oci_text_base::Result;
 use serde_json::Value;
 use std::alloc::Global;
 
-/// Reads a member that may be absent, and then is the default state. Null is judged as any other value.
-#[tactic(auto, using(oci_json_members::proofs::Presences::defaulted_refused, oci_json_members::proofs::Presences::defaulted_means, oci_json_members::proofs::Presences::absent_means))]
-pub(crate) fn defaulted_state(
-    alloc: Global,
-    value: &Value,
-    owner: &'static str,
-    name: &'static str,
-) -> Result<State>
-    ensures ok { IfOk result (λ x. MeansMember (presence.defaulted default_state) (Means state) (get name.now (view value.now)) (given state_plain x)) }
-    ensures err { IfErr result (λ e. IsSchema e → RefusesRecords name.now (None, presence.defaulted default_state, state) (view value.now)) }
-    ensures kind { IfErr result IsMemoryOrSchema }
-{
-    match value.get(name) {
-        Some(found) => match State::read(alloc, found) {
-            Ok(x) => Ok(x),
-            Err(fault) => Err(placed(fault, owner, name)),
-        },
-        None => State::try_default(alloc),
+/// A member that may be absent, and then is the default state. Null is judged as any other value.
+pub(crate) struct DefaultState;
+
+impl MemberReader<State> for DefaultState {
+    ghost presence = { presence.defaulted default_state };
+
+    ghost shape = { state };
+
+    ghost slot = { given state_plain };
+
+    #[tactic(auto, using(oci_json_members::proofs::Presences::defaulted_refused, oci_json_members::proofs::Presences::defaulted_means, oci_json_members::proofs::Presences::absent_means))]
+    fn read(
+        alloc: Global,
+        value: &Value,
+        owner: &'static str,
+        name: &'static str,
+    ) -> Result<State> {
+        match value.get(name) {
+            Some(found) => match State::read(alloc, found) {
+                Ok(x) => Ok(x),
+                Err(fault) => Err(placed(fault, owner, name)),
+            },
+            None => State::try_default(alloc),
+        }
     }
 }

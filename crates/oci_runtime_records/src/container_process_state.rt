@@ -2,13 +2,12 @@
 //! The state that is sent to the program that listens to a container's system calls (runtime specification, "Linux Container Configuration", "The Container Process State").
 ghost use Rattle.std.specs.Prelude.{◌≡◌, IfOk, IfErr};
 
-use crate::absent::defaulted_state;
+use crate::absent::DefaultState;
 use crate::state::State;
-use oci_json_members::defaulted;
 use oci_json_model::{
-    ObjectWriter, OciMember, OciRecord, copy_optional, fault, optional, try_join4, try_join5,
-    write_optional, write_required,
+    ObjectWriter, OciMember, OciRecord, copy_optional, try_join4, write_optional, write_required,
 };
+use oci_json_readers::{Defaulted, Optional, read5};
 use oci_text_base::{OciSpecError, Result};
 use serde_json::Value;
 use std::alloc::Global;
@@ -198,17 +197,27 @@ impl OciRecord for ContainerProcessState {
 
     ghost plain = { container_process_state_plain };
 
-    #[tactic(auto, using(oci_json_model::proofs::Readers::refuses_others))]
     fn from_value(alloc: Global, value: &Value) -> Result<ContainerProcessState> {
-        if !value.is_object() {
-            return Err(fault::refused(NAME, ""));
-        }
-        let (version, fds, pid, metadata, state) = try_join5(
-            defaulted(alloc, value, NAME, "ociVersion"),
-            defaulted(alloc, value, NAME, "fds"),
-            defaulted(alloc, value, NAME, "pid"),
-            optional(alloc, value, NAME, "metadata"),
-            defaulted_state(alloc, value, NAME, "state"),
+        let (version, fds, pid, metadata, state) = read5::<
+            Defaulted,
+            Defaulted,
+            Defaulted,
+            Optional,
+            DefaultState,
+            _,
+            _,
+            _,
+            _,
+            _,
+        >(
+            alloc,
+            value,
+            NAME,
+            "ociVersion",
+            "fds",
+            "pid",
+            "metadata",
+            "state",
         )?;
         Ok(ContainerProcessState {
             version,

@@ -3,9 +3,9 @@
 ghost use Rattle.std.specs.Prelude.{◌≡◌, IfOk, IfErr};
 
 use oci_json_model::{
-    ObjectWriter, OciMember, OciRecord, copy_optional, fault, optional, required, try_join3,
-    try_join4, write_optional, write_required,
+    ObjectWriter, OciMember, OciRecord, copy_optional, try_join3, write_optional, write_required,
 };
+use oci_json_readers::{Optional, Required, read4};
 use oci_text_base::{OciSpecError, Result};
 use serde_json::Value;
 use std::alloc::Global;
@@ -163,17 +163,17 @@ impl OciRecord for Hook {
 
     ghost plain = { hook_plain };
 
-    #[tactic(auto, using(oci_json_model::proofs::Readers::refuses_others))]
     fn from_value(alloc: Global, value: &Value) -> Result<Hook> {
-        if !value.is_object() {
-            return Err(fault::refused(NAME, ""));
-        }
-        let (path, args, env, timeout) = try_join4(
-            required(alloc, value, NAME, "path"),
-            optional(alloc, value, NAME, "args"),
-            optional(alloc, value, NAME, "env"),
-            optional(alloc, value, NAME, "timeout"),
-        )?;
+        let (path, args, env, timeout) = read4::<
+            Required,
+            Optional,
+            Optional,
+            Optional,
+            _,
+            _,
+            _,
+            _,
+        >(alloc, value, NAME, "path", "args", "env", "timeout")?;
         Ok(Hook {
             path,
             args,

@@ -4,8 +4,9 @@ ghost use Rattle.std.specs.Prelude.{◌≡◌, IfOk, IfErr};
 
 use crate::hook::Hook;
 use oci_json_model::{
-    ObjectWriter, OciRecord, copy_optional, fault, optional, try_join2, try_join3, write_optional,
+    ObjectWriter, OciRecord, copy_optional, try_join2, try_join3, write_optional,
 };
+use oci_json_readers::{Optional, read3};
 use oci_text_base::{OciSpecError, Result};
 use serde_json::Value;
 use std::alloc::Global;
@@ -223,22 +224,24 @@ impl OciRecord for Hooks {
 
     ghost plain = { hooks_plain };
 
-    #[tactic(auto, using(oci_json_model::proofs::Readers::refuses_others))]
     fn from_value(alloc: Global, value: &Value) -> Result<Hooks> {
-        if !value.is_object() {
-            return Err(fault::refused(NAME, ""));
-        }
         let ((prestart, create_runtime, create_container), (start_container, poststart, poststop)) =
             try_join2(
-                try_join3(
-                    optional(alloc, value, NAME, "prestart"),
-                    optional(alloc, value, NAME, "createRuntime"),
-                    optional(alloc, value, NAME, "createContainer"),
+                read3::<Optional, Optional, Optional, _, _, _>(
+                    alloc,
+                    value,
+                    NAME,
+                    "prestart",
+                    "createRuntime",
+                    "createContainer",
                 ),
-                try_join3(
-                    optional(alloc, value, NAME, "startContainer"),
-                    optional(alloc, value, NAME, "poststart"),
-                    optional(alloc, value, NAME, "poststop"),
+                read3::<Optional, Optional, Optional, _, _, _>(
+                    alloc,
+                    value,
+                    NAME,
+                    "startContainer",
+                    "poststart",
+                    "poststop",
                 ),
             )?;
         Ok(Hooks {

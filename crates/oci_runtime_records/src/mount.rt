@@ -6,9 +6,10 @@ mod build;
 mod rows;
 
 use oci_json_model::{
-    ObjectWriter, OciMember, OciRecord, copy_optional, fault, optional, required, taken, try_join2,
-    try_join3, write_optional, write_required,
+    ObjectWriter, OciMember, OciRecord, copy_optional, taken, try_join2, try_join3, write_optional,
+    write_required,
 };
+use oci_json_readers::{Optional, Required, read3};
 use oci_linux_namespaces::LinuxIdMapping;
 use oci_text_base::{OciSpecError, Result};
 use serde_json::Value;
@@ -227,21 +228,23 @@ impl OciRecord for Mount {
 
     ghost plain = { mount_plain };
 
-    #[tactic(auto, using(oci_json_model::proofs::Readers::refuses_others))]
     fn from_value(alloc: Global, value: &Value) -> Result<Mount> {
-        if !value.is_object() {
-            return Err(fault::refused(NAME, ""));
-        }
         let ((destination, typ, source), (options, uid_mappings, gid_mappings)) = try_join2(
-            try_join3(
-                required(alloc, value, NAME, "destination"),
-                optional(alloc, value, NAME, "type"),
-                optional(alloc, value, NAME, "source"),
+            read3::<Required, Optional, Optional, _, _, _>(
+                alloc,
+                value,
+                NAME,
+                "destination",
+                "type",
+                "source",
             ),
-            try_join3(
-                optional(alloc, value, NAME, "options"),
-                optional(alloc, value, NAME, "uidMappings"),
-                optional(alloc, value, NAME, "gidMappings"),
+            read3::<Optional, Optional, Optional, _, _, _>(
+                alloc,
+                value,
+                NAME,
+                "options",
+                "uidMappings",
+                "gidMappings",
             ),
         )?;
         Ok(Mount {

@@ -2,10 +2,8 @@
 //! The root of a container's file system (runtime specification, "Configuration", "Root").
 ghost use Rattle.std.specs.Prelude.{◌≡◌, IfOk, IfErr};
 
-use oci_json_members::defaulted;
-use oci_json_model::{
-    ObjectWriter, OciMember, OciRecord, fault, optional, try_join2, write_optional, write_required,
-};
+use oci_json_model::{ObjectWriter, OciMember, OciRecord, write_optional, write_required};
+use oci_json_readers::{Defaulted, Optional, read2};
 use oci_text_base::{OciSpecError, Result};
 use serde_json::Value;
 use std::alloc::Global;
@@ -92,14 +90,9 @@ impl OciRecord for Root {
 
     ghost plain = { root_plain };
 
-    #[tactic(auto, using(oci_json_model::proofs::Readers::refuses_others))]
     fn from_value(alloc: Global, value: &Value) -> Result<Root> {
-        if !value.is_object() {
-            return Err(fault::refused(NAME, ""));
-        }
-        let (path, readonly) = try_join2(
-            defaulted(alloc, value, NAME, "path"),
-            optional(alloc, value, NAME, "readonly"),
+        let (path, readonly) = read2::<Defaulted, Optional, _, _>(
+            alloc, value, NAME, "path", "readonly",
         )?;
         Ok(Root { path, readonly })
     }

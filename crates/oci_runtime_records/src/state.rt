@@ -4,11 +4,11 @@ ghost use Rattle.std.specs.Prelude.{◌≡◌, IfOk, IfErr};
 
 mod files;
 
-use oci_json_members::defaulted;
 use oci_json_model::{
-    ObjectWriter, OciMember, OciRecord, copy_optional, fault, optional, try_join2, try_join3,
-    try_join4, write_optional, write_required,
+    ObjectWriter, OciMember, OciRecord, copy_optional, try_join2, try_join4, write_optional,
+    write_required,
 };
+use oci_json_readers::{Defaulted, Optional, read3};
 use oci_runtime_names::ContainerState;
 use oci_text_base::{OciSpecError, Result};
 use serde_json::Value;
@@ -228,21 +228,23 @@ impl OciRecord for State {
 
     ghost plain = { state_plain };
 
-    #[tactic(auto, using(oci_json_model::proofs::Readers::refuses_others))]
     fn from_value(alloc: Global, value: &Value) -> Result<State> {
-        if !value.is_object() {
-            return Err(fault::refused(NAME, ""));
-        }
         let ((version, id, status), (pid, bundle, annotations)) = try_join2(
-            try_join3(
-                defaulted(alloc, value, NAME, "ociVersion"),
-                defaulted(alloc, value, NAME, "id"),
-                defaulted(alloc, value, NAME, "status"),
+            read3::<Defaulted, Defaulted, Defaulted, _, _, _>(
+                alloc,
+                value,
+                NAME,
+                "ociVersion",
+                "id",
+                "status",
             ),
-            try_join3(
-                optional(alloc, value, NAME, "pid"),
-                defaulted(alloc, value, NAME, "bundle"),
-                optional(alloc, value, NAME, "annotations"),
+            read3::<Optional, Defaulted, Optional, _, _, _>(
+                alloc,
+                value,
+                NAME,
+                "pid",
+                "bundle",
+                "annotations",
             ),
         )?;
         Ok(State {

@@ -7,11 +7,11 @@ mod files;
 mod rootfs;
 mod rootless;
 
-use oci_json_members::defaulted;
 use oci_json_model::{
-    ObjectWriter, OciMember, OciRecord, copy_optional, fault, optional, try_join2, try_join3,
-    try_join5, write_optional, write_required,
+    ObjectWriter, OciMember, OciRecord, copy_optional, try_join2, try_join3, try_join5,
+    write_optional, write_required,
 };
+use oci_json_readers::{Defaulted, Optional, read5};
 use oci_linux::Linux;
 use oci_linux_namespaces::LinuxIdMapping;
 use oci_platforms::{Solaris, VM, ZOS};
@@ -175,36 +175,41 @@ impl OciRecord for Spec {
 
     ghost plain = { spec_plain };
 
-    #[tactic(auto, using(oci_json_model::proofs::Readers::refuses_others))]
     fn from_value(alloc: Global, value: &Value) -> Result<Spec> {
-        if !value.is_object() {
-            return Err(fault::refused(NAME, ""));
-        }
         let (
             (version, root, mounts, process, hostname),
             (domainname, hooks, annotations, linux, solaris),
             (windows, vm, zos, uid_mappings, gid_mappings),
         ) = try_join3(
-            try_join5(
-                defaulted(alloc, value, NAME, "ociVersion"),
-                optional(alloc, value, NAME, "root"),
-                optional(alloc, value, NAME, "mounts"),
-                optional(alloc, value, NAME, "process"),
-                optional(alloc, value, NAME, "hostname"),
+            read5::<Defaulted, Optional, Optional, Optional, Optional, _, _, _, _, _>(
+                alloc,
+                value,
+                NAME,
+                "ociVersion",
+                "root",
+                "mounts",
+                "process",
+                "hostname",
             ),
-            try_join5(
-                optional(alloc, value, NAME, "domainname"),
-                optional(alloc, value, NAME, "hooks"),
-                optional(alloc, value, NAME, "annotations"),
-                optional(alloc, value, NAME, "linux"),
-                optional(alloc, value, NAME, "solaris"),
+            read5::<Optional, Optional, Optional, Optional, Optional, _, _, _, _, _>(
+                alloc,
+                value,
+                NAME,
+                "domainname",
+                "hooks",
+                "annotations",
+                "linux",
+                "solaris",
             ),
-            try_join5(
-                optional(alloc, value, NAME, "windows"),
-                optional(alloc, value, NAME, "vm"),
-                optional(alloc, value, NAME, "zos"),
-                optional(alloc, value, NAME, "uidMappings"),
-                optional(alloc, value, NAME, "gidMappings"),
+            read5::<Optional, Optional, Optional, Optional, Optional, _, _, _, _, _>(
+                alloc,
+                value,
+                NAME,
+                "windows",
+                "vm",
+                "zos",
+                "uidMappings",
+                "gidMappings",
             ),
         )?;
         Ok(Spec {

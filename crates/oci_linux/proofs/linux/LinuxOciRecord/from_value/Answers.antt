@@ -6,47 +6,47 @@ use Rattle.oci_linux.proofs.linux.LinuxOciRecord.from_value.Goals as goal
 
 pub returns-clause-ok : goal.returns-clause-ok
 returns-clause-ok c =
-    let first = answered _ _ _ c.in_ok-net_devices.ensures.ok.0 c.try_join5.ensures.ok in
-    let second = answered _ _ _ c.in_ok-net_devices.ensures.ok.1 c.try_join4.ensures.ok in
-    let third = answered _ _ _ c.in_ok-net_devices.ensures.ok.2 c.try_join4-2.ensures.ok in
-    let fourth = answered _ _ _ c.in_ok-net_devices.ensures.ok.3 c.try_join4-3.ensures.ok in (
+    let first = answered _ _ _ c.in_ok-net_devices.ensures.ok.0 c.read5.ensures.ok in
+    let second = answered _ _ _ c.in_ok-net_devices.ensures.ok.1 c.read4.ensures.ok in
+    let third = answered _ _ _ c.in_ok-net_devices.ensures.ok.2 c.read4-2.ensures.ok in
+    let fourth = answered _ _ _ c.in_ok-net_devices.ensures.ok.3 c.read4-3.ensures.ok in (
       _,
-      (let h = c.if-not-is_object.ensures in cc),
+      first.0,
       refl,
       (
-        answered _ _ _ first.0 c.optional.ensures.ok,
+        first.1,
         (
-          answered _ _ _ first.1 c.optional-2.ensures.ok,
+          first.2,
           (
-            answered _ _ _ first.2 c.optional-3.ensures.ok,
+            first.3,
             (
-              answered _ _ _ first.3 c.optional-4.ensures.ok,
+              first.4,
               (
-                answered _ _ _ first.4 c.optional-5.ensures.ok,
+                first.5,
                 (
-                  answered _ _ _ second.0 c.optional-6.ensures.ok,
+                  second.1,
                   (
-                    answered _ _ _ second.1 c.optional-7.ensures.ok,
+                    second.2,
                     (
-                      answered _ _ _ second.2 c.optional-8.ensures.ok,
+                      second.3,
                       (
-                        answered _ _ _ second.3 c.optional-9.ensures.ok,
+                        second.4,
                         (
-                          answered _ _ _ third.0 c.optional-10.ensures.ok,
+                          third.1,
                           (
-                            answered _ _ _ third.1 c.optional-11.ensures.ok,
+                            third.2,
                             (
-                              answered _ _ _ third.2 c.optional-12.ensures.ok,
+                              third.3,
                               (
-                                answered _ _ _ third.3 c.optional-13.ensures.ok,
+                                third.4,
                                 (
-                                  answered _ _ _ fourth.0 c.optional-14.ensures.ok,
+                                  fourth.1,
                                   (
-                                    answered _ _ _ fourth.1 c.optional-15.ensures.ok,
+                                    fourth.2,
                                     (
-                                      answered _ _ _ fourth.2 c.optional-16.ensures.ok,
+                                      fourth.3,
                                       (
-                                        answered _ _ _ fourth.3 c.optional-17.ensures.ok,
+                                        fourth.4,
                                         tt,
                                       ),
                                     ),

@@ -6,25 +6,25 @@ use Rattle.oci_linux_namespaces.proofs.linux_device.LinuxDeviceOciRecord.from_va
 
 pub returns-clause-ok : goal.returns-clause-ok
 returns-clause-ok c =
-    let first = answered _ _ _ c.in_ok-path.ensures.ok.0 c.try_join4.ensures.ok in
-    let second = answered _ _ _ c.in_ok-path.ensures.ok.1 c.try_join3.ensures.ok in (
+    let first = answered _ _ _ c.in_ok-path.ensures.ok.0 c.read4.ensures.ok in
+    let second = answered _ _ _ c.in_ok-path.ensures.ok.1 c.read3.ensures.ok in (
       _,
-      (let h = c.if-not-is_object.ensures in cc),
+      first.0,
       refl,
       (
-        answered _ _ _ first.0 c.defaulted.ensures.ok,
+        first.1,
         (
-          answered _ _ _ first.1 c.required.ensures.ok,
+          first.2,
           (
-            let told = answered _ _ _ first.2 c.defaulted-2.ensures.ok in search rules,
+            let told = first.3 in search rules,
             (
-              let told = answered _ _ _ first.3 c.defaulted-3.ensures.ok in search rules,
+              let told = first.4 in search rules,
               (
-                answered _ _ _ second.0 c.optional.ensures.ok,
+                second.1,
                 (
-                  answered _ _ _ second.1 c.optional-2.ensures.ok,
+                  second.2,
                   (
-                    answered _ _ _ second.2 c.optional-3.ensures.ok,
+                    second.3,
                     tt,
                   ),
                 ),
