@@ -1,9 +1,11 @@
-//! The answers for all members of a record put together, so that a reading, a copy or a writing of it has one exit and not one a member.
+//! The results for all members of a record put together, so that reading or copying it has one exit and not one a member. All are
+//! inlined: a call would fill its locals with zeros and copy the members, and those of a `Spec` are 4 KB.
 ghost use Rattle.std.specs.Prelude.{◌≡◌, ◌⊎◌, Ok, Err, IfOk, IfErr, IsOk};
 
 use oci_text_base::Result;
 
 /// Returns both results, or the first error.
+#[inline(always)]
 pub fn try_join2<A: Drop, B: Drop>(first: Result<A>, second: Result<B>) -> Result<(A, B)>
     ensures ok { IfOk result (λ x. (first ≡ Ok x.0) × (second ≡ Ok x.1)) }
     ensures err { IfErr result (λ e. (first ≡ Err e) ⊎ (IsOk first × (second ≡ Err e))) }
@@ -12,6 +14,7 @@ pub fn try_join2<A: Drop, B: Drop>(first: Result<A>, second: Result<B>) -> Resul
 }
 
 /// Returns all three results, or the first error.
+#[inline(always)]
 pub fn try_join3<A: Drop, B: Drop, C: Drop>(
     first: Result<A>,
     second: Result<B>,
@@ -25,6 +28,7 @@ pub fn try_join3<A: Drop, B: Drop, C: Drop>(
 }
 
 /// Returns all four results, or the first error.
+#[inline(always)]
 pub fn try_join4<A: Drop, B: Drop, C: Drop, D: Drop>(
     first: Result<A>,
     second: Result<B>,
@@ -42,6 +46,7 @@ pub fn try_join4<A: Drop, B: Drop, C: Drop, D: Drop>(
 }
 
 /// Returns all five results, or the first error.
+#[inline(always)]
 pub fn try_join5<A: Drop, B: Drop, C: Drop, D: Drop, E: Drop>(
     first: Result<A>,
     second: Result<B>,

@@ -32,6 +32,7 @@ pub trait OciRecord: Eq + Drop {
         ensures kind { IfErr result IsMemoryOrSchema };
 
     /// Deserializes `value` and consumes it, in any case. Strings are moved where the type moves them. Fails as `from_value`.
+    #[inline(always)]
     fn from_value_owned(alloc: Global, value: Value) -> Result<Self>
         ensures ok { IfOk result (λ x. Means shape (view value) (plain x)) }
         ensures err { IfErr result (λ e. IsSchema e → IsRefused shape (view value)) }

@@ -1,7 +1,7 @@
 -- What several members of a record say of a value together.
-use Rattle.std.specs.Prelude.{◌≡◌, ℕ, List, [], ◌∷◌, Option, Some, None, ⊤}
+use Rattle.std.specs.Prelude.{◌≡◌, ℕ, List, [], ◌∷◌, Some, ⊤}
 use Rattle.serde_json.specs.Data.{Data}
-use Rattle.oci_json_model.specs.Shape.{Presence, Shape, rows, Rows}
+use Rattle.oci_json_model.specs.Shape.{rows, Rows}
 use Rattle.oci_json_model.specs.Refused.{IsRefused, Listing, listing}
 
 -- a name, and how the member of this name is listed

@@ -46,6 +46,7 @@ impl<T: OciMember> MemberReader<T> for Required {
 
     ghost slot = { given T.plain };
 
+    #[inline(always)]
     fn read(alloc: Global, value: &Value, owner: &'static str, name: &'static str) -> Result<T> {
         required(alloc, value, owner, name)
     }
@@ -64,6 +65,7 @@ impl<T: OciMember> MemberReader<Option<T>> for Optional {
 
     ghost slot = { perhaps T.plain };
 
+    #[inline(always)]
     fn read(
         alloc: Global,
         value: &Value,
@@ -87,6 +89,7 @@ impl<T: OciDefault> MemberReader<T> for Defaulted {
 
     ghost slot = { given T.plain };
 
+    #[inline(always)]
     fn read(alloc: Global, value: &Value, owner: &'static str, name: &'static str) -> Result<T> {
         defaulted(alloc, value, owner, name)
     }
@@ -105,6 +108,7 @@ impl<T: OciMember> MemberReader<Option<T>> for Nullable {
 
     ghost slot = { perhaps T.plain };
 
+    #[inline(always)]
     fn read(
         alloc: Global,
         value: &Value,
@@ -128,6 +132,7 @@ impl<T: OciMember> MemberReader<Option<Vec<T>>> for UnlessEmpty {
 
     ghost slot = { perhaps (list_plain T.plain) };
 
+    #[inline(always)]
     fn read(
         alloc: Global,
         value: &Value,
@@ -151,6 +156,7 @@ impl<K: OciKind<T>, T> MemberReader<Option<T>> for As<K> {
 
     ghost slot = { perhaps K.plain };
 
+    #[inline(always)]
     fn read(
         alloc: Global,
         value: &Value,

@@ -1,5 +1,5 @@
 //! Several members of an object at once, each by its presence. An error is the first one, in the order of the names; a value that is no
-//! object is refused as a whole.
+//! object is refused as a whole. All are inlined, since what they return is copied once more by a call.
 ghost use Rattle.std.specs.Prelude.{◌≡◌, true, ◌∷◌, [], None, IfOk, IfErr};
 ghost use Rattle.serde_json.specs.View.{view};
 ghost use Rattle.serde_json.specs.Find.{get};
@@ -9,13 +9,13 @@ ghost use Rattle.oci_json_readers.specs.Listed.{RefusesListed};
 
 use crate::presence::MemberReader;
 use oci_json_model::fault::refused;
-use oci_json_model::{try_join2, try_join3, try_join4, try_join5};
 use oci_text_base::Result;
 use serde_json::Value;
 use std::alloc::Global;
 
 /// Reads a member of an object.
 #[tactic(auto, using(oci_json_model::proofs::Readers::refuses_others))]
+#[inline(always)]
 pub fn read1<A: MemberReader<S>, S: Drop>(
     alloc: Global,
     value: &Value,
@@ -34,6 +34,7 @@ pub fn read1<A: MemberReader<S>, S: Drop>(
 
 /// Reads two members of an object.
 #[tactic(auto, using(oci_json_model::proofs::Readers::refuses_others))]
+#[inline(always)]
 pub fn read2<A: MemberReader<S>, B: MemberReader<T>, S: Drop, T: Drop>(
     alloc: Global,
     value: &Value,
@@ -48,14 +49,15 @@ pub fn read2<A: MemberReader<S>, B: MemberReader<T>, S: Drop, T: Drop>(
     if !value.is_object() {
         return Err(refused(owner, ""));
     }
-    try_join2(
-        A::read(alloc, value, owner, first),
-        B::read(alloc, value, owner, second),
-    )
+    Ok((
+        A::read(alloc, value, owner, first)?,
+        B::read(alloc, value, owner, second)?,
+    ))
 }
 
 /// Reads three members of an object.
 #[tactic(auto, using(oci_json_model::proofs::Readers::refuses_others))]
+#[inline(always)]
 pub fn read3<A: MemberReader<S>, B: MemberReader<T>, C: MemberReader<U>, S: Drop, T: Drop, U: Drop>(
     alloc: Global,
     value: &Value,
@@ -71,15 +73,16 @@ pub fn read3<A: MemberReader<S>, B: MemberReader<T>, C: MemberReader<U>, S: Drop
     if !value.is_object() {
         return Err(refused(owner, ""));
     }
-    try_join3(
-        A::read(alloc, value, owner, first),
-        B::read(alloc, value, owner, second),
-        C::read(alloc, value, owner, third),
-    )
+    Ok((
+        A::read(alloc, value, owner, first)?,
+        B::read(alloc, value, owner, second)?,
+        C::read(alloc, value, owner, third)?,
+    ))
 }
 
 /// Reads four members of an object.
 #[tactic(auto, using(oci_json_model::proofs::Readers::refuses_others))]
+#[inline(always)]
 pub fn read4<
     A: MemberReader<S>,
     B: MemberReader<T>,
@@ -105,16 +108,17 @@ pub fn read4<
     if !value.is_object() {
         return Err(refused(owner, ""));
     }
-    try_join4(
-        A::read(alloc, value, owner, first),
-        B::read(alloc, value, owner, second),
-        C::read(alloc, value, owner, third),
-        D::read(alloc, value, owner, fourth),
-    )
+    Ok((
+        A::read(alloc, value, owner, first)?,
+        B::read(alloc, value, owner, second)?,
+        C::read(alloc, value, owner, third)?,
+        D::read(alloc, value, owner, fourth)?,
+    ))
 }
 
 /// Reads five members of an object.
 #[tactic(auto, using(oci_json_model::proofs::Readers::refuses_others))]
+#[inline(always)]
 pub fn read5<
     A: MemberReader<S>,
     B: MemberReader<T>,
@@ -143,11 +147,11 @@ pub fn read5<
     if !value.is_object() {
         return Err(refused(owner, ""));
     }
-    try_join5(
-        A::read(alloc, value, owner, first),
-        B::read(alloc, value, owner, second),
-        C::read(alloc, value, owner, third),
-        D::read(alloc, value, owner, fourth),
-        F::read(alloc, value, owner, fifth),
-    )
+    Ok((
+        A::read(alloc, value, owner, first)?,
+        B::read(alloc, value, owner, second)?,
+        C::read(alloc, value, owner, third)?,
+        D::read(alloc, value, owner, fourth)?,
+        F::read(alloc, value, owner, fifth)?,
+    ))
 }
