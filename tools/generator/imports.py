@@ -4,9 +4,10 @@ from generator.text import called_in, used, uses
 
 JOINS = [f"try_join{n}" for n in range(2, 6)]
 # functions of `oci_json_members`: those that are called with types, and the others
-KIND_CALLS = ["copy_optional_as", "optional_as", "optional_as_owned", "write_optional_as"]
-MEMBER_CALLS = ["defaulted", "nullable", "unless_empty", "write_nullable", "write_unless_empty"]
-# types of `oci_json_readers`
+KIND_CALLS = ["copy_optional_as", "write_optional_as"]
+MEMBER_CALLS = ["write_nullable", "write_unless_empty"]
+# functions of `oci_json_readers` that are called with types, and its types
+READER_CALLS = ["optional_as_owned"] + [f"read{n}" for n in range(1, 6)]
 READERS = ["As", "Defaulted", "Nullable", "Optional", "Required", "UnlessEmpty"]
 # functions of `oci_json_model`
 MODEL_CALLS = ["copy_optional", "optional", "optional_either", "required", "write_optional", "write_required", "optional_owned",
@@ -26,7 +27,7 @@ def imports(r, body, schema):
     held = " ".join(m.type.rust for m in r.members)
     crates = {"oci_json_model": schema, "oci_text_base": used(["OciSpecError", "Result", "UninitializedFieldError"], body)}
     crates["oci_json_members"] = used(KIND_CALLS, body) + called_in(MEMBER_CALLS, body)
-    crates["oci_json_readers"] = called_in([f"read{n}" for n in range(1, 6)], body.replace("::<", "(")) + used(READERS, body)
+    crates["oci_json_readers"] = used(READER_CALLS + READERS, body)
     crates["oci_json_trees"] = called_in(["equal_optional_values"], body)
     crates["oci_text"] = used(["Digest"], body) + used(["Arch", "ErrorCode", "MediaType", "Os"], held)
     crates["oci_process_names"] = used(["Capability"], held)

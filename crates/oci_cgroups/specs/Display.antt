@@ -1,8 +1,10 @@
--- How a rule for devices is displayed (runtime specification, "Linux Container Configuration", "Allowed Device list").
-use Rattle.std.specs.Prelude.{ℕ, ℤ, List, [], ◌++◌, Option, Some, None, codes, string_bytes, option_map, unwrap_or}
+-- How a rule for devices and the priority of an interface are displayed (runtime specification, "Linux Container Configuration",
+-- "Allowed Device list" and "Network", `priorities`).
+use Rattle.std.specs.Prelude.{ℕ, ℤ, List, [], ◌++◌, Option, Some, None, codes, string_bytes, option_map, unwrap_or, decimal}
 use Rattle.std.specs.Fmt.{signed_decimal}
 use Rattle.oci_linux_names.specs.LinuxDeviceType.{linux_device_type_name}
 use Rattle.oci_cgroups.specs.declared.linux_device_cgroup.LinuxDeviceCgroup.{LinuxDeviceCgroup}
+use Rattle.oci_cgroups.specs.declared.linux_interface_priority.LinuxInterfacePriority.{LinuxInterfacePriority}
 
 -- a number, or a star for all of them
 abbrev pub or_all : Option ℤ → List ℕ
@@ -14,3 +16,7 @@ abbrev pub rule_line : LinuxDeviceCgroup → List ℕ
 rule_line x =
     unwrap_or (option_map linux_device_type_name x.typ) (codes "a")
     ++ (codes " " ++ (or_all x.major ++ (codes ":" ++ (or_all x.minor ++ (codes " " ++ unwrap_or (option_map string_bytes x.access) [])))))
+
+-- the interface's name, a space, the priority and a line feed
+abbrev pub priority_line : LinuxInterfacePriority → List ℕ
+priority_line x = string_bytes x.name ++ (codes " " ++ (decimal x.priority ++ codes "\n"))

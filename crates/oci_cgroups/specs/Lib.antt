@@ -4,12 +4,12 @@ pub mod LinuxBlockIo
 pub mod LinuxCpu
 pub mod LinuxDeviceCgroup
 pub mod LinuxHugepageLimit
+pub mod LinuxInterfacePriority
 pub mod LinuxMemory
+pub mod LinuxNetwork
 pub mod LinuxPids
 pub mod LinuxResources
 pub mod LinuxThrottleDevice
 pub mod LinuxWeightDevice
-pub use Rattle.oci_cgroups_network.specs.LinuxInterfacePriority
-pub use Rattle.oci_cgroups_network.specs.LinuxNetwork
-pub use Rattle.oci_cgroups_network.specs.LinuxRdma
+pub use Rattle.oci_cgroups_rdma.specs.LinuxRdma
 pub use Rattle.oci_json_model.specs.Types

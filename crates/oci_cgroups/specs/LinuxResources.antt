@@ -25,12 +25,12 @@ use Rattle.oci_cgroups.specs.contracts.linux_block_io.LinuxBlockIo as linux_bloc
 use Rattle.oci_cgroups.specs.LinuxHugepageLimit.{linux_hugepage_limit_plain}
 use Rattle.oci_cgroups.specs.declared.linux_hugepage_limit.LinuxHugepageLimit.{LinuxHugepageLimit}
 use Rattle.oci_cgroups.specs.contracts.linux_hugepage_limit.LinuxHugepageLimit as linux_hugepage_limit
-use Rattle.oci_cgroups_network.specs.LinuxNetwork.{linux_network_plain}
-use Rattle.oci_cgroups_network.specs.declared.linux_network.LinuxNetwork.{LinuxNetwork}
-use Rattle.oci_cgroups_network.specs.contracts.linux_network.LinuxNetwork as linux_network
-use Rattle.oci_cgroups_network.specs.LinuxRdma.{linux_rdma_plain}
-use Rattle.oci_cgroups_network.specs.declared.linux_rdma.LinuxRdma.{LinuxRdma}
-use Rattle.oci_cgroups_network.specs.contracts.linux_rdma.LinuxRdma as linux_rdma
+use Rattle.oci_cgroups.specs.LinuxNetwork.{linux_network_plain}
+use Rattle.oci_cgroups.specs.declared.linux_network.LinuxNetwork.{LinuxNetwork}
+use Rattle.oci_cgroups.specs.contracts.linux_network.LinuxNetwork as linux_network
+use Rattle.oci_cgroups_rdma.specs.LinuxRdma.{linux_rdma_plain}
+use Rattle.oci_cgroups_rdma.specs.declared.linux_rdma.LinuxRdma.{LinuxRdma}
+use Rattle.oci_cgroups_rdma.specs.contracts.linux_rdma.LinuxRdma as linux_rdma
 use Rattle.oci_cgroups.specs.declared.linux_resources.LinuxResources.{LinuxResources}
 use Rattle.oci_cgroups.specs.contracts.linux_resources.LinuxResources.{the_row}
 

@@ -1,5 +1,7 @@
-//! The line of a rule for devices, as it is written to the control group's files `devices.allow` and `devices.deny`.
+//! Lines as they are written to a control group's files: the rule for devices to `devices.allow` and `devices.deny`, the priority of an
+//! interface to `net_prio.ifpriomap`.
 use crate::linux_device_cgroup::LinuxDeviceCgroup;
+use crate::linux_interface_priority::LinuxInterfacePriority;
 use oci_linux_names::LinuxDeviceType;
 use std::fmt;
 
@@ -36,5 +38,18 @@ impl fmt::Display for LinuxDeviceCgroup {
             None => "",
         };
         write!(f, "{kind} {major}:{minor} {access}")
+    }
+}
+
+impl fmt::Display for LinuxInterfacePriority {
+    ghost use Rattle.std.specs.Prelude.{Some};
+    ghost use Rattle.oci_cgroups.specs.Display.{priority_line};
+
+    ghost output = { λ x. Some (priority_line x) };
+
+    fn fmt<W: fmt::Write>(&self, f: &mut fmt::Formatter<W>) -> fmt::Result {
+        let name = self.name().as_str();
+        let priority = self.priority();
+        write!(f, "{name} {priority}\n")
     }
 }

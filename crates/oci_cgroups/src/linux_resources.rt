@@ -9,9 +9,10 @@ use crate::linux_cpu::LinuxCpu;
 use crate::linux_device_cgroup::LinuxDeviceCgroup;
 use crate::linux_hugepage_limit::LinuxHugepageLimit;
 use crate::linux_memory::LinuxMemory;
+use crate::linux_network::LinuxNetwork;
 use crate::linux_pids::LinuxPids;
 pub use builder::LinuxResourcesBuilder;
-use oci_cgroups_network::{LinuxNetwork, LinuxRdma};
+use oci_cgroups_rdma::LinuxRdma;
 use oci_json_model::{
     ObjectWriter, OciRecord, copy_optional, try_join2, try_join3, try_join4, write_optional,
 };
@@ -315,8 +316,8 @@ impl OciRecord for LinuxResources {
     ghost use Rattle.oci_cgroups.specs.contracts.linux_pids.LinuxPidsOciRecord.TheImpl.Laws.{same-law as linux_pids_same};
     ghost use Rattle.oci_cgroups.specs.contracts.linux_block_io.LinuxBlockIoOciRecord.TheImpl.Laws.{same-law as linux_block_io_same};
     ghost use Rattle.oci_cgroups.specs.contracts.linux_hugepage_limit.LinuxHugepageLimitOciRecord.TheImpl.Laws.{same-law as linux_hugepage_limit_same};
-    ghost use Rattle.oci_cgroups_network.specs.contracts.linux_network.LinuxNetworkOciRecord.TheImpl.Laws.{same-law as linux_network_same};
-    ghost use Rattle.oci_cgroups_network.specs.contracts.linux_rdma.LinuxRdmaOciRecord.TheImpl.Laws.{same-law as linux_rdma_same};
+    ghost use Rattle.oci_cgroups.specs.contracts.linux_network.LinuxNetworkOciRecord.TheImpl.Laws.{same-law as linux_network_same};
+    ghost use Rattle.oci_cgroups_rdma.specs.contracts.linux_rdma.LinuxRdmaOciRecord.TheImpl.Laws.{same-law as linux_rdma_same};
 
     ghost shape = { linux_resources };
 

@@ -5,11 +5,12 @@ ghost use Rattle.std.specs.Prelude.{◌≡◌, IfOk, IfErr};
 pub mod builder;
 
 pub use builder::ConfigBuilder;
-use oci_json_members::{Keys, copy_optional_as, optional_as_owned, write_optional_as};
+use oci_json_members::{Keys, copy_optional_as, write_optional_as};
 use oci_json_model::{
     ObjectWriter, OciRecord, copy_optional, fault, optional_owned, taken_9, try_join2, try_join4,
     try_join5, write_optional,
 };
+use oci_json_readers::optional_as_owned;
 use oci_text_base::{OciSpecError, Result};
 use serde_json::Value;
 use std::alloc::Global;

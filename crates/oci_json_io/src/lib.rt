@@ -3,13 +3,11 @@
 
 pub mod display;
 pub mod file;
-pub mod normal;
 pub mod reading;
 pub mod writing;
 
 pub use display::display_pretty;
 pub use file::{from_file, to_file, to_file_pretty};
-pub use normal::normalize;
 pub use reading::{
     bytes_from_reader, from_reader, from_slice, value_from_reader, value_from_slice,
 };

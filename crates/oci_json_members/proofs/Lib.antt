@@ -1,3 +1,3 @@
 pub mod KeySets
-pub mod Presences
+pub mod NotEmpty
 pub mod Sorting

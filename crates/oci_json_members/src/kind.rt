@@ -1,21 +1,20 @@
-//! Kinds of members, and the readers and writers of optional members of a kind.
-ghost use Rattle.std.specs.Prelude.{◌≡◌, None, option_map, IfOk, IfErr};
+//! Kinds of members, and how optional members of a kind are written and copied.
+ghost use Rattle.std.specs.Prelude.{◌≡◌, IfOk, IfErr};
 ghost use Rattle.serde_json.specs.View.{view};
-ghost use Rattle.serde_json.specs.Find.{get};
 ghost use Rattle.oci_text_base.specs.Refused.{IsSchema, IsMemoryOrSchema};
 ghost use Rattle.oci_json_model.specs.Adds.{Adds, FailsOf};
 ghost use Rattle.oci_json_model.specs.Plain.{Plain};
 ghost use Rattle.oci_json_model.specs.Shape.{Shape};
 ghost use Rattle.oci_json_model.specs.Shape as presence;
 ghost use Rattle.oci_json_model.specs.Fits.{Fits};
-ghost use Rattle.oci_json_model.specs.Means.{Means, MeansMember};
-ghost use Rattle.oci_json_model.specs.Refused.{IsRefused, IsMemberRefused, RefusesRecords};
+ghost use Rattle.oci_json_model.specs.Means.{Means};
+ghost use Rattle.oci_json_model.specs.Refused.{IsRefused};
 ghost use Rattle.oci_json_model.specs.Types.{perhaps};
 ghost use Rattle.oci_json_model.specs.Value.{value as json_of};
 ghost use Rattle.oci_json_model.specs.Writable.{Writable};
 
+use oci_json_model::ObjectWriter;
 use oci_json_model::fault::placed;
-use oci_json_model::{Found, ObjectWriter};
 use oci_text_base::{OciSpecError, Result};
 use serde_json::Value;
 use std::alloc::Global;
@@ -56,94 +55,6 @@ pub trait OciKind<T> {
     fn copy(x: &T, alloc: Global) -> Result<T>
         ensures ok { IfOk result (λ y. plain y ≡ plain x.now) }
         ensures err { IfErr result (λ e. e ≡ OciSpecError.Memory) };
-}
-
-/// Reads what was found under the name of a member of a kind that may be absent or null.
-#[tactic(auto, using(oci_json_model::proofs::Readers::found_refused, oci_json_model::proofs::Readers::optional_means, oci_json_model::proofs::Readers::optional_null))]
-fn found_as<K: OciKind<T>, T>(
-    alloc: Global,
-    found: Option<&Value>,
-    owner: &'static str,
-    name: &'static str,
-) -> Result<Option<T>>
-    ensures ok { IfOk result (λ x. MeansMember presence.optional (Means K.shape) (option_map (λ v. view v.now) found.entry) (perhaps K.plain x)) }
-    ensures err { IfErr result (λ e. IsSchema e → IsMemberRefused presence.optional K.shape (option_map (λ v. view v.now) found.entry) None) }
-    ensures kind { IfErr result IsMemoryOrSchema }
-{
-    match found {
-        Some(found) => {
-            if found.is_null() {
-                return Ok(None);
-            }
-            match K::read(alloc, found) {
-                Ok(x) => Ok(Some(x)),
-                Err(fault) => Err(placed(fault, owner, name)),
-            }
-        }
-        None => Ok(None),
-    }
-}
-
-/// Reads a member of a kind that may be absent or null. A value that the kind refuses is placed at the owner and the name.
-#[tactic(auto, using(oci_json_model::proofs::Readers::optional_refused))]
-pub fn optional_as<K: OciKind<T>, T>(
-    alloc: Global,
-    value: &Value,
-    owner: &'static str,
-    name: &'static str,
-) -> Result<Option<T>>
-    ensures ok { IfOk result (λ x. MeansMember presence.optional (Means K.shape) (get name.now (view value.now)) (perhaps K.plain x)) }
-    ensures err { IfErr result (λ e. IsSchema e → RefusesRecords name.now (None, presence.optional, K.shape) (view value.now)) }
-    ensures kind { IfErr result IsMemoryOrSchema }
-{
-    match found_as::<K, T>(alloc, value.get(name), owner, name) {
-        Ok(x) => Ok(x),
-        Err(fault) => Err(fault),
-    }
-}
-
-/// Reads what stood under the name of a member of a kind that may be absent or null.
-#[tactic(auto, using(oci_json_model::proofs::Readers::found_refused, oci_json_model::proofs::Readers::optional_means, oci_json_model::proofs::Readers::optional_null))]
-fn found_as_owned<K: OciKind<T>, T>(
-    alloc: Global,
-    found: Option<Value>,
-    owner: &'static str,
-    name: &'static str,
-) -> Result<Option<T>>
-    ensures ok { IfOk result (λ x. MeansMember presence.optional (Means K.shape) (option_map view found) (perhaps K.plain x)) }
-    ensures err { IfErr result (λ e. IsSchema e → IsMemberRefused presence.optional K.shape (option_map view found) None) }
-    ensures kind { IfErr result IsMemoryOrSchema }
-{
-    match found {
-        Some(value) => {
-            if value.is_null() {
-                return Ok(None);
-            }
-            match K::read_owned(alloc, value) {
-                Ok(x) => Ok(Some(x)),
-                Err(fault) => Err(placed(fault, owner, name)),
-            }
-        }
-        None => Ok(None),
-    }
-}
-
-/// Reads a member of a kind that may be absent or null, of what stood under its name.
-#[tactic(auto, using(oci_json_model::proofs::Readers::optional_refused, oci_json_model::proofs::Readers::optional_found_means))]
-pub fn optional_as_owned<K: OciKind<T>, T>(
-    alloc: Global,
-    found: Found,
-    owner: &'static str,
-    name: &'static str,
-) -> Result<Option<T>>
-    ensures ok { IfOk result (λ x. (d : _) → option_map view found.value ≡ get name.now d → MeansMember presence.optional (Means K.shape) (get name.now d) (perhaps K.plain x)) }
-    ensures err { IfErr result (λ e. IsSchema e → (d : _) → option_map view found.value ≡ get name.now d → RefusesRecords name.now (None, presence.optional, K.shape) d) }
-    ensures kind { IfErr result IsMemoryOrSchema }
-{
-    match found_as_owned::<K, T>(alloc, found.into_value(), owner, name) {
-        Ok(x) => Ok(x),
-        Err(fault) => Err(fault),
-    }
 }
 
 /// Writes a member of a kind unless it is none. The error for content that is not serializable is placed at the owner and the name.

@@ -7,7 +7,5 @@ pub mod kind;
 pub mod presence;
 
 pub use key_sets::Keys;
-pub use kind::{OciKind, copy_optional_as, optional_as, optional_as_owned, write_optional_as};
-pub use presence::{
-    OciDefault, defaulted, nullable, unless_empty, write_nullable, write_unless_empty,
-};
+pub use kind::{OciKind, copy_optional_as, write_optional_as};
+pub use presence::{OciDefault, write_nullable, write_unless_empty};

@@ -1,19 +1,12 @@
-//! Members with a default, members that are written as null where they are none, and lists that are omitted where they are empty.
-ghost use Rattle.std.specs.Prelude.{◌≡◌, None, [], false, pos, IfOk, IfErr};
-ghost use Rattle.serde_json.specs.View.{view};
-ghost use Rattle.serde_json.specs.Find.{get};
-ghost use Rattle.oci_text_base.specs.Refused.{IsSchema, IsMemoryOrSchema};
+//! Defaults of members, and writers of members that are written as null where they are none or omitted where they are empty.
+ghost use Rattle.std.specs.Prelude.{◌≡◌, [], false, pos};
 ghost use Rattle.oci_json_model.specs.Adds.{Adds, FailsOf};
 ghost use Rattle.oci_json_model.specs.Plain as plain_tree;
 ghost use Rattle.oci_json_model.specs.Plain.{Plain};
 ghost use Rattle.oci_json_model.specs.Shape as presence;
-ghost use Rattle.oci_json_model.specs.Means.{Means, MeansMember};
-ghost use Rattle.oci_json_model.specs.Refused.{RefusesRecords};
-ghost use Rattle.oci_json_model.specs.Types.{given, perhaps, list_plain};
+ghost use Rattle.oci_json_model.specs.Types.{perhaps, list_plain};
 
-use oci_json_model::fault::placed;
-use oci_json_model::{ObjectWriter, OciMember, optional, write_required};
-use oci_text_base::Result;
+use oci_json_model::{ObjectWriter, OciMember, write_required};
 use serde_json::Value;
 use std::alloc::Global;
 
@@ -80,63 +73,6 @@ impl OciDefault for u64 {
 
     fn absent(_alloc: Global) -> u64 {
         0
-    }
-}
-
-/// Reads a member that may be absent, and then is the default of its type. Null is judged as any other value.
-#[tactic(auto, using(crate::proofs::Presences::defaulted_refused, crate::proofs::Presences::defaulted_means, crate::proofs::Presences::absent_means))]
-pub fn defaulted<T: OciDefault>(
-    alloc: Global,
-    value: &Value,
-    owner: &'static str,
-    name: &'static str,
-) -> Result<T>
-    ensures ok { IfOk result (λ x. MeansMember (presence.defaulted T.default_plain) (Means T.shape) (get name.now (view value.now)) (given T.plain x)) }
-    ensures err { IfErr result (λ e. IsSchema e → RefusesRecords name.now (None, presence.defaulted T.default_plain, T.shape) (view value.now)) }
-    ensures kind { IfErr result IsMemoryOrSchema }
-{
-    match value.get(name) {
-        Some(found) => match T::read(alloc, found) {
-            Ok(x) => Ok(x),
-            Err(fault) => Err(placed(fault, owner, name)),
-        },
-        None => Ok(T::absent(alloc)),
-    }
-}
-
-/// Reads a member that may be absent or null, and that is written as null where it is none.
-#[tactic(auto, using(crate::proofs::Presences::nullable_refused))]
-pub fn nullable<T: OciMember>(
-    alloc: Global,
-    value: &Value,
-    owner: &'static str,
-    name: &'static str,
-) -> Result<Option<T>>
-    ensures ok { IfOk result (λ x. MeansMember presence.nullable (Means T.shape) (get name.now (view value.now)) (perhaps T.plain x)) }
-    ensures err { IfErr result (λ e. IsSchema e → RefusesRecords name.now (None, presence.nullable, T.shape) (view value.now)) }
-    ensures kind { IfErr result IsMemoryOrSchema }
-{
-    match optional::<T>(alloc, value, owner, name) {
-        Ok(x) => Ok(x),
-        Err(fault) => Err(fault),
-    }
-}
-
-/// Reads a list that may be absent or null, and that is omitted where it is empty.
-#[tactic(auto, using(crate::proofs::Presences::unless_empty_refused))]
-pub fn unless_empty<T: OciMember>(
-    alloc: Global,
-    value: &Value,
-    owner: &'static str,
-    name: &'static str,
-) -> Result<Option<Vec<T>>>
-    ensures ok { IfOk result (λ x. MeansMember presence.unless_empty (Means (presence.list T.shape)) (get name.now (view value.now)) (perhaps (list_plain T.plain) x)) }
-    ensures err { IfErr result (λ e. IsSchema e → RefusesRecords name.now (None, presence.unless_empty, presence.list T.shape) (view value.now)) }
-    ensures kind { IfErr result IsMemoryOrSchema }
-{
-    match optional::<Vec<T>>(alloc, value, owner, name) {
-        Ok(x) => Ok(x),
-        Err(fault) => Err(fault),
     }
 }
 

@@ -1,5 +1,5 @@
 //! How a member is read, as a type: whether it has to be there, and what it is where it is not.
-ghost use Rattle.std.specs.Prelude.{◌≡◌, None, IfOk, IfErr};
+ghost use Rattle.std.specs.Prelude.{None, IfOk, IfErr};
 ghost use Rattle.serde_json.specs.View.{view};
 ghost use Rattle.serde_json.specs.Find.{get};
 ghost use Rattle.oci_text_base.specs.Refused.{IsSchema, IsMemoryOrSchema};
@@ -8,7 +8,9 @@ ghost use Rattle.oci_json_model.specs.Shape.{Presence, Shape};
 ghost use Rattle.oci_json_model.specs.Means.{Means, MeansMember};
 ghost use Rattle.oci_json_model.specs.Refused.{RefusesRecords};
 
-use oci_json_members::{OciDefault, OciKind, defaulted, nullable, optional_as, unless_empty};
+use crate::kind::found_as;
+use oci_json_members::{OciDefault, OciKind};
+use oci_json_model::fault::placed;
 use oci_json_model::{OciMember, optional, required};
 use oci_text_base::Result;
 use serde_json::Value;
@@ -89,9 +91,15 @@ impl<T: OciDefault> MemberReader<T> for Defaulted {
 
     ghost slot = { given T.plain };
 
-    #[inline(always)]
+    #[tactic(auto, using(crate::proofs::Presences::defaulted_refused, crate::proofs::Presences::defaulted_means, crate::proofs::Presences::absent_means))]
     fn read(alloc: Global, value: &Value, owner: &'static str, name: &'static str) -> Result<T> {
-        defaulted(alloc, value, owner, name)
+        match value.get(name) {
+            Some(found) => match T::read(alloc, found) {
+                Ok(x) => Ok(x),
+                Err(fault) => Err(placed(fault, owner, name)),
+            },
+            None => Ok(T::absent(alloc)),
+        }
     }
 }
 
@@ -108,14 +116,17 @@ impl<T: OciMember> MemberReader<Option<T>> for Nullable {
 
     ghost slot = { perhaps T.plain };
 
-    #[inline(always)]
+    #[tactic(auto, using(crate::proofs::Presences::nullable_refused))]
     fn read(
         alloc: Global,
         value: &Value,
         owner: &'static str,
         name: &'static str,
     ) -> Result<Option<T>> {
-        nullable(alloc, value, owner, name)
+        match optional::<T>(alloc, value, owner, name) {
+            Ok(x) => Ok(x),
+            Err(fault) => Err(fault),
+        }
     }
 }
 
@@ -132,14 +143,17 @@ impl<T: OciMember> MemberReader<Option<Vec<T>>> for UnlessEmpty {
 
     ghost slot = { perhaps (list_plain T.plain) };
 
-    #[inline(always)]
+    #[tactic(auto, using(crate::proofs::Presences::unless_empty_refused))]
     fn read(
         alloc: Global,
         value: &Value,
         owner: &'static str,
         name: &'static str,
     ) -> Result<Option<Vec<T>>> {
-        unless_empty(alloc, value, owner, name)
+        match optional::<Vec<T>>(alloc, value, owner, name) {
+            Ok(x) => Ok(x),
+            Err(fault) => Err(fault),
+        }
     }
 }
 
@@ -156,13 +170,16 @@ impl<K: OciKind<T>, T> MemberReader<Option<T>> for As<K> {
 
     ghost slot = { perhaps K.plain };
 
-    #[inline(always)]
+    #[tactic(auto, using(oci_json_model::proofs::Readers::optional_refused))]
     fn read(
         alloc: Global,
         value: &Value,
         owner: &'static str,
         name: &'static str,
     ) -> Result<Option<T>> {
-        optional_as::<K, T>(alloc, value, owner, name)
+        match found_as::<K, T>(alloc, value.get(name), owner, name) {
+            Ok(x) => Ok(x),
+            Err(fault) => Err(fault),
+        }
     }
 }

@@ -9,8 +9,8 @@ use crate::limits::limit;
 use crate::names::{Named, default_name, repository_text};
 use crate::texts::{copied, lent, mark_if, owned, some_text, tag_or_latest, text_or_empty};
 use oci_json_model::{
-    ObjectWriter, OciRecord, fault, optional, optional_owned, required, required_owned, taken_5,
-    try_join5, write_optional, write_required,
+    ObjectWriter, OciRecord, fault, optional_owned, required_owned, taken_5, try_join5,
+    write_optional, write_required,
 };
 use oci_reference_scan::{ParseError, parts};
 use oci_text_base::OciSpecError;
@@ -343,25 +343,9 @@ impl OciRecord for Reference {
 
     ghost plain = { reference_plain };
 
-    #[tactic(auto, using(oci_json_model::proofs::Readers::refuses_others))]
     fn from_value(alloc: Global, value: &Value) -> oci_text_base::Result<Reference> {
-        if !value.is_object() {
-            return Err(fault::refused(NAME, ""));
-        }
-        let (registry, mirror_registry, repository, tag, digest) = try_join5(
-            required(alloc, value, NAME, "registry"),
-            optional(alloc, value, NAME, "mirror_registry"),
-            required(alloc, value, NAME, "repository"),
-            optional(alloc, value, NAME, "tag"),
-            optional(alloc, value, NAME, "digest"),
-        )?;
-        Ok(Reference {
-            registry,
-            mirror_registry,
-            repository,
-            tag,
-            digest,
-        })
+        let value = value.clone()?;
+        Self::from_value_owned(alloc, value)
     }
 
     #[tactic(auto, using(oci_json_model::proofs::Readers::refuses_others))]

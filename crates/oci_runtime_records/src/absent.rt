@@ -28,7 +28,7 @@ impl MemberReader<State> for DefaultState {
 
     ghost slot = { given state_plain };
 
-    #[tactic(auto, using(oci_json_members::proofs::Presences::defaulted_refused, oci_json_members::proofs::Presences::defaulted_means, oci_json_members::proofs::Presences::absent_means))]
+    #[tactic(auto, using(oci_json_readers::proofs::Presences::defaulted_refused, oci_json_readers::proofs::Presences::defaulted_means, oci_json_readers::proofs::Presences::absent_means))]
     fn read(
         alloc: Global,
         value: &Value,

@@ -8,7 +8,9 @@ ghost use Rattle.oci_shapes.specs.LinuxBlockIo.{linux_block_io};
 ghost use Rattle.oci_shapes.specs.LinuxCpu.{linux_cpu};
 ghost use Rattle.oci_shapes.specs.LinuxDeviceCgroup.{linux_device_cgroup};
 ghost use Rattle.oci_shapes.specs.LinuxHugepageLimit.{linux_hugepage_limit};
+ghost use Rattle.oci_shapes.specs.LinuxInterfacePriority.{linux_interface_priority};
 ghost use Rattle.oci_shapes.specs.LinuxMemory.{linux_memory};
+ghost use Rattle.oci_shapes.specs.LinuxNetwork.{linux_network};
 ghost use Rattle.oci_shapes.specs.LinuxPids.{linux_pids};
 ghost use Rattle.oci_shapes.specs.LinuxResources.{linux_resources};
 ghost use Rattle.oci_shapes.specs.LinuxThrottleDevice.{linux_throttle_device};
@@ -16,8 +18,8 @@ ghost use Rattle.oci_shapes.specs.LinuxWeightDevice.{linux_weight_device};
 
 use crate::parts::{
     BOOLEAN, I64, LINUX_BLOCK_IO, LINUX_CPU, LINUX_DEVICE_CGROUP, LINUX_DEVICE_TYPE,
-    LINUX_HUGEPAGE_LIMIT, LINUX_MEMORY, LINUX_NETWORK, LINUX_PIDS, LINUX_RDMA, LINUX_RESOURCES,
-    LINUX_THROTTLE_DEVICE, LINUX_WEIGHT_DEVICE, STRING, U16, U64,
+    LINUX_HUGEPAGE_LIMIT, LINUX_INTERFACE_PRIORITY, LINUX_MEMORY, LINUX_NETWORK, LINUX_PIDS,
+    LINUX_RDMA, LINUX_RESOURCES, LINUX_THROTTLE_DEVICE, LINUX_WEIGHT_DEVICE, STRING, U16, U32, U64,
 };
 use oci_schema_types::{DefaultValue, Member, Presence, Record, Schema};
 
@@ -164,6 +166,38 @@ pub fn linux_hugepage_limit() -> &'static Schema
     &LINUX_HUGEPAGE_LIMIT_SCHEMA
 }
 
+static LINUX_INTERFACE_PRIORITY_RECORD: Record = Record {
+    name: "LinuxInterfacePriority",
+    members: &[
+        member!(
+            "name",
+            Presence::Defaulted(DefaultValue::String("")),
+            Schema::One(STRING)
+        ),
+        member!(
+            "priority",
+            Presence::Defaulted(DefaultValue::Integer(0)),
+            Schema::One(U32)
+        ),
+    ],
+};
+
+static LINUX_INTERFACE_PRIORITY_SCHEMA: Schema = Schema::One(LINUX_INTERFACE_PRIORITY);
+
+/// The members of `LinuxInterfacePriority`: the priority of a container's traffic on one network interface (runtime specification, "Linux Container Configuration", "Network").
+pub fn linux_interface_priority_record() -> &'static Record
+    ensures { rows (members_in (shape_at shapes) result.now.members.now) ≡ linux_interface_priority }
+{
+    &LINUX_INTERFACE_PRIORITY_RECORD
+}
+
+/// The schema of `LinuxInterfacePriority`.
+pub fn linux_interface_priority() -> &'static Schema
+    ensures { schema_shape (shape_at shapes) result.now ≡ linux_interface_priority }
+{
+    &LINUX_INTERFACE_PRIORITY_SCHEMA
+}
+
 static LINUX_MEMORY_RECORD: Record = Record {
     name: "LinuxMemory",
     members: &[
@@ -197,6 +231,34 @@ pub fn linux_memory() -> &'static Schema
     ensures { schema_shape (shape_at shapes) result.now ≡ linux_memory }
 {
     &LINUX_MEMORY_SCHEMA
+}
+
+static LINUX_NETWORK_RECORD: Record = Record {
+    name: "LinuxNetwork",
+    members: &[
+        member!("classID", Presence::Optional, Schema::One(U32)),
+        member!(
+            "priorities",
+            Presence::Optional,
+            Schema::List(LINUX_INTERFACE_PRIORITY)
+        ),
+    ],
+};
+
+static LINUX_NETWORK_SCHEMA: Schema = Schema::One(LINUX_NETWORK);
+
+/// The members of `LinuxNetwork`: how a container's network traffic is marked and ranked (runtime specification, "Linux Container Configuration", "Network").
+pub fn linux_network_record() -> &'static Record
+    ensures { rows (members_in (shape_at shapes) result.now.members.now) ≡ linux_network }
+{
+    &LINUX_NETWORK_RECORD
+}
+
+/// The schema of `LinuxNetwork`.
+pub fn linux_network() -> &'static Schema
+    ensures { schema_shape (shape_at shapes) result.now ≡ linux_network }
+{
+    &LINUX_NETWORK_SCHEMA
 }
 
 static LINUX_PIDS_RECORD: Record = Record {

@@ -14,7 +14,7 @@ macro_rules! member {
 }
 
 pub mod cgroups;
-pub mod cgroups_network;
+pub mod cgroups_rdma;
 pub mod distribution;
 pub mod features;
 pub mod image;

@@ -7,12 +7,11 @@ ghost use Rattle.oci_schemas.specs.Table.{shapes};
 
 use crate::cgroups::{
     linux_block_io_record, linux_cpu_record, linux_device_cgroup_record,
-    linux_hugepage_limit_record, linux_memory_record, linux_pids_record, linux_resources_record,
-    linux_throttle_device_record, linux_weight_device_record,
+    linux_hugepage_limit_record, linux_interface_priority_record, linux_memory_record,
+    linux_network_record, linux_pids_record, linux_resources_record, linux_throttle_device_record,
+    linux_weight_device_record,
 };
-use crate::cgroups_network::{
-    linux_interface_priority_record, linux_network_record, linux_rdma_record,
-};
+use crate::cgroups_rdma::linux_rdma_record;
 use crate::distribution::{
     error_info_record, error_response_record, repository_list_record, tag_list_record,
 };

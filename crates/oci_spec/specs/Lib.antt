@@ -2,14 +2,14 @@ pub use Rattle.oci_cgroups.specs.LinuxBlockIo
 pub use Rattle.oci_cgroups.specs.LinuxCpu
 pub use Rattle.oci_cgroups.specs.LinuxDeviceCgroup
 pub use Rattle.oci_cgroups.specs.LinuxHugepageLimit
+pub use Rattle.oci_cgroups.specs.LinuxInterfacePriority
 pub use Rattle.oci_cgroups.specs.LinuxMemory
+pub use Rattle.oci_cgroups.specs.LinuxNetwork
 pub use Rattle.oci_cgroups.specs.LinuxPids
 pub use Rattle.oci_cgroups.specs.LinuxResources
 pub use Rattle.oci_cgroups.specs.LinuxThrottleDevice
 pub use Rattle.oci_cgroups.specs.LinuxWeightDevice
-pub use Rattle.oci_cgroups_network.specs.LinuxInterfacePriority
-pub use Rattle.oci_cgroups_network.specs.LinuxNetwork
-pub use Rattle.oci_cgroups_network.specs.LinuxRdma
+pub use Rattle.oci_cgroups_rdma.specs.LinuxRdma
 pub use Rattle.oci_distribution.specs.ErrorInfo
 pub use Rattle.oci_distribution.specs.ErrorInfoBuilder
 pub use Rattle.oci_distribution.specs.ErrorResponse
@@ -146,8 +146,6 @@ pub use Rattle.oci_rules.specs.Breaks
 pub use Rattle.oci_rules.specs.Documents
 pub use Rattle.oci_rules.specs.Listed
 pub use Rattle.oci_rules.specs.Tables
-pub use Rattle.oci_runtime_root.specs.Answers
-pub use Rattle.oci_runtime_root.specs.Canonical
 pub use Rattle.oci_runtime_defaults.specs.Defaults
 pub use Rattle.oci_runtime_defaults.specs.DeviceRule
 pub use Rattle.oci_runtime_names.specs.ContainerState
@@ -160,6 +158,8 @@ pub use Rattle.oci_runtime_records.specs.Mount
 pub use Rattle.oci_runtime_records.specs.MountBuilder
 pub use Rattle.oci_runtime_records.specs.Root
 pub use Rattle.oci_runtime_records.specs.State
+pub use Rattle.oci_runtime_root.specs.Answers
+pub use Rattle.oci_runtime_root.specs.Canonical
 pub use Rattle.oci_runtime_spec.specs.RootlessSpec
 pub use Rattle.oci_runtime_spec.specs.Spec
 pub use Rattle.oci_schema.specs.Normalizes

@@ -2,10 +2,10 @@
 //! The schemas of the types of `runtime`, its Linux part.
 use crate::schema::typed::HasSchema;
 use oci_cgroups::{
-    LinuxBlockIo, LinuxCpu, LinuxDeviceCgroup, LinuxHugepageLimit, LinuxMemory, LinuxPids,
-    LinuxResources, LinuxThrottleDevice, LinuxWeightDevice,
+    LinuxBlockIo, LinuxCpu, LinuxDeviceCgroup, LinuxHugepageLimit, LinuxInterfacePriority,
+    LinuxMemory, LinuxNetwork, LinuxPids, LinuxResources, LinuxThrottleDevice, LinuxWeightDevice,
 };
-use oci_cgroups_network::{LinuxInterfacePriority, LinuxNetwork, LinuxRdma};
+use oci_cgroups_rdma::LinuxRdma;
 use oci_linux::Linux;
 use oci_linux_namespaces::{
     LinuxDevice, LinuxIdMapping, LinuxNamespace, LinuxNetDevice, LinuxTimeOffset,
@@ -15,10 +15,11 @@ use oci_linux_seccomp::{
 };
 use oci_schema::Schema;
 use oci_schemas::cgroups::{
-    linux_block_io, linux_cpu, linux_device_cgroup, linux_hugepage_limit, linux_memory, linux_pids,
-    linux_resources, linux_throttle_device, linux_weight_device,
+    linux_block_io, linux_cpu, linux_device_cgroup, linux_hugepage_limit, linux_interface_priority,
+    linux_memory, linux_network, linux_pids, linux_resources, linux_throttle_device,
+    linux_weight_device,
 };
-use oci_schemas::cgroups_network::{linux_interface_priority, linux_network, linux_rdma};
+use oci_schemas::cgroups_rdma::linux_rdma;
 use oci_schemas::linux::linux;
 use oci_schemas::linux_namespaces::{
     linux_device, linux_id_mapping, linux_namespace, linux_net_device, linux_time_offset,

@@ -5,7 +5,7 @@ use oci_distribution::{
     ErrorCode, ErrorInfo, ErrorInfoBuilder, ErrorResponse, ErrorResponseBuilder, RepositoryList,
     RepositoryListBuilder, TagList, TagListBuilder,
 };
-use oci_json_io::to_string;
+use oci_json::to_string;
 use oci_json_model::OciRecord;
 use std::alloc::Global;
 use std::process::Abort;

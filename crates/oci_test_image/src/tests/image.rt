@@ -2,7 +2,7 @@
 //! `oci_test_vectors`.
 
 use super::check_text;
-use oci_json_io::to_string;
+use oci_json::to_string;
 use oci_json_model::OciRecord;
 use oci_text_base::Result;
 use std::alloc::Global;

@@ -4,7 +4,7 @@
 use super::streams::{Input, Output};
 use super::{check_is, check_text, repeated};
 use oci_image::ImageConfiguration;
-use oci_json_io::{from_reader, from_slice, normalize, to_string, to_string_pretty};
+use oci_json::{from_reader, from_slice, normalize, to_string, to_string_pretty};
 use oci_schema::{is_valid, violations};
 use oci_schemas::OciRecords;
 use oci_schemas::image::image_configuration;

@@ -1,6 +1,6 @@
 use Rattle.std.proofs.Common.{◌≡◌, length, false, sym, ap, ◌∙◌}
 use Rattle.std.specs.Prelude.{◌==◌}
-use Rattle.oci_json_members.proofs.Presences.{written}
+use Rattle.oci_json_members.proofs.NotEmpty.{written}
 use Rattle.oci_json_members.proofs.presence.write_unless_empty.Goals as goal
 
 pub returns-then-not-is_empty-clause-ok : goal.returns-then-not-is_empty-clause-ok

@@ -2,7 +2,7 @@ use super::super::distribution::reply;
 use super::super::{check_is, check_refused};
 use super::check_io;
 use oci_distribution::ErrorResponse;
-use oci_json_io::{from_file, to_file, to_file_pretty, to_string};
+use oci_json::{from_file, to_file, to_file_pretty, to_string};
 use oci_text_base::Result;
 use std::alloc::Global;
 use std::fs;

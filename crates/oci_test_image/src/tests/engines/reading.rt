@@ -3,7 +3,7 @@ use super::super::{Answer, check, repeated};
 use super::rows::{FAILING_READERS, LISTS};
 use super::{check_io, check_untouched};
 use oci_distribution::RepositoryList;
-use oci_json_io::{from_reader, from_slice, normalize, to_string};
+use oci_json::{from_reader, from_slice, normalize, to_string};
 use oci_json_model::optional_either;
 use oci_text_base::Result;
 use serde_json::Value;

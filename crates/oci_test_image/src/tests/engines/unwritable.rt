@@ -3,7 +3,7 @@ use super::super::streams::Output;
 use super::super::{check, check_refused};
 use super::check_untouched;
 use super::rows::DETAILS;
-use oci_json_io::{to_string, to_string_pretty, to_writer, to_writer_pretty};
+use oci_json::{to_string, to_string_pretty, to_writer, to_writer_pretty};
 use oci_json_model::OciRecord;
 use std::alloc::Global;
 use std::process::Abort;

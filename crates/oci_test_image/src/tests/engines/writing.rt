@@ -3,9 +3,7 @@ use super::super::{check, check_is};
 use super::check_io;
 use super::rows::{FAILING_WRITERS, REPLIES};
 use oci_distribution::ErrorResponse;
-use oci_json_io::{
-    from_slice, normalize, to_string, to_string_pretty, to_writer, to_writer_pretty,
-};
+use oci_json::{from_slice, normalize, to_string, to_string_pretty, to_writer, to_writer_pretty};
 use oci_text_base::Result;
 use std::alloc::Global;
 use std::io::ErrorKind;

@@ -1,14 +1,12 @@
--- Members with a default, members that are null where they are none, and lists that are omitted where they are empty.
-use Rattle.std.proofs.Common.{◌≡◌, List, [], ◌∷◌, ℕ, Option, Some, None, Bool, true, false, length, refl, subst, ap, map}
-use Rattle.std.specs.Prelude.{◌==◌}
+-- What members with a default, null members and lists that are omitted where they are empty are read as.
+use Rattle.std.proofs.Common.{◌≡◌, List, ℕ, Option, Some, None, Bool, true, false, refl, subst, ap}
 use Rattle.std.proofs.lemmas.Slice.Eq.{bytes_eq-Decides}
 use Rattle.serde_json.specs.Data.{Data}
 use Rattle.serde_json.specs.Find.{get}
 use Rattle.oci_json_model.specs.Plain as plain
-use Rattle.oci_json_model.specs.Plain.{Plain, Slot, empty, filled, no_slots, slot, plains}
-use Rattle.oci_json_model.specs.Shape.{defaulted, optional, nullable, unless_empty, Shape, list, rows, Rows, no_rows, row}
+use Rattle.oci_json_model.specs.Plain.{Plain, Slot, empty, filled, no_slots, slot}
+use Rattle.oci_json_model.specs.Shape.{defaulted, optional, nullable, unless_empty, Shape, rows, Rows, no_rows, row}
 use Rattle.oci_json_model.specs.Means.{is_object, Means, MeansMember}
-use Rattle.oci_json_model.specs.Value.{value, member_value}
 use Rattle.oci_json_model.specs.Refused.{IsRefused, IsMemberRefused, listing, RefusesRecords}
 use Rattle.oci_json_model.proofs.Readers.{refuses, refuses_others}
 
@@ -73,11 +71,3 @@ unless_empty_refused name s d refused = here (is_object d) refl
     here : (b : Bool) → is_object d ≡ b → RefusesRecords name (None, unless_empty, s) d
     here true e = refuses name None unless_empty s d (unless_empty_here name s d e (refused (alone name s) (listed_alone name s)))
     here false e = λ rs found. refuses_others rs d e
-
--- ---- a list that is not empty
-
--- it is written
-pub written : (s : Shape) {T : Type 0} (f : T → Plain) (xs : List T) → (length xs == 0) ≡ false
-    → member_value unless_empty (value (list s)) (filled (plain.list (plains (map f xs)))) ≡ Some (value (list s) (plain.list (plains (map f xs))))
-written s f [] h = cc
-written s f (x ∷ xs) h = refl

@@ -6,8 +6,7 @@ ghost use Rattle.oci_json_model.specs.Value.{value as json_of};
 ghost use Rattle.oci_json_model.specs.Writable.{Writable};
 ghost use Rattle.oci_json_io.specs.Engines.{AppendsSome, KeepsUnlessIo, IsCompactText, WritesDocument, ReadsBack, ReadsBackDocument, IsNotNormalized, IsNoJson};
 
-use crate::reading::from_reader;
-use crate::writing::write_text;
+use oci_json_io::{from_reader, write_text};
 use oci_json_model::OciRecord;
 use oci_text_base::Result;
 use std::alloc::Global;
@@ -16,7 +15,7 @@ use std::io::{Read, Write};
 /// Reads a document to its end and writes its canonical (normal) form as compact JSON: unknown members are left out, the others
 /// are in byte order of their names. Fails as `from_reader` and `to_writer`. It makes the typed document; for a type with a schema
 /// `oci_spec::schema::normalize_as` does the same without.
-#[tactic(auto, using(crate::proofs::Bytes::keeps))]
+#[tactic(auto, using(oci_json_io::proofs::Bytes::keeps))]
 pub fn normalize<T: OciRecord, R: Read + Drop, W: Write>(
     alloc: Global,
     reader: R,
@@ -38,7 +37,7 @@ pub fn normalize<T: OciRecord, R: Read + Drop, W: Write>(
 }
 
 /// Serializes a document to compact JSON. Drops the document first, so that peak memory is one copy. Fails as `to_string`.
-#[tactic(auto, using(crate::proofs::Texts::none_in, crate::proofs::Texts::read_back))]
+#[tactic(auto, using(oci_json_io::proofs::Texts::none_in, oci_json_io::proofs::Texts::read_back))]
 fn text_of<T: OciRecord>(document: T, alloc: Global) -> Result<String>
     ensures ok { IfOk result (IsCompactText (json_of T.shape (T.plain document))) }
     ensures reads_back { OnOk result (ReadsBack (json_of T.shape (T.plain document))) }
