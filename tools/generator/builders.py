@@ -83,13 +83,11 @@ def builder_setters(r, members):
     for m in members:
         out += f"""
 {doc(f"Sets `{m.call}`: {lowered(m.text)}", "    ")}
-    pub fn {m.call}(self, {m.call}: {m.type.rust}) -> Self
+    pub fn {m.call}(mut self, {m.call}: {m.type.rust}) -> Self
         ensures {{ result ≡ record self {{ {m.field} = Some {'«data»' if m.call == 'data' else m.call} }} }}
     {{
-        {r.name}Builder {{
-            {m.field}: Some({m.call}),
-            ..self
-        }}
+        self.{m.field} = Some({m.call});
+        self
     }}
 """
     return out

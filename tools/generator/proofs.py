@@ -1,4 +1,7 @@
-"""The proof answers of long records, which the search does not find."""
+"""The proof answers of conversions, for which the search takes long or which it does not find."""
+import re
+
+from generator.builders import given_or_default, refusable
 from generator.records import WRITE
 from generator.text import called, groups, imported, used
 
@@ -6,21 +9,60 @@ ORDINALS = ("first", "second", "third", "fourth", "fifth")
 
 
 def read_answers(r):
-    """The answer for what a record has read, whose members are read in several groups."""
+    """The answer for what a record has read, whose members are read in one group or in several."""
     split = groups(r.members)
+    told = f"c.in_ok-{r.members[0].field}.ensures.ok"
     lets, lines = "", ""
     for at, (word, call, members) in enumerate(zip(ORDINALS, called([f"read{len(it)}" for it in split]), split)):
-        lets += f"    let {word} = answered _ _ _ c.in_ok-{r.members[0].field}.ensures.ok.{at} c.{call}.ensures.ok in\n"
+        known = told if len(split) == 1 else f"answered _ _ _ {told}.{at} c.{call}.ensures.ok"
+        lets += f"    let {word} = {known} in\n"
         for n, m in enumerate(members):
-            told = f"{word}.{n + 1}"
-            lines += f"    (let told = {told} in search rules,\n" if m.type.text in ("i32", "i64") else f"    ({told},\n"
+            known = f"{word}.{n + 1}"
+            lines += f"    (let told = {known} in search rules,\n" if m.type.text in ("i32", "i64") else f"    ({known},\n"
+    together = imported("oci_json_model.proofs.Together", ["answered"] if len(split) > 1 else [])
     return f"""-- What each member decodes to.
-{imported("std.proofs.Common", ["refl"] + used(["rules"], lines))}use Rattle.oci_json_model.proofs.Together.{{answered}}
-use Rattle.{r.book.crate}.proofs.{r.word}.{r.name}OciRecord.from_value.Goals as goal
+{imported("std.proofs.Common", ["refl"] + used(["rules"], lines))}{together}use Rattle.{r.book.crate}.proofs.{r.word}.{r.name}OciRecord.from_value.Goals as goal
 
 pub returns-clause-ok : goal.returns-clause-ok
 returns-clause-ok c =
 {lets}    (_, first.0, refl,
+{lines}    tt{")" * (len(r.members) + 1)}
+"""
+
+
+def told_of(told, calls, lets):
+    """What is known of the results of these calls, of which `told` says that they were joined; `lets` gains what is known of each group."""
+    if len(calls) <= 5:
+        return [f"answered _ _ _ {told}.{at} c.{call}.ensures.ok" for at, call in enumerate(calls)]
+    out = []
+    joins = called([f"try_join{len(it)}" for it in groups(calls)])
+    for at, (word, join, group) in enumerate(zip(ORDINALS, joins, groups(calls))):
+        lets.append(f"{word} = answered _ _ _ {told}.{at} c.{join}.ensures.ok")
+        out += told_of(word, group, lets)
+    return out
+
+
+def owned_answers(r):
+    """The answer for what a record has read of a value that was taken apart, which has more than four names."""
+    name = r.members[0].field
+    lets = ["d = view c.args.value", f"stood = MatchOption-at_some _ _ _ c.in-Some.is c.in_ok-{name}.ensures.ok"]
+    calls = called([re.match(r"\w+", m.reads_owned())[0] for m in r.members])
+    lines, at = "", 0
+    for m, known in zip(r.members, told_of(f"c.in_ok-{name}-2.ensures.ok", calls, lets)):
+        stood = [f"stood.{at + 1}"] + [f"stood.{at + 2}"] * bool(m.second)
+        at += len(stood)
+        lines += f"    ({known} d {' '.join(stood)},\n"
+    names = "".join(f"    let {it} in\n" for it in lets)
+    return f"""-- What each member decodes to.
+use Rattle.std.proofs.Common.{{refl}}
+use Rattle.std.proofs.lemmas.Option.{{MatchOption-at_some}}
+use Rattle.serde_json.specs.View.{{view}}
+use Rattle.oci_json_model.proofs.Together.{{answered}}
+use Rattle.{r.book.crate}.proofs.{r.word}.{r.name}OciRecord.from_value_owned.Goals as goal
+
+pub returns-clause-ok : goal.returns-clause-ok
+returns-clause-ok c =
+{names}    (_, stood.0, refl,
 {lines}    tt{")" * (len(r.members) + 1)}
 """
 
@@ -39,8 +81,7 @@ def write_answers(r):
     return f"""-- What is written without an error, and why there is one.
 use Rattle.std.proofs.Common.{{codes, ap, refl, sym, ◌∙◌}}
 use Rattle.serde_json.specs.Data.{{{data}}}
-use Rattle.oci_json_model.specs.Value.{{with_member}}
-use Rattle.oci_json_model.proofs.Unfaulted.{{before, refused, unfaulted, unfaulted_view}}
+{imported("oci_json_model.specs.Value", used(["with_member"], lines))}use Rattle.oci_json_model.proofs.Unfaulted.{{before, refused, unfaulted, unfaulted_view}}
 use Rattle.{r.book.crate}.proofs.{r.word}.{r.name}OciRecord.to_value.Goals as goal
 
 pub returns-clause-ok : goal.returns-clause-ok
@@ -56,3 +97,71 @@ pub returns-clause-err : goal.returns-clause-err
 returns-clause-err c = refused _ _ _ c.object.ensures.err (λ e is schema written.
 {refused}    sym c.new-members.ensures.fault ∙ is_0)
 """
+
+
+def copy_answers(r):
+    """The answer for what a copy has, member by member."""
+    copied = [m for m in r.members if m.copies()]
+    calls = called([m.copy_call() for m in copied])
+    lets = []
+    if len(calls) == 1:
+        known = [f"c.in_ok-{calls[0]}.ensures.ok"]
+    else:
+        known = told_of(f"c.in_ok-{copied[0].field}.ensures.ok", calls, lets)
+    terms = iter(known)
+    lines = ""
+    for m in r.members:
+        term = (next(terms) if m.optional else f"ap filled ({next(terms)})") if m.copies() else "search rules" if m.type.text in ("i32", "i64") and not m.optional else "refl"
+        lines += f"    ap₂ slot ({term}) (\n" if " " in term else f"    ap₂ slot {term} (\n"
+    names = "".join(f"    let {it} in\n" for it in lets)
+    together = imported("oci_json_model.proofs.Together", ["answered"] if "answered" in lines else [])
+    return f"""-- What each member of a copy is.
+{imported("std.proofs.Common", ["ap", "ap₂", "refl"] + used(["rules"], lines))}{together}use Rattle.oci_json_model.specs.Plain.{{{", ".join(["document"] + used(["filled"], lines) + ["slot"])}}}
+use Rattle.{r.book.crate}.proofs.{r.word}.{r.name}OciRecord.duplicate.Goals as goal
+
+pub returns-clause-ok : goal.returns-clause-ok
+returns-clause-ok c =
+{names}    ap document (
+{lines}    refl{")" * (len(r.members) + 1)}
+"""
+
+
+def memory_answer(field, calls):
+    """The answer for the error of four defaults together, which the search does not find: it is that of one of them."""
+    lines = "".join(f"    c.{it}.ensures.err\n" for it in calls)
+    return f"""
+pub returns-in_err-{field}-clause-err : goal.returns-in_err-{field}-clause-err
+returns-in_err-{field}-clause-err c =
+    let IsMemory : OciSpecError → Type 0 = λ e. e ≡ Memory in
+    left_with IsMemory _ _ c.from_residual.ensures.1 (each_4 {{T = OciSpecError}} IsMemory _ _ _ _ (Err _)
+{lines}    c.in_err-{field}.ensures.err)
+"""
+
+
+def build_answers(r):
+    """The answers for what a builder makes of the fields whose defaults take memory."""
+    asked = refusable(r)
+    calls = called([given_or_default(r, m) for m in asked])
+    lets = []
+    known = told_of(f"c.in_ok-{asked[0].field}.ensures.ok", calls, lets)
+    answers = ""
+    for m, term in zip(asked, known):
+        named = [it for it in lets if it.split()[0] in re.findall(r"\w+", term)]
+        lines = "".join(f"    let {it} in\n" for it in named)
+        answers += f"""
+pub returns-clause-{m.field} : goal.returns-clause-{m.field}
+returns-clause-{m.field} c =
+{lines}    {f"ap filled ({term})" if m.optional else term}
+"""
+    builder = f"{r.word}.builder" if "builder" in r.long else r.word
+    of_error = ""
+    if len(calls) == 4:
+        answers += memory_answer(asked[0].field, calls)
+        of_error = f"""{imported("oci_text_base.specs.declared.error.OciSpecError", ["OciSpecError"])}{imported("oci_text_base.specs.declared.error.OciSpecError.TheVariants", ["Memory"])}"""
+        of_error += imported("oci_json_model.proofs.Refusals", ["each_4", "left_with"])
+    filled = imported("std.proofs.Common", used(["ap"], answers) + ["◌≡◌", "Err"] * bool(of_error)) + of_error
+    filled += imported("oci_json_model.specs.Plain", used(["filled"], answers))
+    return f"""-- What was set, or else the default, of each field whose default takes memory.
+{filled}use Rattle.oci_json_model.proofs.Together.{{answered}}
+use Rattle.{r.book.crate}.proofs.{builder}.{r.name}Builder.build.Goals as goal
+{answers}"""

@@ -156,10 +156,14 @@ class Member:
             return f"copy_optional_as::<{self.type.kind}, {self.type.rust}>(&self.{self.field}, alloc)"
         return f"copy_optional(&self.{self.field}, alloc)" if self.optional else f"self.{self.field}.copy(alloc)"
 
+    def copy_call(self):
+        """The function by which the member is copied."""
+        return "copy_optional_as" if self.type.kind else "copy_optional" if self.optional else "copy"
+
 
 class Record:
     # marks of one word
-    FLAGS = ("whole", "copy", "consuming", "calls", "write_answers")
+    FLAGS = ("whole", "copy", "consuming", "calls")
     # lists of words
     LISTS = ("required", "long", "by_hand", "fixed")
     # a text

@@ -2,10 +2,10 @@
 import os
 
 from generator.accessors import fields_source
-from generator.builders import builder_source
+from generator.builders import builder_source, refusable
 from generator.calls import SHAPES, calls_source
 from generator.output import module_list
-from generator.proofs import read_answers, write_answers
+from generator.proofs import build_answers, copy_answers, owned_answers, read_answers, write_answers
 from generator.shapes import shape_spec, well
 from generator.source import source
 from generator.specs import builder_spec, spec
@@ -27,10 +27,16 @@ def files(r):
         out[f"src/{r.word}/fields.rt"] = fields_source(r)
     if r.required:
         out[f"specs/{r.name}Builder.antt"] = builder_spec(r)
+    if len(refusable(r)) > 1 and not r.above and "build" not in r.by_hand:
+        home = f"proofs/{r.word}/builder" if "builder" in r.long else f"proofs/{r.word}"
+        out[f"{home}/{r.name}Builder/build/Answers.antt"] = build_answers(r)
     answers = f"proofs/{r.word}/{r.name}OciRecord"
-    if len(r.members) > 8 or r.write_answers:
-        out[f"{answers}/to_value/Answers.antt"] = write_answers(r)
-    if len(r.members) > 5 and not r.consuming:
+    if not r.copy and any(m.copies() for m in r.members):
+        out[f"{answers}/duplicate/Answers.antt"] = copy_answers(r)
+    out[f"{answers}/to_value/Answers.antt"] = write_answers(r)
+    if r.consuming and len(r.names()) > 4:
+        out[f"{answers}/from_value_owned/Answers.antt"] = owned_answers(r)
+    if not r.consuming:
         out[f"{answers}/from_value/Answers.antt"] = read_answers(r)
     return {os.path.normpath(f"crates/{r.book.crate}/{path}"): text for path, text in out.items()}
 

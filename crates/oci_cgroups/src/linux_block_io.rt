@@ -321,86 +321,72 @@ impl LinuxBlockIoBuilder {
 
     /// Sets `weight`: the weight of the container's group on all devices that have none of their own, from 10 to 1000. The range is not
     /// checked here.
-    pub fn weight(self, weight: u16) -> Self
+    pub fn weight(mut self, weight: u16) -> Self
         ensures { result ≡ record self { weight = Some weight } }
     {
-        LinuxBlockIoBuilder {
-            weight: Some(weight),
-            ..self
-        }
+        self.weight = Some(weight);
+        self
     }
 
     /// Sets `leaf_weight`: the weight of the group's own tasks against the groups below it, from 10 to 1000; for the CFQ scheduler alone.
     /// The range is not checked here.
-    pub fn leaf_weight(self, leaf_weight: u16) -> Self
+    pub fn leaf_weight(mut self, leaf_weight: u16) -> Self
         ensures { result ≡ record self { leaf_weight = Some leaf_weight } }
     {
-        LinuxBlockIoBuilder {
-            leaf_weight: Some(leaf_weight),
-            ..self
-        }
+        self.leaf_weight = Some(leaf_weight);
+        self
     }
 
     /// Sets `weight_device`: the weights on single devices, which replace the general ones.
-    pub fn weight_device(self, weight_device: Vec<LinuxWeightDevice>) -> Self
+    pub fn weight_device(mut self, weight_device: Vec<LinuxWeightDevice>) -> Self
         ensures { result ≡ record self { weight_device = Some weight_device } }
     {
-        LinuxBlockIoBuilder {
-            weight_device: Some(weight_device),
-            ..self
-        }
+        self.weight_device = Some(weight_device);
+        self
     }
 
     /// Sets `throttle_read_bps_device`: the most that may be read from single devices, in bytes per second.
     pub fn throttle_read_bps_device(
-        self,
+        mut self,
         throttle_read_bps_device: Vec<LinuxThrottleDevice>,
     ) -> Self
         ensures { result ≡ record self { throttle_read_bps_device = Some throttle_read_bps_device } }
     {
-        LinuxBlockIoBuilder {
-            throttle_read_bps_device: Some(throttle_read_bps_device),
-            ..self
-        }
+        self.throttle_read_bps_device = Some(throttle_read_bps_device);
+        self
     }
 
     /// Sets `throttle_write_bps_device`: the most that may be written to single devices, in bytes per second.
     pub fn throttle_write_bps_device(
-        self,
+        mut self,
         throttle_write_bps_device: Vec<LinuxThrottleDevice>,
     ) -> Self
         ensures { result ≡ record self { throttle_write_bps_device = Some throttle_write_bps_device } }
     {
-        LinuxBlockIoBuilder {
-            throttle_write_bps_device: Some(throttle_write_bps_device),
-            ..self
-        }
+        self.throttle_write_bps_device = Some(throttle_write_bps_device);
+        self
     }
 
     /// Sets `throttle_read_iops_device`: the most that may be read from single devices, in operations per second.
     pub fn throttle_read_iops_device(
-        self,
+        mut self,
         throttle_read_iops_device: Vec<LinuxThrottleDevice>,
     ) -> Self
         ensures { result ≡ record self { throttle_read_iops_device = Some throttle_read_iops_device } }
     {
-        LinuxBlockIoBuilder {
-            throttle_read_iops_device: Some(throttle_read_iops_device),
-            ..self
-        }
+        self.throttle_read_iops_device = Some(throttle_read_iops_device);
+        self
     }
 
     /// Sets `throttle_write_iops_device`: the most that may be written to single devices, in operations per second.
     pub fn throttle_write_iops_device(
-        self,
+        mut self,
         throttle_write_iops_device: Vec<LinuxThrottleDevice>,
     ) -> Self
         ensures { result ≡ record self { throttle_write_iops_device = Some throttle_write_iops_device } }
     {
-        LinuxBlockIoBuilder {
-            throttle_write_iops_device: Some(throttle_write_iops_device),
-            ..self
-        }
+        self.throttle_write_iops_device = Some(throttle_write_iops_device);
+        self
     }
 
     /// Builds the document.

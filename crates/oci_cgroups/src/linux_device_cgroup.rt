@@ -263,54 +263,44 @@ impl LinuxDeviceCgroupBuilder {
     ghost use Rattle.oci_json_model.specs.Types.{truth_plain};
 
     /// Sets `allow`: whether the rule allows what it names; else it forbids it. REQUIRED; `false` is read where it is absent.
-    pub fn allow(self, allow: bool) -> Self
+    pub fn allow(mut self, allow: bool) -> Self
         ensures { result ≡ record self { allow = Some allow } }
     {
-        LinuxDeviceCgroupBuilder {
-            allow: Some(allow),
-            ..self
-        }
+        self.allow = Some(allow);
+        self
     }
 
     /// Sets `typ`: the kind of device that the rule is for: `a`, `c` or `b`; all kinds where none is given. `u` and `p` are read too.
-    pub fn typ(self, typ: LinuxDeviceType) -> Self
+    pub fn typ(mut self, typ: LinuxDeviceType) -> Self
         ensures { result ≡ record self { typ = Some typ } }
     {
-        LinuxDeviceCgroupBuilder {
-            typ: Some(typ),
-            ..self
-        }
+        self.typ = Some(typ);
+        self
     }
 
     /// Sets `major`: the major number of the devices that the rule is for; all of them where none is given.
-    pub fn major(self, major: i64) -> Self
+    pub fn major(mut self, major: i64) -> Self
         ensures { result ≡ record self { major = Some major } }
     {
-        LinuxDeviceCgroupBuilder {
-            major: Some(major),
-            ..self
-        }
+        self.major = Some(major);
+        self
     }
 
     /// Sets `minor`: the minor number of the devices that the rule is for; all of them where none is given.
-    pub fn minor(self, minor: i64) -> Self
+    pub fn minor(mut self, minor: i64) -> Self
         ensures { result ≡ record self { minor = Some minor } }
     {
-        LinuxDeviceCgroupBuilder {
-            minor: Some(minor),
-            ..self
-        }
+        self.minor = Some(minor);
+        self
     }
 
     /// Sets `access`: the kinds of use that the rule is about, in letters: `r` for reading, `w` for writing, `m` for making a device file.
     /// The letters are not checked here.
-    pub fn access(self, access: String) -> Self
+    pub fn access(mut self, access: String) -> Self
         ensures { result ≡ record self { access = Some access } }
     {
-        LinuxDeviceCgroupBuilder {
-            access: Some(access),
-            ..self
-        }
+        self.access = Some(access);
+        self
     }
 
     /// Builds the document. Fields that are not set have their defaults.

@@ -130,24 +130,20 @@ impl LinuxHugepageLimitBuilder {
     ghost use Rattle.oci_json_model.specs.Types.{text_plain, integer_plain};
 
     /// Sets `page_size`: the size of the pages, a number with a unit, as `64KB`, `2MB` or `1GB`. REQUIRED; the form is not checked here.
-    pub fn page_size(self, page_size: String) -> Self
+    pub fn page_size(mut self, page_size: String) -> Self
         ensures { result ≡ record self { page_size = Some page_size } }
     {
-        LinuxHugepageLimitBuilder {
-            page_size: Some(page_size),
-            ..self
-        }
+        self.page_size = Some(page_size);
+        self
     }
 
     /// Sets `limit`: the limit in bytes: of what is reserved, or of what is used where the kernel counts no reservations. REQUIRED, and
     /// unsigned in the specification; a negative number is read too.
-    pub fn limit(self, limit: i64) -> Self
+    pub fn limit(mut self, limit: i64) -> Self
         ensures { result ≡ record self { limit = Some limit } }
     {
-        LinuxHugepageLimitBuilder {
-            limit: Some(limit),
-            ..self
-        }
+        self.limit = Some(limit);
+        self
     }
 
     /// Builds the document. Fields that are not set have their defaults.

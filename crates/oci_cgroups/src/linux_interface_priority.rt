@@ -130,23 +130,19 @@ impl LinuxInterfacePriorityBuilder {
 
     /// Sets `name`: the name of the interface, in the network namespace of the runtime. REQUIRED; the empty string is read where it is
     /// absent.
-    pub fn name(self, name: String) -> Self
+    pub fn name(mut self, name: String) -> Self
         ensures { result ≡ record self { name = Some name } }
     {
-        LinuxInterfacePriorityBuilder {
-            name: Some(name),
-            ..self
-        }
+        self.name = Some(name);
+        self
     }
 
     /// Sets `priority`: the priority of what the container sends through the interface. REQUIRED; 0 is read where it is absent.
-    pub fn priority(self, priority: u32) -> Self
+    pub fn priority(mut self, priority: u32) -> Self
         ensures { result ≡ record self { priority = Some priority } }
     {
-        LinuxInterfacePriorityBuilder {
-            priority: Some(priority),
-            ..self
-        }
+        self.priority = Some(priority);
+        self
     }
 
     /// Builds the document. Fields that are not set have their defaults.

@@ -139,23 +139,19 @@ impl LinuxNetworkBuilder {
     ghost use Rattle.std.specs.Prelude.{Some};
 
     /// Sets `class_id`: the class identifier that the container's packets are marked with.
-    pub fn class_id(self, class_id: u32) -> Self
+    pub fn class_id(mut self, class_id: u32) -> Self
         ensures { result ≡ record self { class_id = Some class_id } }
     {
-        LinuxNetworkBuilder {
-            class_id: Some(class_id),
-            ..self
-        }
+        self.class_id = Some(class_id);
+        self
     }
 
     /// Sets `priorities`: the priorities of the container's traffic, an interface each.
-    pub fn priorities(self, priorities: Vec<LinuxInterfacePriority>) -> Self
+    pub fn priorities(mut self, priorities: Vec<LinuxInterfacePriority>) -> Self
         ensures { result ≡ record self { priorities = Some priorities } }
     {
-        LinuxNetworkBuilder {
-            priorities: Some(priorities),
-            ..self
-        }
+        self.priorities = Some(priorities);
+        self
     }
 
     /// Builds the document.

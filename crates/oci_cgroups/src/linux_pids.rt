@@ -95,13 +95,11 @@ impl LinuxPidsBuilder {
     ghost use Rattle.oci_json_model.specs.Types.{integer_plain};
 
     /// Sets `limit`: the largest number of tasks; -1 is no limit. REQUIRED; 0 is read where it is absent.
-    pub fn limit(self, limit: i64) -> Self
+    pub fn limit(mut self, limit: i64) -> Self
         ensures { result ≡ record self { limit = Some limit } }
     {
-        LinuxPidsBuilder {
-            limit: Some(limit),
-            ..self
-        }
+        self.limit = Some(limit);
+        self
     }
 
     /// Builds the document. Fields that are not set have their defaults.

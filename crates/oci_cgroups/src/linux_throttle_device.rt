@@ -114,34 +114,28 @@ impl LinuxThrottleDeviceBuilder {
     ghost use Rattle.oci_json_model.specs.Types.{number_plain, integer_plain};
 
     /// Sets `major`: the device's major number. REQUIRED; 0 is read where it is absent.
-    pub fn major(self, major: i64) -> Self
+    pub fn major(mut self, major: i64) -> Self
         ensures { result ≡ record self { major = Some major } }
     {
-        LinuxThrottleDeviceBuilder {
-            major: Some(major),
-            ..self
-        }
+        self.major = Some(major);
+        self
     }
 
     /// Sets `minor`: the device's minor number. REQUIRED; 0 is read where it is absent.
-    pub fn minor(self, minor: i64) -> Self
+    pub fn minor(mut self, minor: i64) -> Self
         ensures { result ≡ record self { minor = Some minor } }
     {
-        LinuxThrottleDeviceBuilder {
-            minor: Some(minor),
-            ..self
-        }
+        self.minor = Some(minor);
+        self
     }
 
     /// Sets `rate`: the limit in a second: bytes or operations, depending on the list that it is in. REQUIRED; 0 is read where it is
     /// absent.
-    pub fn rate(self, rate: u64) -> Self
+    pub fn rate(mut self, rate: u64) -> Self
         ensures { result ≡ record self { rate = Some rate } }
     {
-        LinuxThrottleDeviceBuilder {
-            rate: Some(rate),
-            ..self
-        }
+        self.rate = Some(rate);
+        self
     }
 
     /// Builds the document. Fields that are not set have their defaults.

@@ -140,45 +140,37 @@ impl LinuxWeightDeviceBuilder {
     ghost use Rattle.oci_json_model.specs.Types.{integer_plain};
 
     /// Sets `major`: the device's major number. REQUIRED; 0 is read where it is absent.
-    pub fn major(self, major: i64) -> Self
+    pub fn major(mut self, major: i64) -> Self
         ensures { result ≡ record self { major = Some major } }
     {
-        LinuxWeightDeviceBuilder {
-            major: Some(major),
-            ..self
-        }
+        self.major = Some(major);
+        self
     }
 
     /// Sets `minor`: the device's minor number. REQUIRED; 0 is read where it is absent.
-    pub fn minor(self, minor: i64) -> Self
+    pub fn minor(mut self, minor: i64) -> Self
         ensures { result ≡ record self { minor = Some minor } }
     {
-        LinuxWeightDeviceBuilder {
-            minor: Some(minor),
-            ..self
-        }
+        self.minor = Some(minor);
+        self
     }
 
     /// Sets `weight`: the weight of the container's group on this device, from 10 to 1000. At least one of `weight` and `leafWeight` MUST
     /// be there; neither this nor the range is checked here.
-    pub fn weight(self, weight: u16) -> Self
+    pub fn weight(mut self, weight: u16) -> Self
         ensures { result ≡ record self { weight = Some weight } }
     {
-        LinuxWeightDeviceBuilder {
-            weight: Some(weight),
-            ..self
-        }
+        self.weight = Some(weight);
+        self
     }
 
     /// Sets `leaf_weight`: the weight of the group's own tasks on this device against the groups below it, from 10 to 1000; for the CFQ
     /// scheduler alone. The range is not checked here.
-    pub fn leaf_weight(self, leaf_weight: u16) -> Self
+    pub fn leaf_weight(mut self, leaf_weight: u16) -> Self
         ensures { result ≡ record self { leaf_weight = Some leaf_weight } }
     {
-        LinuxWeightDeviceBuilder {
-            leaf_weight: Some(leaf_weight),
-            ..self
-        }
+        self.leaf_weight = Some(leaf_weight);
+        self
     }
 
     /// Builds the document. Fields that are not set have their defaults.

@@ -126,24 +126,20 @@ impl LinuxRdmaBuilder {
 
     /// Sets `hca_handles`: the largest number of handles of the host channel adapter that may be open; no limit where none is given. At
     /// least one of both limits MUST be there; not checked here.
-    pub fn hca_handles(self, hca_handles: u32) -> Self
+    pub fn hca_handles(mut self, hca_handles: u32) -> Self
         ensures { result ≡ record self { hca_handles = Some hca_handles } }
     {
-        LinuxRdmaBuilder {
-            hca_handles: Some(hca_handles),
-            ..self
-        }
+        self.hca_handles = Some(hca_handles);
+        self
     }
 
     /// Sets `hca_objects`: the largest number of objects of the host channel adapter that may be made; no limit where none is given. At
     /// least one of both limits MUST be there; not checked here.
-    pub fn hca_objects(self, hca_objects: u32) -> Self
+    pub fn hca_objects(mut self, hca_objects: u32) -> Self
         ensures { result ≡ record self { hca_objects = Some hca_objects } }
     {
-        LinuxRdmaBuilder {
-            hca_objects: Some(hca_objects),
-            ..self
-        }
+        self.hca_objects = Some(hca_objects);
+        self
     }
 
     /// Builds the document.

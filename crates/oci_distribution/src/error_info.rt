@@ -130,33 +130,27 @@ impl ErrorInfoBuilder {
     ghost use Rattle.oci_distribution.specs.ErrorInfoBuilder.{error_info_unset};
 
     /// Sets `code`: the error's identifier. MUST be one of the specification's codes; any other is rejected.
-    pub fn code(self, code: ErrorCode) -> Self
+    pub fn code(mut self, code: ErrorCode) -> Self
         ensures { result ≡ record self { code = Some code } }
     {
-        ErrorInfoBuilder {
-            code: Some(code),
-            ..self
-        }
+        self.code = Some(code);
+        self
     }
 
     /// Sets `message`: the error in words for a person. OPTIONAL, and MAY be empty.
-    pub fn message(self, message: String) -> Self
+    pub fn message(mut self, message: String) -> Self
         ensures { result ≡ record self { message = Some message } }
     {
-        ErrorInfoBuilder {
-            message: Some(message),
-            ..self
-        }
+        self.message = Some(message);
+        self
     }
 
     /// Sets `detail`: data that helps to resolve the error: any JSON value, as compact text.
-    pub fn detail(self, detail: String) -> Self
+    pub fn detail(mut self, detail: String) -> Self
         ensures { result ≡ record self { detail = Some detail } }
     {
-        ErrorInfoBuilder {
-            detail: Some(detail),
-            ..self
-        }
+        self.detail = Some(detail);
+        self
     }
 
     /// Builds the document. Fails with `Builder`, which names the first required field that is not set.

@@ -90,13 +90,11 @@ impl ErrorResponseBuilder {
     ghost use Rattle.oci_distribution.specs.ErrorResponseBuilder.{error_response_unset};
 
     /// Sets `errors`: the errors, in the registry's order. None at all is not rejected.
-    pub fn errors(self, errors: Vec<ErrorInfo>) -> Self
+    pub fn errors(mut self, errors: Vec<ErrorInfo>) -> Self
         ensures { result ≡ record self { errors = Some errors } }
     {
-        ErrorResponseBuilder {
-            errors: Some(errors),
-            ..self
-        }
+        self.errors = Some(errors);
+        self
     }
 
     /// Builds the document. Fails with `Builder`, which names the first required field that is not set.

@@ -94,13 +94,11 @@ impl RepositoryListBuilder {
     ghost use Rattle.oci_distribution.specs.RepositoryListBuilder.{repository_list_unset};
 
     /// Sets `repositories`: the names of the repositories. Their grammar is not checked here.
-    pub fn repositories(self, repositories: Vec<String>) -> Self
+    pub fn repositories(mut self, repositories: Vec<String>) -> Self
         ensures { result ≡ record self { repositories = Some repositories } }
     {
-        RepositoryListBuilder {
-            repositories: Some(repositories),
-            ..self
-        }
+        self.repositories = Some(repositories);
+        self
     }
 
     /// Builds the document. Fails with `Builder`, which names the first required field that is not set.

@@ -113,23 +113,19 @@ impl TagListBuilder {
     ghost use Rattle.oci_distribution.specs.TagListBuilder.{tag_list_unset};
 
     /// Sets `name`: the name of the repository. Its grammar is not checked here.
-    pub fn name(self, name: String) -> Self
+    pub fn name(mut self, name: String) -> Self
         ensures { result ≡ record self { name = Some name } }
     {
-        TagListBuilder {
-            name: Some(name),
-            ..self
-        }
+        self.name = Some(name);
+        self
     }
 
     /// Sets `tags`: the tags. MUST be in lexical order; neither that nor their grammar is checked here.
-    pub fn tags(self, tags: Vec<String>) -> Self
+    pub fn tags(mut self, tags: Vec<String>) -> Self
         ensures { result ≡ record self { tags = Some tags } }
     {
-        TagListBuilder {
-            tags: Some(tags),
-            ..self
-        }
+        self.tags = Some(tags);
+        self
     }
 
     /// Builds the document. Fails with `Builder`, which names the first required field that is not set.

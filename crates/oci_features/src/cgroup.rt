@@ -264,53 +264,43 @@ impl CgroupBuilder {
     ghost use Rattle.std.specs.Prelude.{Some};
 
     /// Sets `v1`: whether the runtime has version 1 of control groups; none where that is not known.
-    pub fn v1(self, v1: bool) -> Self
+    pub fn v1(mut self, v1: bool) -> Self
         ensures { result ≡ record self { v1 = Some v1 } }
     {
-        CgroupBuilder {
-            v1: Some(v1),
-            ..self
-        }
+        self.v1 = Some(v1);
+        self
     }
 
     /// Sets `v2`: whether the runtime has version 2 of control groups; none where that is not known.
-    pub fn v2(self, v2: bool) -> Self
+    pub fn v2(mut self, v2: bool) -> Self
         ensures { result ≡ record self { v2 = Some v2 } }
     {
-        CgroupBuilder {
-            v2: Some(v2),
-            ..self
-        }
+        self.v2 = Some(v2);
+        self
     }
 
     /// Sets `systemd`: whether the runtime has control groups that systemd manages for the system; none where that is not known.
-    pub fn systemd(self, systemd: bool) -> Self
+    pub fn systemd(mut self, systemd: bool) -> Self
         ensures { result ≡ record self { systemd = Some systemd } }
     {
-        CgroupBuilder {
-            systemd: Some(systemd),
-            ..self
-        }
+        self.systemd = Some(systemd);
+        self
     }
 
     /// Sets `systemd_user`: whether the runtime has control groups that systemd manages for a user; none where that is not known.
-    pub fn systemd_user(self, systemd_user: bool) -> Self
+    pub fn systemd_user(mut self, systemd_user: bool) -> Self
         ensures { result ≡ record self { systemd_user = Some systemd_user } }
     {
-        CgroupBuilder {
-            systemd_user: Some(systemd_user),
-            ..self
-        }
+        self.systemd_user = Some(systemd_user);
+        self
     }
 
     /// Sets `rdma`: whether the runtime has limits for remote direct memory access; none where that is not known.
-    pub fn rdma(self, rdma: bool) -> Self
+    pub fn rdma(mut self, rdma: bool) -> Self
         ensures { result ≡ record self { rdma = Some rdma } }
     {
-        CgroupBuilder {
-            rdma: Some(rdma),
-            ..self
-        }
+        self.rdma = Some(rdma);
+        self
     }
 
     /// Builds the document.

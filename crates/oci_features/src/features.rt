@@ -364,79 +364,65 @@ impl FeaturesBuilder {
 
     /// Sets `oci_version_min`: the lowest version of the runtime specification that the runtime knows, as `1.0.0`; it MUST accept it as
     /// `ociVersion`. REQUIRED; the form is not checked here.
-    pub fn oci_version_min(self, oci_version_min: String) -> Self
+    pub fn oci_version_min(mut self, oci_version_min: String) -> Self
         ensures { result ≡ record self { oci_version_min = Some oci_version_min } }
     {
-        FeaturesBuilder {
-            oci_version_min: Some(oci_version_min),
-            ..self
-        }
+        self.oci_version_min = Some(oci_version_min);
+        self
     }
 
     /// Sets `oci_version_max`: the highest version of the runtime specification that the runtime knows, as `1.1.0`; it MUST accept it as
     /// `ociVersion`. REQUIRED; it MUST NOT be less than `ociVersionMin`, which is not checked here.
-    pub fn oci_version_max(self, oci_version_max: String) -> Self
+    pub fn oci_version_max(mut self, oci_version_max: String) -> Self
         ensures { result ≡ record self { oci_version_max = Some oci_version_max } }
     {
-        FeaturesBuilder {
-            oci_version_max: Some(oci_version_max),
-            ..self
-        }
+        self.oci_version_max = Some(oci_version_max);
+        self
     }
 
     /// Sets `hooks`: the kinds of hooks that the runtime knows, as `createRuntime`; it MUST support them. None where they are not known.
-    pub fn hooks(self, hooks: Vec<String>) -> Self
+    pub fn hooks(mut self, hooks: Vec<String>) -> Self
         ensures { result ≡ record self { hooks = Some hooks } }
     {
-        FeaturesBuilder {
-            hooks: Some(hooks),
-            ..self
-        }
+        self.hooks = Some(hooks);
+        self
     }
 
     /// Sets `mount_options`: the options of mounts that the runtime knows, as `ro`; it MUST recognize them, and they SHOULD NOT be those of
     /// one file system. None where they are not known.
-    pub fn mount_options(self, mount_options: Vec<String>) -> Self
+    pub fn mount_options(mut self, mount_options: Vec<String>) -> Self
         ensures { result ≡ record self { mount_options = Some mount_options } }
     {
-        FeaturesBuilder {
-            mount_options: Some(mount_options),
-            ..self
-        }
+        self.mount_options = Some(mount_options);
+        self
     }
 
     /// Sets `linux`: what the runtime can do on Linux.
-    pub fn linux(self, linux: LinuxFeature) -> Self
+    pub fn linux(mut self, linux: LinuxFeature) -> Self
         ensures { result ≡ record self { linux = Some linux } }
     {
-        FeaturesBuilder {
-            linux: Some(linux),
-            ..self
-        }
+        self.linux = Some(linux);
+        self
     }
 
     /// Sets `annotations`: what the runtime reports about itself beyond the specification, by key.
-    pub fn annotations(self, annotations: BTreeMap<String, String>) -> Self
+    pub fn annotations(mut self, annotations: BTreeMap<String, String>) -> Self
         ensures { result ≡ record self { annotations = Some annotations } }
     {
-        FeaturesBuilder {
-            annotations: Some(annotations),
-            ..self
-        }
+        self.annotations = Some(annotations);
+        self
     }
 
     /// Sets `potentially_unsafe_config_annotations`: the annotations of a configuration that may change what the runtime does; one that
     /// ends in a full stop is the beginning of many.
     pub fn potentially_unsafe_config_annotations(
-        self,
+        mut self,
         potentially_unsafe_config_annotations: Vec<String>,
     ) -> Self
         ensures { result ≡ record self { potentially_unsafe_config_annotations = Some potentially_unsafe_config_annotations } }
     {
-        FeaturesBuilder {
-            potentially_unsafe_config_annotations: Some(potentially_unsafe_config_annotations),
-            ..self
-        }
+        self.potentially_unsafe_config_annotations = Some(potentially_unsafe_config_annotations);
+        self
     }
 
     /// Builds the document. Fields that are not set have their defaults.

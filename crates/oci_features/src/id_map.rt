@@ -111,13 +111,11 @@ impl IDMapBuilder {
     ghost use Rattle.std.specs.Prelude.{Some};
 
     /// Sets `enabled`: whether the runtime has mounts with mapped IDs; none where that is not known.
-    pub fn enabled(self, enabled: bool) -> Self
+    pub fn enabled(mut self, enabled: bool) -> Self
         ensures { result ≡ record self { enabled = Some enabled } }
     {
-        IDMapBuilder {
-            enabled: Some(enabled),
-            ..self
-        }
+        self.enabled = Some(enabled);
+        self
     }
 
     /// Builds the document.

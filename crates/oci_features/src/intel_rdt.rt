@@ -187,33 +187,27 @@ impl IntelRdtBuilder {
     ghost use Rattle.std.specs.Prelude.{Some};
 
     /// Sets `enabled`: whether the runtime has this technology; none where that is not known.
-    pub fn enabled(self, enabled: bool) -> Self
+    pub fn enabled(mut self, enabled: bool) -> Self
         ensures { result ≡ record self { enabled = Some enabled } }
     {
-        IntelRdtBuilder {
-            enabled: Some(enabled),
-            ..self
-        }
+        self.enabled = Some(enabled);
+        self
     }
 
     /// Sets `schemata`: whether the runtime follows the member `schemata` of a configuration; none where that is not known.
-    pub fn schemata(self, schemata: bool) -> Self
+    pub fn schemata(mut self, schemata: bool) -> Self
         ensures { result ≡ record self { schemata = Some schemata } }
     {
-        IntelRdtBuilder {
-            schemata: Some(schemata),
-            ..self
-        }
+        self.schemata = Some(schemata);
+        self
     }
 
     /// Sets `monitoring`: whether the runtime follows the member `enableMonitoring` of a configuration; none where that is not known.
-    pub fn monitoring(self, monitoring: bool) -> Self
+    pub fn monitoring(mut self, monitoring: bool) -> Self
         ensures { result ≡ record self { monitoring = Some monitoring } }
     {
-        IntelRdtBuilder {
-            monitoring: Some(monitoring),
-            ..self
-        }
+        self.monitoring = Some(monitoring);
+        self
     }
 
     /// Builds the document.

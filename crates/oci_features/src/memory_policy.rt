@@ -145,23 +145,19 @@ impl MemoryPolicyBuilder {
     ghost use Rattle.std.specs.Prelude.{Some};
 
     /// Sets `modes`: the modes that the runtime knows, as `MPOL_INTERLEAVE`; none where they are not known.
-    pub fn modes(self, modes: Vec<String>) -> Self
+    pub fn modes(mut self, modes: Vec<String>) -> Self
         ensures { result ≡ record self { modes = Some modes } }
     {
-        MemoryPolicyBuilder {
-            modes: Some(modes),
-            ..self
-        }
+        self.modes = Some(modes);
+        self
     }
 
     /// Sets `flags`: the flags that the runtime knows, as `MPOL_F_STATIC_NODES`; none where they are not known.
-    pub fn flags(self, flags: Vec<String>) -> Self
+    pub fn flags(mut self, flags: Vec<String>) -> Self
         ensures { result ≡ record self { flags = Some flags } }
     {
-        MemoryPolicyBuilder {
-            flags: Some(flags),
-            ..self
-        }
+        self.flags = Some(flags);
+        self
     }
 
     /// Builds the document.

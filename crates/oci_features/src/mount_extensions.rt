@@ -112,13 +112,11 @@ impl MountExtensionsBuilder {
     ghost use Rattle.std.specs.Prelude.{Some};
 
     /// Sets `idmap`: whether the runtime has mounts with mapped IDs.
-    pub fn idmap(self, idmap: IDMap) -> Self
+    pub fn idmap(mut self, idmap: IDMap) -> Self
         ensures { result ≡ record self { idmap = Some idmap } }
     {
-        MountExtensionsBuilder {
-            idmap: Some(idmap),
-            ..self
-        }
+        self.idmap = Some(idmap);
+        self
     }
 
     /// Builds the document.

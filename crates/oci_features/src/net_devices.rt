@@ -111,13 +111,11 @@ impl NetDevicesBuilder {
     ghost use Rattle.std.specs.Prelude.{Some};
 
     /// Sets `enabled`: whether the runtime can move network devices into a container; none where that is not known.
-    pub fn enabled(self, enabled: bool) -> Self
+    pub fn enabled(mut self, enabled: bool) -> Self
         ensures { result ≡ record self { enabled = Some enabled } }
     {
-        NetDevicesBuilder {
-            enabled: Some(enabled),
-            ..self
-        }
+        self.enabled = Some(enabled);
+        self
     }
 
     /// Builds the document.

@@ -304,66 +304,54 @@ impl SeccompBuilder {
     ghost use Rattle.std.specs.Prelude.{Some};
 
     /// Sets `enabled`: whether the runtime has filters of system calls; none where that is not known.
-    pub fn enabled(self, enabled: bool) -> Self
+    pub fn enabled(mut self, enabled: bool) -> Self
         ensures { result ≡ record self { enabled = Some enabled } }
     {
-        SeccompBuilder {
-            enabled: Some(enabled),
-            ..self
-        }
+        self.enabled = Some(enabled);
+        self
     }
 
     /// Sets `actions`: the actions that the runtime knows; it MUST recognize them in `config.json`. None where they are not known.
-    pub fn actions(self, actions: Vec<LinuxSeccompAction>) -> Self
+    pub fn actions(mut self, actions: Vec<LinuxSeccompAction>) -> Self
         ensures { result ≡ record self { actions = Some actions } }
     {
-        SeccompBuilder {
-            actions: Some(actions),
-            ..self
-        }
+        self.actions = Some(actions);
+        self
     }
 
     /// Sets `operators`: the comparisons that the runtime knows, as `SCMP_CMP_NE`; it MUST recognize them in `config.json`. None where they
     /// are not known.
-    pub fn operators(self, operators: Vec<String>) -> Self
+    pub fn operators(mut self, operators: Vec<String>) -> Self
         ensures { result ≡ record self { operators = Some operators } }
     {
-        SeccompBuilder {
-            operators: Some(operators),
-            ..self
-        }
+        self.operators = Some(operators);
+        self
     }
 
     /// Sets `archs`: the processors that the runtime knows; it MUST recognize them in `config.json`. None where they are not known.
-    pub fn archs(self, archs: Vec<SArch>) -> Self
+    pub fn archs(mut self, archs: Vec<SArch>) -> Self
         ensures { result ≡ record self { archs = Some archs } }
     {
-        SeccompBuilder {
-            archs: Some(archs),
-            ..self
-        }
+        self.archs = Some(archs);
+        self
     }
 
     /// Sets `known_flags`: the flags that the runtime knows, as `SECCOMP_FILTER_FLAG_LOG`; it MUST recognize them in `config.json`. None
     /// where they are not known.
-    pub fn known_flags(self, known_flags: Vec<String>) -> Self
+    pub fn known_flags(mut self, known_flags: Vec<String>) -> Self
         ensures { result ≡ record self { known_flags = Some known_flags } }
     {
-        SeccompBuilder {
-            known_flags: Some(known_flags),
-            ..self
-        }
+        self.known_flags = Some(known_flags);
+        self
     }
 
     /// Sets `supported_flags`: the flags that the runtime and its host can set, some of those that it knows; it MUST support them. None
     /// where they are not known.
-    pub fn supported_flags(self, supported_flags: Vec<String>) -> Self
+    pub fn supported_flags(mut self, supported_flags: Vec<String>) -> Self
         ensures { result ≡ record self { supported_flags = Some supported_flags } }
     {
-        SeccompBuilder {
-            supported_flags: Some(supported_flags),
-            ..self
-        }
+        self.supported_flags = Some(supported_flags);
+        self
     }
 
     /// Builds the document.

@@ -110,13 +110,11 @@ impl SelinuxBuilder {
     ghost use Rattle.std.specs.Prelude.{Some};
 
     /// Sets `enabled`: whether the runtime has SELinux; none where that is not known.
-    pub fn enabled(self, enabled: bool) -> Self
+    pub fn enabled(mut self, enabled: bool) -> Self
         ensures { result ≡ record self { enabled = Some enabled } }
     {
-        SelinuxBuilder {
-            enabled: Some(enabled),
-            ..self
-        }
+        self.enabled = Some(enabled);
+        self
     }
 
     /// Builds the document.

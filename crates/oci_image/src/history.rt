@@ -230,54 +230,44 @@ impl HistoryBuilder {
     ghost use Rattle.std.specs.Prelude.{Some};
 
     /// Sets `created`: when the layer was created, a date and time by RFC 3339, section 5.6. The format is not checked here.
-    pub fn created(self, created: String) -> Self
+    pub fn created(mut self, created: String) -> Self
         ensures { result ≡ record self { created = Some created } }
     {
-        HistoryBuilder {
-            created: Some(created),
-            ..self
-        }
+        self.created = Some(created);
+        self
     }
 
     /// Sets `author`: who made this step of the build.
-    pub fn author(self, author: String) -> Self
+    pub fn author(mut self, author: String) -> Self
         ensures { result ≡ record self { author = Some author } }
     {
-        HistoryBuilder {
-            author: Some(author),
-            ..self
-        }
+        self.author = Some(author);
+        self
     }
 
     /// Sets `created_by`: the command that created the layer.
-    pub fn created_by(self, created_by: String) -> Self
+    pub fn created_by(mut self, created_by: String) -> Self
         ensures { result ≡ record self { created_by = Some created_by } }
     {
-        HistoryBuilder {
-            created_by: Some(created_by),
-            ..self
-        }
+        self.created_by = Some(created_by);
+        self
     }
 
     /// Sets `comment`: a message that was set when the layer was created.
-    pub fn comment(self, comment: String) -> Self
+    pub fn comment(mut self, comment: String) -> Self
         ensures { result ≡ record self { comment = Some comment } }
     {
-        HistoryBuilder {
-            comment: Some(comment),
-            ..self
-        }
+        self.comment = Some(comment);
+        self
     }
 
     /// Sets `empty_layer`: whether the step made no layer: `true` where no entry of `rootfs` belongs to it, as for a change of the
     /// environment alone.
-    pub fn empty_layer(self, empty_layer: bool) -> Self
+    pub fn empty_layer(mut self, empty_layer: bool) -> Self
         ensures { result ≡ record self { empty_layer = Some empty_layer } }
     {
-        HistoryBuilder {
-            empty_layer: Some(empty_layer),
-            ..self
-        }
+        self.empty_layer = Some(empty_layer);
+        self
     }
 
     /// Builds the document.

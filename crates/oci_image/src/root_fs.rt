@@ -146,23 +146,19 @@ impl RootFsBuilder {
     ghost use Rattle.oci_json_model.specs.Types.{text_plain, list_plain};
 
     /// Sets `typ`: the kind of file system. MUST be `layers`; not checked here.
-    pub fn typ(self, typ: String) -> Self
+    pub fn typ(mut self, typ: String) -> Self
         ensures { result ≡ record self { typ = Some typ } }
     {
-        RootFsBuilder {
-            typ: Some(typ),
-            ..self
-        }
+        self.typ = Some(typ);
+        self
     }
 
     /// Sets `diff_ids`: the digests of the uncompressed layers (`DiffID`), the base layer first. That each is a digest is not checked here.
-    pub fn diff_ids(self, diff_ids: Vec<String>) -> Self
+    pub fn diff_ids(mut self, diff_ids: Vec<String>) -> Self
         ensures { result ≡ record self { diff_ids = Some diff_ids } }
     {
-        RootFsBuilder {
-            diff_ids: Some(diff_ids),
-            ..self
-        }
+        self.diff_ids = Some(diff_ids);
+        self
     }
 
     /// Builds the document. Fields that are not set have their defaults.

@@ -321,46 +321,38 @@ impl ArtifactManifestBuilder {
 
     /// Sets `artifact_type`: the media type of the artifact, which SHOULD be set and is required here. MUST be one by RFC 6838, section
     /// 4.2; not checked here.
-    pub fn artifact_type(self, artifact_type: MediaType) -> Self
+    pub fn artifact_type(mut self, artifact_type: MediaType) -> Self
         ensures { result ≡ record self { artifact_type = Some artifact_type } }
     {
-        ArtifactManifestBuilder {
-            artifact_type: Some(artifact_type),
-            ..self
-        }
+        self.artifact_type = Some(artifact_type);
+        self
     }
 
     /// Sets `blobs`: the descriptors of the artifact's content, of any media types. OPTIONAL in the specification, and required here when
     /// read.
-    pub fn blobs(self, blobs: Vec<Descriptor>) -> Self
+    pub fn blobs(mut self, blobs: Vec<Descriptor>) -> Self
         ensures { result ≡ record self { blobs = Some blobs } }
     {
-        ArtifactManifestBuilder {
-            blobs: Some(blobs),
-            ..self
-        }
+        self.blobs = Some(blobs);
+        self
     }
 
     /// Sets `subject`: the descriptor of another manifest to which this manifest is related. Registries list it among that manifest's
     /// referrers.
-    pub fn subject(self, subject: Descriptor) -> Self
+    pub fn subject(mut self, subject: Descriptor) -> Self
         ensures { result ≡ record self { subject = Some subject } }
     {
-        ArtifactManifestBuilder {
-            subject: Some(subject),
-            ..self
-        }
+        self.subject = Some(subject);
+        self
     }
 
     /// Sets `annotations`: any metadata for the artifact, by its key. Keys SHOULD be in reverse domain notation, and `org.opencontainers`
     /// is reserved; not checked here.
-    pub fn annotations(self, annotations: BTreeMap<String, String>) -> Self
+    pub fn annotations(mut self, annotations: BTreeMap<String, String>) -> Self
         ensures { result ≡ record self { annotations = Some annotations } }
     {
-        ArtifactManifestBuilder {
-            annotations: Some(annotations),
-            ..self
-        }
+        self.annotations = Some(annotations);
+        self
     }
 
     /// Builds the document. Fails with `Builder`, which names the first required field that is not set. Fields that are not set have their defaults.

@@ -372,68 +372,56 @@ impl ImageIndexBuilder {
     ghost use Rattle.oci_image_manifest.specs.ImageIndexBuilder.{image_index_unset};
 
     /// Sets `schema_version`: the index schema version. MUST be 2; not checked here.
-    pub fn schema_version(self, schema_version: u32) -> Self
+    pub fn schema_version(mut self, schema_version: u32) -> Self
         ensures { result ≡ record self { schema_version = Some schema_version } }
     {
-        ImageIndexBuilder {
-            schema_version: Some(schema_version),
-            ..self
-        }
+        self.schema_version = Some(schema_version);
+        self
     }
 
     /// Sets `media_type`: the media type of the index itself. SHOULD be set, and MUST then be `application/vnd.oci.image.index.v1+json`;
     /// not checked here.
-    pub fn media_type(self, media_type: MediaType) -> Self
+    pub fn media_type(mut self, media_type: MediaType) -> Self
         ensures { result ≡ record self { media_type = Some media_type } }
     {
-        ImageIndexBuilder {
-            media_type: Some(media_type),
-            ..self
-        }
+        self.media_type = Some(media_type);
+        self
     }
 
     /// Sets `artifact_type`: the type of the artifact, where the index is used for one. MUST be one by RFC 6838, section 4.2; not checked
     /// here.
-    pub fn artifact_type(self, artifact_type: MediaType) -> Self
+    pub fn artifact_type(mut self, artifact_type: MediaType) -> Self
         ensures { result ≡ record self { artifact_type = Some artifact_type } }
     {
-        ImageIndexBuilder {
-            artifact_type: Some(artifact_type),
-            ..self
-        }
+        self.artifact_type = Some(artifact_type);
+        self
     }
 
     /// Sets `manifests`: the descriptors of the manifests, perhaps none. Of several that match a platform, the first SHOULD be used. Each
     /// media type SHOULD be a manifest's or an index's; not checked here.
-    pub fn manifests(self, manifests: Vec<Descriptor>) -> Self
+    pub fn manifests(mut self, manifests: Vec<Descriptor>) -> Self
         ensures { result ≡ record self { manifests = Some manifests } }
     {
-        ImageIndexBuilder {
-            manifests: Some(manifests),
-            ..self
-        }
+        self.manifests = Some(manifests);
+        self
     }
 
     /// Sets `subject`: the descriptor of another manifest to which this index is related. Registries list it among that manifest's
     /// referrers.
-    pub fn subject(self, subject: Descriptor) -> Self
+    pub fn subject(mut self, subject: Descriptor) -> Self
         ensures { result ≡ record self { subject = Some subject } }
     {
-        ImageIndexBuilder {
-            subject: Some(subject),
-            ..self
-        }
+        self.subject = Some(subject);
+        self
     }
 
     /// Sets `annotations`: any metadata for the index, by its key. Keys SHOULD be in reverse domain notation, and `org.opencontainers` is
     /// reserved; not checked here.
-    pub fn annotations(self, annotations: BTreeMap<String, String>) -> Self
+    pub fn annotations(mut self, annotations: BTreeMap<String, String>) -> Self
         ensures { result ≡ record self { annotations = Some annotations } }
     {
-        ImageIndexBuilder {
-            annotations: Some(annotations),
-            ..self
-        }
+        self.annotations = Some(annotations);
+        self
     }
 
     /// Builds the document. Fails with `Builder`, which names the first required field that is not set.

@@ -193,13 +193,11 @@ impl OciLayoutBuilder {
     ghost use Rattle.oci_image_manifest.specs.OciLayoutBuilder.{oci_layout_unset};
 
     /// Sets `image_layout_version`: the version of the image layout, as `1.0.0`. Any string is read.
-    pub fn image_layout_version(self, image_layout_version: String) -> Self
+    pub fn image_layout_version(mut self, image_layout_version: String) -> Self
         ensures { result ≡ record self { image_layout_version = Some image_layout_version } }
     {
-        OciLayoutBuilder {
-            image_layout_version: Some(image_layout_version),
-            ..self
-        }
+        self.image_layout_version = Some(image_layout_version);
+        self
     }
 
     /// Builds the document. Fails with `Builder`, which names the first required field that is not set.

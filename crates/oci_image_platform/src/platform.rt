@@ -307,66 +307,54 @@ impl PlatformBuilder {
     ghost use Rattle.oci_image_platform.specs.PlatformBuilder.{platform_unset};
 
     /// Sets `architecture`: the CPU architecture. SHOULD be a value of Go's `GOARCH`; any other string is read as well.
-    pub fn architecture(self, architecture: Arch) -> Self
+    pub fn architecture(mut self, architecture: Arch) -> Self
         ensures { result ≡ record self { architecture = Some architecture } }
     {
-        PlatformBuilder {
-            architecture: Some(architecture),
-            ..self
-        }
+        self.architecture = Some(architecture);
+        self
     }
 
     /// Sets `os`: the operating system. SHOULD be a value of Go's `GOOS`; any other string is read as well.
-    pub fn os(self, os: Os) -> Self
+    pub fn os(mut self, os: Os) -> Self
         ensures { result ≡ record self { os = Some os } }
     {
-        PlatformBuilder {
-            os: Some(os),
-            ..self
-        }
+        self.os = Some(os);
+        self
     }
 
     /// Sets `os_version`: the version of the operating system that the image targets, as `10.0.14393.1066` on Windows; which there are is
     /// left to implementations.
-    pub fn os_version(self, os_version: String) -> Self
+    pub fn os_version(mut self, os_version: String) -> Self
         ensures { result ≡ record self { os_version = Some os_version } }
     {
-        PlatformBuilder {
-            os_version: Some(os_version),
-            ..self
-        }
+        self.os_version = Some(os_version);
+        self
     }
 
     /// Sets `os_features`: features of the operating system that the image requires. On Windows they SHOULD be of the specification's list,
     /// which has `win32k`; not checked here.
-    pub fn os_features(self, os_features: Vec<String>) -> Self
+    pub fn os_features(mut self, os_features: Vec<String>) -> Self
         ensures { result ≡ record self { os_features = Some os_features } }
     {
-        PlatformBuilder {
-            os_features: Some(os_features),
-            ..self
-        }
+        self.os_features = Some(os_features);
+        self
     }
 
     /// Sets `variant`: the variant of the CPU architecture. SHOULD be of the specification's table: `v6`, `v7` or `v8` of `arm`, `v8` of
     /// `arm64`; not checked here.
-    pub fn variant(self, variant: String) -> Self
+    pub fn variant(mut self, variant: String) -> Self
         ensures { result ≡ record self { variant = Some variant } }
     {
-        PlatformBuilder {
-            variant: Some(variant),
-            ..self
-        }
+        self.variant = Some(variant);
+        self
     }
 
     /// Sets `features`: RESERVED for future versions of the specification; kept as it is read.
-    pub fn features(self, features: Vec<String>) -> Self
+    pub fn features(mut self, features: Vec<String>) -> Self
         ensures { result ≡ record self { features = Some features } }
     {
-        PlatformBuilder {
-            features: Some(features),
-            ..self
-        }
+        self.features = Some(features);
+        self
     }
 
     /// Builds the document. Fails with `Builder`, which names the first required field that is not set.

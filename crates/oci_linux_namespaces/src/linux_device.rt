@@ -324,74 +324,60 @@ impl LinuxDeviceBuilder {
 
     /// Sets `path`: the full path of the file in the container. REQUIRED; the empty string is read where it is absent, and the form is not
     /// checked here.
-    pub fn path(self, path: String) -> Self
+    pub fn path(mut self, path: String) -> Self
         ensures { result ≡ record self { path = Some path } }
     {
-        LinuxDeviceBuilder {
-            path: Some(path),
-            ..self
-        }
+        self.path = Some(path);
+        self
     }
 
     /// Sets `typ`: the kind of device: `c`, `b`, `u` or `p`. REQUIRED. The same `type`, `major` and `minor` SHOULD NOT be used for several
     /// devices; not checked here.
-    pub fn typ(self, typ: LinuxDeviceType) -> Self
+    pub fn typ(mut self, typ: LinuxDeviceType) -> Self
         ensures { result ≡ record self { typ = Some typ } }
     {
-        LinuxDeviceBuilder {
-            typ: Some(typ),
-            ..self
-        }
+        self.typ = Some(typ);
+        self
     }
 
     /// Sets `major`: the device's major number. REQUIRED unless `type` is `p`; 0 is read where it is absent.
-    pub fn major(self, major: i64) -> Self
+    pub fn major(mut self, major: i64) -> Self
         ensures { result ≡ record self { major = Some major } }
     {
-        LinuxDeviceBuilder {
-            major: Some(major),
-            ..self
-        }
+        self.major = Some(major);
+        self
     }
 
     /// Sets `minor`: the device's minor number. REQUIRED unless `type` is `p`; 0 is read where it is absent.
-    pub fn minor(self, minor: i64) -> Self
+    pub fn minor(mut self, minor: i64) -> Self
         ensures { result ≡ record self { minor = Some minor } }
     {
-        LinuxDeviceBuilder {
-            minor: Some(minor),
-            ..self
-        }
+        self.minor = Some(minor);
+        self
     }
 
     /// Sets `file_mode`: the permission bits of the file.
-    pub fn file_mode(self, file_mode: u32) -> Self
+    pub fn file_mode(mut self, file_mode: u32) -> Self
         ensures { result ≡ record self { file_mode = Some file_mode } }
     {
-        LinuxDeviceBuilder {
-            file_mode: Some(file_mode),
-            ..self
-        }
+        self.file_mode = Some(file_mode);
+        self
     }
 
     /// Sets `uid`: the ID of the user that owns the file, in the container.
-    pub fn uid(self, uid: u32) -> Self
+    pub fn uid(mut self, uid: u32) -> Self
         ensures { result ≡ record self { uid = Some uid } }
     {
-        LinuxDeviceBuilder {
-            uid: Some(uid),
-            ..self
-        }
+        self.uid = Some(uid);
+        self
     }
 
     /// Sets `gid`: the ID of the group that owns the file, in the container.
-    pub fn gid(self, gid: u32) -> Self
+    pub fn gid(mut self, gid: u32) -> Self
         ensures { result ≡ record self { gid = Some gid } }
     {
-        LinuxDeviceBuilder {
-            gid: Some(gid),
-            ..self
-        }
+        self.gid = Some(gid);
+        self
     }
 
     /// Builds the document. Fields that are not set have their defaults.

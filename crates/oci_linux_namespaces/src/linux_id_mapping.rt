@@ -124,33 +124,27 @@ impl LinuxIdMappingBuilder {
     ghost use Rattle.oci_json_model.specs.Types.{number_plain};
 
     /// Sets `host_id`: the first ID on the host. REQUIRED; 0 is read where it is absent.
-    pub fn host_id(self, host_id: u32) -> Self
+    pub fn host_id(mut self, host_id: u32) -> Self
         ensures { result ≡ record self { host_id = Some host_id } }
     {
-        LinuxIdMappingBuilder {
-            host_id: Some(host_id),
-            ..self
-        }
+        self.host_id = Some(host_id);
+        self
     }
 
     /// Sets `container_id`: the first ID in the container. REQUIRED; 0 is read where it is absent.
-    pub fn container_id(self, container_id: u32) -> Self
+    pub fn container_id(mut self, container_id: u32) -> Self
         ensures { result ≡ record self { container_id = Some container_id } }
     {
-        LinuxIdMappingBuilder {
-            container_id: Some(container_id),
-            ..self
-        }
+        self.container_id = Some(container_id);
+        self
     }
 
     /// Sets `size`: how many IDs there are from the first on. REQUIRED; 0 is read where it is absent.
-    pub fn size(self, size: u32) -> Self
+    pub fn size(mut self, size: u32) -> Self
         ensures { result ≡ record self { size = Some size } }
     {
-        LinuxIdMappingBuilder {
-            size: Some(size),
-            ..self
-        }
+        self.size = Some(size);
+        self
     }
 
     /// Builds the document. Fields that are not set have their defaults.

@@ -130,24 +130,20 @@ impl LinuxNamespaceBuilder {
     ghost use Rattle.oci_linux_names.specs.LinuxNamespaceType.{linux_namespace_type_name, linux_namespace_type_default};
 
     /// Sets `typ`: the kind of namespace. REQUIRED.
-    pub fn typ(self, typ: LinuxNamespaceType) -> Self
+    pub fn typ(mut self, typ: LinuxNamespaceType) -> Self
         ensures { result ≡ record self { typ = Some typ } }
     {
-        LinuxNamespaceBuilder {
-            typ: Some(typ),
-            ..self
-        }
+        self.typ = Some(typ);
+        self
     }
 
     /// Sets `path`: the file of the namespace to join. It MUST be an absolute path of the runtime's, to a namespace of this type; not
     /// checked here. Where none is given, a runtime MUST make a new namespace.
-    pub fn path(self, path: String) -> Self
+    pub fn path(mut self, path: String) -> Self
         ensures { result ≡ record self { path = Some path } }
     {
-        LinuxNamespaceBuilder {
-            path: Some(path),
-            ..self
-        }
+        self.path = Some(path);
+        self
     }
 
     /// Builds the document. Fields that are not set have their defaults.

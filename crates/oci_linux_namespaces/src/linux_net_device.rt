@@ -110,13 +110,11 @@ impl LinuxNetDeviceBuilder {
     ghost use Rattle.std.specs.Prelude.{Some};
 
     /// Sets `name`: the name of the device in the container; the one on the host where none is given.
-    pub fn name(self, name: String) -> Self
+    pub fn name(mut self, name: String) -> Self
         ensures { result ≡ record self { name = Some name } }
     {
-        LinuxNetDeviceBuilder {
-            name: Some(name),
-            ..self
-        }
+        self.name = Some(name);
+        self
     }
 
     /// Builds the document.

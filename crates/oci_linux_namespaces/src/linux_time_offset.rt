@@ -127,23 +127,19 @@ impl LinuxTimeOffsetBuilder {
     ghost use Rattle.std.specs.Prelude.{Some};
 
     /// Sets `secs`: the difference in seconds.
-    pub fn secs(self, secs: i64) -> Self
+    pub fn secs(mut self, secs: i64) -> Self
         ensures { result ≡ record self { secs = Some secs } }
     {
-        LinuxTimeOffsetBuilder {
-            secs: Some(secs),
-            ..self
-        }
+        self.secs = Some(secs);
+        self
     }
 
     /// Sets `nanosecs`: what is added to the seconds, in nanoseconds.
-    pub fn nanosecs(self, nanosecs: u32) -> Self
+    pub fn nanosecs(mut self, nanosecs: u32) -> Self
         ensures { result ≡ record self { nanosecs = Some nanosecs } }
     {
-        LinuxTimeOffsetBuilder {
-            nanosecs: Some(nanosecs),
-            ..self
-        }
+        self.nanosecs = Some(nanosecs);
+        self
     }
 
     /// Builds the document.

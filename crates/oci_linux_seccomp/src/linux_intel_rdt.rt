@@ -339,75 +339,61 @@ impl LinuxIntelRdtBuilder {
     ghost use Rattle.std.specs.Prelude.{Some};
 
     /// Sets `clos_id`: the name of the class of service. Where none is given, a runtime MUST use the container's ID.
-    pub fn clos_id(self, clos_id: String) -> Self
+    pub fn clos_id(mut self, clos_id: String) -> Self
         ensures { result ≡ record self { clos_id = Some clos_id } }
     {
-        LinuxIntelRdtBuilder {
-            clos_id: Some(clos_id),
-            ..self
-        }
+        self.clos_id = Some(clos_id);
+        self
     }
 
     /// Sets `schemata`: the lines that are written to the class's `schemata` file; they replace `l3CacheSchema` and `memBwSchema`.
-    pub fn schemata(self, schemata: Vec<String>) -> Self
+    pub fn schemata(mut self, schemata: Vec<String>) -> Self
         ensures { result ≡ record self { schemata = Some schemata } }
     {
-        LinuxIntelRdtBuilder {
-            schemata: Some(schemata),
-            ..self
-        }
+        self.schemata = Some(schemata);
+        self
     }
 
     /// Sets `l3_cache_schema`: the share of the caches of level 3, as `L3:0=7f0;1=1f`. It SHOULD start with `L3:` and SHOULD NOT contain
     /// newlines; not checked here.
-    pub fn l3_cache_schema(self, l3_cache_schema: String) -> Self
+    pub fn l3_cache_schema(mut self, l3_cache_schema: String) -> Self
         ensures { result ≡ record self { l3_cache_schema = Some l3_cache_schema } }
     {
-        LinuxIntelRdtBuilder {
-            l3_cache_schema: Some(l3_cache_schema),
-            ..self
-        }
+        self.l3_cache_schema = Some(l3_cache_schema);
+        self
     }
 
     /// Sets `mem_bw_schema`: the share of the memory bandwidth, as `MB:0=20;1=70`, in percent or in megabytes per second. It MUST start
     /// with `MB:` and MUST NOT contain newlines; not checked here.
-    pub fn mem_bw_schema(self, mem_bw_schema: String) -> Self
+    pub fn mem_bw_schema(mut self, mem_bw_schema: String) -> Self
         ensures { result ≡ record self { mem_bw_schema = Some mem_bw_schema } }
     {
-        LinuxIntelRdtBuilder {
-            mem_bw_schema: Some(mem_bw_schema),
-            ..self
-        }
+        self.mem_bw_schema = Some(mem_bw_schema);
+        self
     }
 
     /// Sets `enable_cmt`: whether the use of the caches is watched (deprecated).
-    pub fn enable_cmt(self, enable_cmt: bool) -> Self
+    pub fn enable_cmt(mut self, enable_cmt: bool) -> Self
         ensures { result ≡ record self { enable_cmt = Some enable_cmt } }
     {
-        LinuxIntelRdtBuilder {
-            enable_cmt: Some(enable_cmt),
-            ..self
-        }
+        self.enable_cmt = Some(enable_cmt);
+        self
     }
 
     /// Sets `enable_mbm`: whether the use of the memory bandwidth is watched (deprecated).
-    pub fn enable_mbm(self, enable_mbm: bool) -> Self
+    pub fn enable_mbm(mut self, enable_mbm: bool) -> Self
         ensures { result ≡ record self { enable_mbm = Some enable_mbm } }
     {
-        LinuxIntelRdtBuilder {
-            enable_mbm: Some(enable_mbm),
-            ..self
-        }
+        self.enable_mbm = Some(enable_mbm);
+        self
     }
 
     /// Sets `enable_monitoring`: whether the container has a monitoring group of its own.
-    pub fn enable_monitoring(self, enable_monitoring: bool) -> Self
+    pub fn enable_monitoring(mut self, enable_monitoring: bool) -> Self
         ensures { result ≡ record self { enable_monitoring = Some enable_monitoring } }
     {
-        LinuxIntelRdtBuilder {
-            enable_monitoring: Some(enable_monitoring),
-            ..self
-        }
+        self.enable_monitoring = Some(enable_monitoring);
+        self
     }
 
     /// Builds the document.

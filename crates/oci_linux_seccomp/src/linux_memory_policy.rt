@@ -168,33 +168,27 @@ impl LinuxMemoryPolicyBuilder {
     ghost use Rattle.oci_linux_seccomp.specs.LinuxMemoryPolicyBuilder.{linux_memory_policy_unset};
 
     /// Sets `mode`: how a node is chosen.
-    pub fn mode(self, mode: MemoryPolicyModeType) -> Self
+    pub fn mode(mut self, mode: MemoryPolicyModeType) -> Self
         ensures { result ≡ record self { mode = Some mode } }
     {
-        LinuxMemoryPolicyBuilder {
-            mode: Some(mode),
-            ..self
-        }
+        self.mode = Some(mode);
+        self
     }
 
     /// Sets `nodes`: the nodes that are chosen from, as `0-3,7`.
-    pub fn nodes(self, nodes: String) -> Self
+    pub fn nodes(mut self, nodes: String) -> Self
         ensures { result ≡ record self { nodes = Some nodes } }
     {
-        LinuxMemoryPolicyBuilder {
-            nodes: Some(nodes),
-            ..self
-        }
+        self.nodes = Some(nodes);
+        self
     }
 
     /// Sets `flags`: the flags with which the policy is set.
-    pub fn flags(self, flags: Vec<MemoryPolicyFlagType>) -> Self
+    pub fn flags(mut self, flags: Vec<MemoryPolicyFlagType>) -> Self
         ensures { result ≡ record self { flags = Some flags } }
     {
-        LinuxMemoryPolicyBuilder {
-            flags: Some(flags),
-            ..self
-        }
+        self.flags = Some(flags);
+        self
     }
 
     /// Builds the document. Fails with `Builder`, which names the first required field that is not set.

@@ -131,23 +131,19 @@ impl LinuxPersonalityBuilder {
     ghost use Rattle.oci_linux_names.specs.LinuxPersonalityDomain.{linux_personality_domain_name, linux_personality_domain_default};
 
     /// Sets `domain`: the execution domain. REQUIRED.
-    pub fn domain(self, domain: LinuxPersonalityDomain) -> Self
+    pub fn domain(mut self, domain: LinuxPersonalityDomain) -> Self
         ensures { result ≡ record self { domain = Some domain } }
     {
-        LinuxPersonalityBuilder {
-            domain: Some(domain),
-            ..self
-        }
+        self.domain = Some(domain);
+        self
     }
 
     /// Sets `flags`: further flags; the specification defines none yet.
-    pub fn flags(self, flags: Vec<String>) -> Self
+    pub fn flags(mut self, flags: Vec<String>) -> Self
         ensures { result ≡ record self { flags = Some flags } }
     {
-        LinuxPersonalityBuilder {
-            flags: Some(flags),
-            ..self
-        }
+        self.flags = Some(flags);
+        self
     }
 
     /// Builds the document. Fields that are not set have their defaults.

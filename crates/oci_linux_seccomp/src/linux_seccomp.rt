@@ -289,75 +289,61 @@ impl LinuxSeccompBuilder {
     ghost use Rattle.oci_linux_names.specs.LinuxSeccompAction.{linux_seccomp_action_name, linux_seccomp_action_default};
 
     /// Sets `default_action`: what is done about a call that no rule is for. REQUIRED.
-    pub fn default_action(self, default_action: LinuxSeccompAction) -> Self
+    pub fn default_action(mut self, default_action: LinuxSeccompAction) -> Self
         ensures { result ≡ record self { default_action = Some default_action } }
     {
-        LinuxSeccompBuilder {
-            default_action: Some(default_action),
-            ..self
-        }
+        self.default_action = Some(default_action);
+        self
     }
 
     /// Sets `default_errno_ret`: the number that the default action hands on, where it does. A runtime MUST fail where the action takes
     /// none; not checked here.
-    pub fn default_errno_ret(self, default_errno_ret: u32) -> Self
+    pub fn default_errno_ret(mut self, default_errno_ret: u32) -> Self
         ensures { result ≡ record self { default_errno_ret = Some default_errno_ret } }
     {
-        LinuxSeccompBuilder {
-            default_errno_ret: Some(default_errno_ret),
-            ..self
-        }
+        self.default_errno_ret = Some(default_errno_ret);
+        self
     }
 
     /// Sets `architectures`: the processors whose system calls the rules are for.
-    pub fn architectures(self, architectures: Vec<SArch>) -> Self
+    pub fn architectures(mut self, architectures: Vec<SArch>) -> Self
         ensures { result ≡ record self { architectures = Some architectures } }
     {
-        LinuxSeccompBuilder {
-            architectures: Some(architectures),
-            ..self
-        }
+        self.architectures = Some(architectures);
+        self
     }
 
     /// Sets `flags`: the flags with which the filter is set.
-    pub fn flags(self, flags: Vec<LinuxSeccompFilterFlag>) -> Self
+    pub fn flags(mut self, flags: Vec<LinuxSeccompFilterFlag>) -> Self
         ensures { result ≡ record self { flags = Some flags } }
     {
-        LinuxSeccompBuilder {
-            flags: Some(flags),
-            ..self
-        }
+        self.flags = Some(flags);
+        self
     }
 
     /// Sets `listener_path`: the path of the Unix stream socket of the program that is notified of calls whose action is `SCMP_ACT_NOTIFY`.
-    pub fn listener_path(self, listener_path: String) -> Self
+    pub fn listener_path(mut self, listener_path: String) -> Self
         ensures { result ≡ record self { listener_path = Some listener_path } }
     {
-        LinuxSeccompBuilder {
-            listener_path: Some(listener_path),
-            ..self
-        }
+        self.listener_path = Some(listener_path);
+        self
     }
 
     /// Sets `listener_metadata`: what is passed to the program at the listener's path, of any meaning. It MUST NOT be set if `listenerPath`
     /// is not; not checked here.
-    pub fn listener_metadata(self, listener_metadata: String) -> Self
+    pub fn listener_metadata(mut self, listener_metadata: String) -> Self
         ensures { result ≡ record self { listener_metadata = Some listener_metadata } }
     {
-        LinuxSeccompBuilder {
-            listener_metadata: Some(listener_metadata),
-            ..self
-        }
+        self.listener_metadata = Some(listener_metadata);
+        self
     }
 
     /// Sets `syscalls`: the rules for system calls.
-    pub fn syscalls(self, syscalls: Vec<LinuxSyscall>) -> Self
+    pub fn syscalls(mut self, syscalls: Vec<LinuxSyscall>) -> Self
         ensures { result ≡ record self { syscalls = Some syscalls } }
     {
-        LinuxSeccompBuilder {
-            syscalls: Some(syscalls),
-            ..self
-        }
+        self.syscalls = Some(syscalls);
+        self
     }
 
     /// Builds the document. Fields that are not set have their defaults.

@@ -140,43 +140,35 @@ impl LinuxSeccompArgBuilder {
     ghost use Rattle.oci_linux_names.specs.LinuxSeccompOperator.{linux_seccomp_operator_name, linux_seccomp_operator_default};
 
     /// Sets `index`: the place of the argument, from 0 on. REQUIRED; Linux has arguments 0 to 5, which is not checked here.
-    pub fn index(self, index: usize) -> Self
+    pub fn index(mut self, index: usize) -> Self
         ensures { result ≡ record self { index = Some index } }
     {
-        LinuxSeccompArgBuilder {
-            index: Some(index),
-            ..self
-        }
+        self.index = Some(index);
+        self
     }
 
     /// Sets `value`: the value that the argument is compared with, or the mask where the comparison is a masked one. REQUIRED.
-    pub fn value(self, value: u64) -> Self
+    pub fn value(mut self, value: u64) -> Self
         ensures { result ≡ record self { value = Some value } }
     {
-        LinuxSeccompArgBuilder {
-            value: Some(value),
-            ..self
-        }
+        self.value = Some(value);
+        self
     }
 
     /// Sets `value_two`: the value that the masked argument is compared with, where the comparison is a masked one.
-    pub fn value_two(self, value_two: u64) -> Self
+    pub fn value_two(mut self, value_two: u64) -> Self
         ensures { result ≡ record self { value_two = Some value_two } }
     {
-        LinuxSeccompArgBuilder {
-            value_two: Some(value_two),
-            ..self
-        }
+        self.value_two = Some(value_two);
+        self
     }
 
     /// Sets `op`: how the argument is compared. REQUIRED.
-    pub fn op(self, op: LinuxSeccompOperator) -> Self
+    pub fn op(mut self, op: LinuxSeccompOperator) -> Self
         ensures { result ≡ record self { op = Some op } }
     {
-        LinuxSeccompArgBuilder {
-            op: Some(op),
-            ..self
-        }
+        self.op = Some(op);
+        self
     }
 
     /// Builds the document. Fields that are not set have their defaults.

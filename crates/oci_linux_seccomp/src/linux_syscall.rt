@@ -198,44 +198,36 @@ impl LinuxSyscallBuilder {
     ghost use Rattle.oci_linux_names.specs.LinuxSeccompAction.{linux_seccomp_action_name, linux_seccomp_action_default};
 
     /// Sets `names`: the names of the calls that the rule is for. REQUIRED; it MUST have at least one entry, which is not checked here.
-    pub fn names(self, names: Vec<String>) -> Self
+    pub fn names(mut self, names: Vec<String>) -> Self
         ensures { result ≡ record self { names = Some names } }
     {
-        LinuxSyscallBuilder {
-            names: Some(names),
-            ..self
-        }
+        self.names = Some(names);
+        self
     }
 
     /// Sets `action`: what is done about a call that the rule is for. REQUIRED.
-    pub fn action(self, action: LinuxSeccompAction) -> Self
+    pub fn action(mut self, action: LinuxSeccompAction) -> Self
         ensures { result ≡ record self { action = Some action } }
     {
-        LinuxSyscallBuilder {
-            action: Some(action),
-            ..self
-        }
+        self.action = Some(action);
+        self
     }
 
     /// Sets `errno_ret`: the number that the action hands on, where it does: an error's for `SCMP_ACT_ERRNO`, a tracer's for
     /// `SCMP_ACT_TRACE`. A runtime MUST fail where the action takes none; not checked here.
-    pub fn errno_ret(self, errno_ret: u32) -> Self
+    pub fn errno_ret(mut self, errno_ret: u32) -> Self
         ensures { result ≡ record self { errno_ret = Some errno_ret } }
     {
-        LinuxSyscallBuilder {
-            errno_ret: Some(errno_ret),
-            ..self
-        }
+        self.errno_ret = Some(errno_ret);
+        self
     }
 
     /// Sets `args`: the conditions on the call's arguments, all of which have to hold.
-    pub fn args(self, args: Vec<LinuxSeccompArg>) -> Self
+    pub fn args(mut self, args: Vec<LinuxSeccompArg>) -> Self
         ensures { result ≡ record self { args = Some args } }
     {
-        LinuxSyscallBuilder {
-            args: Some(args),
-            ..self
-        }
+        self.args = Some(args);
+        self
     }
 
     /// Builds the document. Fields that are not set have their defaults.

@@ -263,63 +263,51 @@ impl SolarisBuilder {
     ghost use Rattle.std.specs.Prelude.{Some};
 
     /// Sets `milestone`: the name of the service that has to be online before the process is started.
-    pub fn milestone(self, milestone: String) -> Self
+    pub fn milestone(mut self, milestone: String) -> Self
         ensures { result ≡ record self { milestone = Some milestone } }
     {
-        SolarisBuilder {
-            milestone: Some(milestone),
-            ..self
-        }
+        self.milestone = Some(milestone);
+        self
     }
 
     /// Sets `limitpriv`: the privileges that a process of the container can have at most, with commas between.
-    pub fn limitpriv(self, limitpriv: String) -> Self
+    pub fn limitpriv(mut self, limitpriv: String) -> Self
         ensures { result ≡ record self { limitpriv = Some limitpriv } }
     {
-        SolarisBuilder {
-            limitpriv: Some(limitpriv),
-            ..self
-        }
+        self.limitpriv = Some(limitpriv);
+        self
     }
 
     /// Sets `max_shm_memory`: the limit of the shared memory, a number of bytes or one with a unit, as `512m`.
-    pub fn max_shm_memory(self, max_shm_memory: String) -> Self
+    pub fn max_shm_memory(mut self, max_shm_memory: String) -> Self
         ensures { result ≡ record self { max_shm_memory = Some max_shm_memory } }
     {
-        SolarisBuilder {
-            max_shm_memory: Some(max_shm_memory),
-            ..self
-        }
+        self.max_shm_memory = Some(max_shm_memory);
+        self
     }
 
     /// Sets `anet`: the network interfaces that are made for the container.
-    pub fn anet(self, anet: Vec<SolarisAnet>) -> Self
+    pub fn anet(mut self, anet: Vec<SolarisAnet>) -> Self
         ensures { result ≡ record self { anet = Some anet } }
     {
-        SolarisBuilder {
-            anet: Some(anet),
-            ..self
-        }
+        self.anet = Some(anet);
+        self
     }
 
     /// Sets `capped_cpu`: how much processor time the container may use.
-    pub fn capped_cpu(self, capped_cpu: SolarisCappedCPU) -> Self
+    pub fn capped_cpu(mut self, capped_cpu: SolarisCappedCPU) -> Self
         ensures { result ≡ record self { capped_cpu = Some capped_cpu } }
     {
-        SolarisBuilder {
-            capped_cpu: Some(capped_cpu),
-            ..self
-        }
+        self.capped_cpu = Some(capped_cpu);
+        self
     }
 
     /// Sets `capped_memory`: how much memory the container may use.
-    pub fn capped_memory(self, capped_memory: SolarisCappedMemory) -> Self
+    pub fn capped_memory(mut self, capped_memory: SolarisCappedMemory) -> Self
         ensures { result ≡ record self { capped_memory = Some capped_memory } }
     {
-        SolarisBuilder {
-            capped_memory: Some(capped_memory),
-            ..self
-        }
+        self.capped_memory = Some(capped_memory);
+        self
     }
 
     /// Builds the document.

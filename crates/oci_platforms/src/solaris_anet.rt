@@ -297,74 +297,60 @@ impl SolarisAnetBuilder {
     ghost use Rattle.std.specs.Prelude.{Some};
 
     /// Sets `linkname`: the name of the interface's virtual link.
-    pub fn linkname(self, linkname: String) -> Self
+    pub fn linkname(mut self, linkname: String) -> Self
         ensures { result ≡ record self { linkname = Some linkname } }
     {
-        SolarisAnetBuilder {
-            linkname: Some(linkname),
-            ..self
-        }
+        self.linkname = Some(linkname);
+        self
     }
 
     /// Sets `lower_link`: the link over which the virtual link is made.
-    pub fn lower_link(self, lower_link: String) -> Self
+    pub fn lower_link(mut self, lower_link: String) -> Self
         ensures { result ≡ record self { lower_link = Some lower_link } }
     {
-        SolarisAnetBuilder {
-            lower_link: Some(lower_link),
-            ..self
-        }
+        self.lower_link = Some(lower_link);
+        self
     }
 
     /// Sets `allowed_address`: the internet addresses that the container may use; any where none is given.
-    pub fn allowed_address(self, allowed_address: String) -> Self
+    pub fn allowed_address(mut self, allowed_address: String) -> Self
         ensures { result ≡ record self { allowed_address = Some allowed_address } }
     {
-        SolarisAnetBuilder {
-            allowed_address: Some(allowed_address),
-            ..self
-        }
+        self.allowed_address = Some(allowed_address);
+        self
     }
 
     /// Sets `configure_allowed_address`: whether the allowed addresses are set on the interface at each start, as `true` or `false`. Any
     /// string is read.
-    pub fn configure_allowed_address(self, configure_allowed_address: String) -> Self
+    pub fn configure_allowed_address(mut self, configure_allowed_address: String) -> Self
         ensures { result ≡ record self { configure_allowed_address = Some configure_allowed_address } }
     {
-        SolarisAnetBuilder {
-            configure_allowed_address: Some(configure_allowed_address),
-            ..self
-        }
+        self.configure_allowed_address = Some(configure_allowed_address);
+        self
     }
 
     /// Sets `defrouter`: the default router.
-    pub fn defrouter(self, defrouter: String) -> Self
+    pub fn defrouter(mut self, defrouter: String) -> Self
         ensures { result ≡ record self { defrouter = Some defrouter } }
     {
-        SolarisAnetBuilder {
-            defrouter: Some(defrouter),
-            ..self
-        }
+        self.defrouter = Some(defrouter);
+        self
     }
 
     /// Sets `link_protection`: the kinds of protection of the link, with commas between, as `mac-nospoof,ip-nospoof`.
-    pub fn link_protection(self, link_protection: String) -> Self
+    pub fn link_protection(mut self, link_protection: String) -> Self
         ensures { result ≡ record self { link_protection = Some link_protection } }
     {
-        SolarisAnetBuilder {
-            link_protection: Some(link_protection),
-            ..self
-        }
+        self.link_protection = Some(link_protection);
+        self
     }
 
     /// Sets `mac_address`: the hardware address of the virtual link, or how it is found.
-    pub fn mac_address(self, mac_address: String) -> Self
+    pub fn mac_address(mut self, mac_address: String) -> Self
         ensures { result ≡ record self { mac_address = Some mac_address } }
     {
-        SolarisAnetBuilder {
-            mac_address: Some(mac_address),
-            ..self
-        }
+        self.mac_address = Some(mac_address);
+        self
     }
 
     /// Builds the document.

@@ -100,13 +100,11 @@ impl SolarisCappedCPUBuilder {
     ghost use Rattle.std.specs.Prelude.{Some};
 
     /// Sets `ncpus`: the number of CPUs, with a fraction, as `1.25`. The form is not checked here.
-    pub fn ncpus(self, ncpus: String) -> Self
+    pub fn ncpus(mut self, ncpus: String) -> Self
         ensures { result ≡ record self { ncpus = Some ncpus } }
     {
-        SolarisCappedCPUBuilder {
-            ncpus: Some(ncpus),
-            ..self
-        }
+        self.ncpus = Some(ncpus);
+        self
     }
 
     /// Builds the document.

@@ -127,23 +127,19 @@ impl SolarisCappedMemoryBuilder {
     ghost use Rattle.std.specs.Prelude.{Some};
 
     /// Sets `physical`: the limit of the physical memory, a number of bytes or one with a unit, as `512m`.
-    pub fn physical(self, physical: String) -> Self
+    pub fn physical(mut self, physical: String) -> Self
         ensures { result ≡ record self { physical = Some physical } }
     {
-        SolarisCappedMemoryBuilder {
-            physical: Some(physical),
-            ..self
-        }
+        self.physical = Some(physical);
+        self
     }
 
     /// Sets `swap`: the limit of the swap, a number of bytes or one with a unit, as `512m`.
-    pub fn swap(self, swap: String) -> Self
+    pub fn swap(mut self, swap: String) -> Self
         ensures { result ≡ record self { swap = Some swap } }
     {
-        SolarisCappedMemoryBuilder {
-            swap: Some(swap),
-            ..self
-        }
+        self.swap = Some(swap);
+        self
     }
 
     /// Builds the document.

@@ -175,33 +175,27 @@ impl VMBuilder {
     ghost use Rattle.oci_platforms.specs.VMKernel.{vm_kernel_plain, default_vm_kernel};
 
     /// Sets `hypervisor`: the hypervisor that runs the machine.
-    pub fn hypervisor(self, hypervisor: VMHypervisor) -> Self
+    pub fn hypervisor(mut self, hypervisor: VMHypervisor) -> Self
         ensures { result ≡ record self { hypervisor = Some hypervisor } }
     {
-        VMBuilder {
-            hypervisor: Some(hypervisor),
-            ..self
-        }
+        self.hypervisor = Some(hypervisor);
+        self
     }
 
     /// Sets `kernel`: the kernel that the machine runs. REQUIRED.
-    pub fn kernel(self, kernel: VMKernel) -> Self
+    pub fn kernel(mut self, kernel: VMKernel) -> Self
         ensures { result ≡ record self { kernel = Some kernel } }
     {
-        VMBuilder {
-            kernel: Some(kernel),
-            ..self
-        }
+        self.kernel = Some(kernel);
+        self
     }
 
     /// Sets `image`: the image that the machine's root is in.
-    pub fn image(self, image: VMImage) -> Self
+    pub fn image(mut self, image: VMImage) -> Self
         ensures { result ≡ record self { image = Some image } }
     {
-        VMBuilder {
-            image: Some(image),
-            ..self
-        }
+        self.image = Some(image);
+        self
     }
 
     /// Builds the document. Fields that are not set have their defaults.

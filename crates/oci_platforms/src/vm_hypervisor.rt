@@ -135,23 +135,19 @@ impl VMHypervisorBuilder {
     ghost use Rattle.oci_json_model.specs.Types.{text_plain};
 
     /// Sets `path`: the path of the hypervisor on the host. REQUIRED; it MUST be absolute, which is not checked here.
-    pub fn path(self, path: String) -> Self
+    pub fn path(mut self, path: String) -> Self
         ensures { result ≡ record self { path = Some path } }
     {
-        VMHypervisorBuilder {
-            path: Some(path),
-            ..self
-        }
+        self.path = Some(path);
+        self
     }
 
     /// Sets `parameters`: the parameters that the hypervisor is started with.
-    pub fn parameters(self, parameters: Vec<String>) -> Self
+    pub fn parameters(mut self, parameters: Vec<String>) -> Self
         ensures { result ≡ record self { parameters = Some parameters } }
     {
-        VMHypervisorBuilder {
-            parameters: Some(parameters),
-            ..self
-        }
+        self.parameters = Some(parameters);
+        self
     }
 
     /// Builds the document. Fields that are not set have their defaults.

@@ -127,23 +127,19 @@ impl VMImageBuilder {
     ghost use Rattle.oci_json_model.specs.Types.{text_plain};
 
     /// Sets `path`: the path of the image on the host. REQUIRED; it MUST be absolute, which is not checked here.
-    pub fn path(self, path: String) -> Self
+    pub fn path(mut self, path: String) -> Self
         ensures { result ≡ record self { path = Some path } }
     {
-        VMImageBuilder {
-            path: Some(path),
-            ..self
-        }
+        self.path = Some(path);
+        self
     }
 
     /// Sets `format`: the image's format, as `raw`, `qcow2`, `vdi`, `vmdk` or `vhd`. REQUIRED; any string is read.
-    pub fn format(self, format: String) -> Self
+    pub fn format(mut self, format: String) -> Self
         ensures { result ≡ record self { format = Some format } }
     {
-        VMImageBuilder {
-            format: Some(format),
-            ..self
-        }
+        self.format = Some(format);
+        self
     }
 
     /// Builds the document. Fields that are not set have their defaults.

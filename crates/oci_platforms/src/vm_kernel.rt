@@ -170,33 +170,27 @@ impl VMKernelBuilder {
     ghost use Rattle.oci_json_model.specs.Types.{text_plain};
 
     /// Sets `path`: the path of the kernel on the host. REQUIRED; it MUST be absolute, which is not checked here.
-    pub fn path(self, path: String) -> Self
+    pub fn path(mut self, path: String) -> Self
         ensures { result ≡ record self { path = Some path } }
     {
-        VMKernelBuilder {
-            path: Some(path),
-            ..self
-        }
+        self.path = Some(path);
+        self
     }
 
     /// Sets `parameters`: the parameters that the kernel is started with.
-    pub fn parameters(self, parameters: Vec<String>) -> Self
+    pub fn parameters(mut self, parameters: Vec<String>) -> Self
         ensures { result ≡ record self { parameters = Some parameters } }
     {
-        VMKernelBuilder {
-            parameters: Some(parameters),
-            ..self
-        }
+        self.parameters = Some(parameters);
+        self
     }
 
     /// Sets `initrd`: the path on the host of the kernel's initial memory disk. It MUST be absolute; not checked here.
-    pub fn initrd(self, initrd: String) -> Self
+    pub fn initrd(mut self, initrd: String) -> Self
         ensures { result ≡ record self { initrd = Some initrd } }
     {
-        VMKernelBuilder {
-            initrd: Some(initrd),
-            ..self
-        }
+        self.initrd = Some(initrd);
+        self
     }
 
     /// Builds the document. Fields that are not set have their defaults.

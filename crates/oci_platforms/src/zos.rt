@@ -102,13 +102,11 @@ impl ZOSBuilder {
     ghost use Rattle.std.specs.Prelude.{Some};
 
     /// Sets `namespaces`: the namespaces that the container has of its own or joins.
-    pub fn namespaces(self, namespaces: Vec<ZOSNamespace>) -> Self
+    pub fn namespaces(mut self, namespaces: Vec<ZOSNamespace>) -> Self
         ensures { result ≡ record self { namespaces = Some namespaces } }
     {
-        ZOSBuilder {
-            namespaces: Some(namespaces),
-            ..self
-        }
+        self.namespaces = Some(namespaces);
+        self
     }
 
     /// Builds the document.

@@ -129,23 +129,19 @@ impl ZOSNamespaceBuilder {
     ghost use Rattle.oci_runtime_names.specs.ZOSNamespaceType.{zos_namespace_type_name, zos_namespace_type_default};
 
     /// Sets `typ`: the kind of namespace.
-    pub fn typ(self, typ: ZOSNamespaceType) -> Self
+    pub fn typ(mut self, typ: ZOSNamespaceType) -> Self
         ensures { result ≡ record self { typ = Some typ } }
     {
-        ZOSNamespaceBuilder {
-            typ: Some(typ),
-            ..self
-        }
+        self.typ = Some(typ);
+        self
     }
 
     /// Sets `path`: the file of the namespace to join, an absolute path; a new namespace is made where none is given.
-    pub fn path(self, path: String) -> Self
+    pub fn path(mut self, path: String) -> Self
         ensures { result ≡ record self { path = Some path } }
     {
-        ZOSNamespaceBuilder {
-            path: Some(path),
-            ..self
-        }
+        self.path = Some(path);
+        self
     }
 
     /// Builds the document. Fields that are not set have their defaults.

@@ -354,84 +354,68 @@ impl WindowsBuilder {
 
     /// Sets `layer_folders`: the folders of the image's layers, from the topmost layer to the base layer, the scratch folder last.
     /// REQUIRED, with at least one entry; neither is checked here.
-    pub fn layer_folders(self, layer_folders: Vec<String>) -> Self
+    pub fn layer_folders(mut self, layer_folders: Vec<String>) -> Self
         ensures { result ≡ record self { layer_folders = Some layer_folders } }
     {
-        WindowsBuilder {
-            layer_folders: Some(layer_folders),
-            ..self
-        }
+        self.layer_folders = Some(layer_folders);
+        self
     }
 
     /// Sets `devices`: the devices of the host that MUST be available in the container.
-    pub fn devices(self, devices: Vec<WindowsDevice>) -> Self
+    pub fn devices(mut self, devices: Vec<WindowsDevice>) -> Self
         ensures { result ≡ record self { devices = Some devices } }
     {
-        WindowsBuilder {
-            devices: Some(devices),
-            ..self
-        }
+        self.devices = Some(devices);
+        self
     }
 
     /// Sets `resources`: what the container may use of its host.
-    pub fn resources(self, resources: WindowsResources) -> Self
+    pub fn resources(mut self, resources: WindowsResources) -> Self
         ensures { result ≡ record self { resources = Some resources } }
     {
-        WindowsBuilder {
-            resources: Some(resources),
-            ..self
-        }
+        self.resources = Some(resources);
+        self
     }
 
     /// Sets `credential_spec`: the group managed service account that the container runs under, an object with any members.
-    pub fn credential_spec(self, credential_spec: BTreeMap<String, Option<Value>>) -> Self
+    pub fn credential_spec(mut self, credential_spec: BTreeMap<String, Option<Value>>) -> Self
         ensures { result ≡ record self { credential_spec = Some credential_spec } }
     {
-        WindowsBuilder {
-            credential_spec: Some(credential_spec),
-            ..self
-        }
+        self.credential_spec = Some(credential_spec);
+        self
     }
 
     /// Sets `servicing`: whether the container is started to apply updates of Windows to it.
-    pub fn servicing(self, servicing: bool) -> Self
+    pub fn servicing(mut self, servicing: bool) -> Self
         ensures { result ≡ record self { servicing = Some servicing } }
     {
-        WindowsBuilder {
-            servicing: Some(servicing),
-            ..self
-        }
+        self.servicing = Some(servicing);
+        self
     }
 
     /// Sets `ignore_flushes_during_boot`: whether writes to the disk need not be flushed while the container starts.
-    pub fn ignore_flushes_during_boot(self, ignore_flushes_during_boot: bool) -> Self
+    pub fn ignore_flushes_during_boot(mut self, ignore_flushes_during_boot: bool) -> Self
         ensures { result ≡ record self { ignore_flushes_during_boot = Some ignore_flushes_during_boot } }
     {
-        WindowsBuilder {
-            ignore_flushes_during_boot: Some(ignore_flushes_during_boot),
-            ..self
-        }
+        self.ignore_flushes_during_boot = Some(ignore_flushes_during_boot);
+        self
     }
 
     /// Sets `hyperv`: what the container has if Hyper-V keeps it apart. Where it is there, the container MUST run with Hyper-V isolation,
     /// else as a Windows Server container.
-    pub fn hyperv(self, hyperv: WindowsHyperV) -> Self
+    pub fn hyperv(mut self, hyperv: WindowsHyperV) -> Self
         ensures { result ≡ record self { hyperv = Some hyperv } }
     {
-        WindowsBuilder {
-            hyperv: Some(hyperv),
-            ..self
-        }
+        self.hyperv = Some(hyperv);
+        self
     }
 
     /// Sets `network`: the network of the container.
-    pub fn network(self, network: WindowsNetwork) -> Self
+    pub fn network(mut self, network: WindowsNetwork) -> Self
         ensures { result ≡ record self { network = Some network } }
     {
-        WindowsBuilder {
-            network: Some(network),
-            ..self
-        }
+        self.network = Some(network);
+        self
     }
 
     /// Builds the document.

@@ -142,34 +142,28 @@ impl WindowsCPUResourcesBuilder {
     ghost use Rattle.std.specs.Prelude.{Some};
 
     /// Sets `count`: the number of processors.
-    pub fn count(self, count: u64) -> Self
+    pub fn count(mut self, count: u64) -> Self
         ensures { result ≡ record self { count = Some count } }
     {
-        WindowsCPUResourcesBuilder {
-            count: Some(count),
-            ..self
-        }
+        self.count = Some(count);
+        self
     }
 
     /// Sets `shares`: the container's share of processor time, relative to the shares of other containers.
-    pub fn shares(self, shares: u16) -> Self
+    pub fn shares(mut self, shares: u16) -> Self
         ensures { result ≡ record self { shares = Some shares } }
     {
-        WindowsCPUResourcesBuilder {
-            shares: Some(shares),
-            ..self
-        }
+        self.shares = Some(shares);
+        self
     }
 
     /// Sets `maximum`: the largest part of the processors' time, in hundredths of a percent: 10000 is all of it. The range is not checked
     /// here.
-    pub fn maximum(self, maximum: u16) -> Self
+    pub fn maximum(mut self, maximum: u16) -> Self
         ensures { result ≡ record self { maximum = Some maximum } }
     {
-        WindowsCPUResourcesBuilder {
-            maximum: Some(maximum),
-            ..self
-        }
+        self.maximum = Some(maximum);
+        self
     }
 
     /// Builds the document.

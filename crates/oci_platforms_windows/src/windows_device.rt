@@ -124,23 +124,19 @@ impl WindowsDeviceBuilder {
     ghost use Rattle.oci_json_model.specs.Types.{text_plain};
 
     /// Sets `id`: which device it is: for the type `class` the GUID of its interface class. REQUIRED; the form is not checked here.
-    pub fn id(self, id: String) -> Self
+    pub fn id(mut self, id: String) -> Self
         ensures { result ≡ record self { id = Some id } }
     {
-        WindowsDeviceBuilder {
-            id: Some(id),
-            ..self
-        }
+        self.id = Some(id);
+        self
     }
 
     /// Sets `id_type`: how `id` is read. REQUIRED; the specification knows `class` alone, and any string is read.
-    pub fn id_type(self, id_type: String) -> Self
+    pub fn id_type(mut self, id_type: String) -> Self
         ensures { result ≡ record self { id_type = Some id_type } }
     {
-        WindowsDeviceBuilder {
-            id_type: Some(id_type),
-            ..self
-        }
+        self.id_type = Some(id_type);
+        self
     }
 
     /// Builds the document. Fields that are not set have their defaults.

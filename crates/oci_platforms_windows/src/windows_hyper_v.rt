@@ -102,13 +102,11 @@ impl WindowsHyperVBuilder {
     ghost use Rattle.std.specs.Prelude.{Some};
 
     /// Sets `utility_vm_path`: the path of the image of the utility machine; found from the layers where none is given.
-    pub fn utility_vm_path(self, utility_vm_path: String) -> Self
+    pub fn utility_vm_path(mut self, utility_vm_path: String) -> Self
         ensures { result ≡ record self { utility_vm_path = Some utility_vm_path } }
     {
-        WindowsHyperVBuilder {
-            utility_vm_path: Some(utility_vm_path),
-            ..self
-        }
+        self.utility_vm_path = Some(utility_vm_path);
+        self
     }
 
     /// Builds the document.

@@ -92,13 +92,11 @@ impl WindowsMemoryResourcesBuilder {
     ghost use Rattle.std.specs.Prelude.{Some};
 
     /// Sets `limit`: the limit in bytes.
-    pub fn limit(self, limit: u64) -> Self
+    pub fn limit(mut self, limit: u64) -> Self
         ensures { result ≡ record self { limit = Some limit } }
     {
-        WindowsMemoryResourcesBuilder {
-            limit: Some(limit),
-            ..self
-        }
+        self.limit = Some(limit);
+        self
     }
 
     /// Builds the document.

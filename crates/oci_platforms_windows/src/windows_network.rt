@@ -238,53 +238,43 @@ impl WindowsNetworkBuilder {
     ghost use Rattle.std.specs.Prelude.{Some};
 
     /// Sets `endpoint_list`: the endpoints of the host's network service that the container is connected to.
-    pub fn endpoint_list(self, endpoint_list: Vec<String>) -> Self
+    pub fn endpoint_list(mut self, endpoint_list: Vec<String>) -> Self
         ensures { result ≡ record self { endpoint_list = Some endpoint_list } }
     {
-        WindowsNetworkBuilder {
-            endpoint_list: Some(endpoint_list),
-            ..self
-        }
+        self.endpoint_list = Some(endpoint_list);
+        self
     }
 
     /// Sets `allow_unqualified_dns_query`: whether names without a domain are looked up.
-    pub fn allow_unqualified_dns_query(self, allow_unqualified_dns_query: bool) -> Self
+    pub fn allow_unqualified_dns_query(mut self, allow_unqualified_dns_query: bool) -> Self
         ensures { result ≡ record self { allow_unqualified_dns_query = Some allow_unqualified_dns_query } }
     {
-        WindowsNetworkBuilder {
-            allow_unqualified_dns_query: Some(allow_unqualified_dns_query),
-            ..self
-        }
+        self.allow_unqualified_dns_query = Some(allow_unqualified_dns_query);
+        self
     }
 
     /// Sets `dns_search_list`: the domains that are tried as endings of a name without one.
-    pub fn dns_search_list(self, dns_search_list: Vec<String>) -> Self
+    pub fn dns_search_list(mut self, dns_search_list: Vec<String>) -> Self
         ensures { result ≡ record self { dns_search_list = Some dns_search_list } }
     {
-        WindowsNetworkBuilder {
-            dns_search_list: Some(dns_search_list),
-            ..self
-        }
+        self.dns_search_list = Some(dns_search_list);
+        self
     }
 
     /// Sets `network_shared_container_name`: the name of the container whose network this one shares.
-    pub fn network_shared_container_name(self, network_shared_container_name: String) -> Self
+    pub fn network_shared_container_name(mut self, network_shared_container_name: String) -> Self
         ensures { result ≡ record self { network_shared_container_name = Some network_shared_container_name } }
     {
-        WindowsNetworkBuilder {
-            network_shared_container_name: Some(network_shared_container_name),
-            ..self
-        }
+        self.network_shared_container_name = Some(network_shared_container_name);
+        self
     }
 
     /// Sets `network_namespace`: the name of the network namespace that the container is in.
-    pub fn network_namespace(self, network_namespace: String) -> Self
+    pub fn network_namespace(mut self, network_namespace: String) -> Self
         ensures { result ≡ record self { network_namespace = Some network_namespace } }
     {
-        WindowsNetworkBuilder {
-            network_namespace: Some(network_namespace),
-            ..self
-        }
+        self.network_namespace = Some(network_namespace);
+        self
     }
 
     /// Builds the document.

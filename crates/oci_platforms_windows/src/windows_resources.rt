@@ -148,33 +148,27 @@ impl WindowsResourcesBuilder {
     ghost use Rattle.std.specs.Prelude.{Some};
 
     /// Sets `memory`: how much memory the container may use.
-    pub fn memory(self, memory: WindowsMemoryResources) -> Self
+    pub fn memory(mut self, memory: WindowsMemoryResources) -> Self
         ensures { result ≡ record self { memory = Some memory } }
     {
-        WindowsResourcesBuilder {
-            memory: Some(memory),
-            ..self
-        }
+        self.memory = Some(memory);
+        self
     }
 
     /// Sets `cpu`: how much processor time the container may use.
-    pub fn cpu(self, cpu: WindowsCPUResources) -> Self
+    pub fn cpu(mut self, cpu: WindowsCPUResources) -> Self
         ensures { result ≡ record self { cpu = Some cpu } }
     {
-        WindowsResourcesBuilder {
-            cpu: Some(cpu),
-            ..self
-        }
+        self.cpu = Some(cpu);
+        self
     }
 
     /// Sets `storage`: how the container may use its system drive.
-    pub fn storage(self, storage: WindowsStorageResources) -> Self
+    pub fn storage(mut self, storage: WindowsStorageResources) -> Self
         ensures { result ≡ record self { storage = Some storage } }
     {
-        WindowsResourcesBuilder {
-            storage: Some(storage),
-            ..self
-        }
+        self.storage = Some(storage);
+        self
     }
 
     /// Builds the document.

@@ -147,33 +147,27 @@ impl WindowsStorageResourcesBuilder {
     ghost use Rattle.std.specs.Prelude.{Some};
 
     /// Sets `iops`: the most operations per second.
-    pub fn iops(self, iops: u64) -> Self
+    pub fn iops(mut self, iops: u64) -> Self
         ensures { result ≡ record self { iops = Some iops } }
     {
-        WindowsStorageResourcesBuilder {
-            iops: Some(iops),
-            ..self
-        }
+        self.iops = Some(iops);
+        self
     }
 
     /// Sets `bps`: the most bytes per second.
-    pub fn bps(self, bps: u64) -> Self
+    pub fn bps(mut self, bps: u64) -> Self
         ensures { result ≡ record self { bps = Some bps } }
     {
-        WindowsStorageResourcesBuilder {
-            bps: Some(bps),
-            ..self
-        }
+        self.bps = Some(bps);
+        self
     }
 
     /// Sets `sandbox_size`: the smallest size of the drive in bytes.
-    pub fn sandbox_size(self, sandbox_size: u64) -> Self
+    pub fn sandbox_size(mut self, sandbox_size: u64) -> Self
         ensures { result ≡ record self { sandbox_size = Some sandbox_size } }
     {
-        WindowsStorageResourcesBuilder {
-            sandbox_size: Some(sandbox_size),
-            ..self
-        }
+        self.sandbox_size = Some(sandbox_size);
+        self
     }
 
     /// Builds the document.

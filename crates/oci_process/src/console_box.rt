@@ -102,23 +102,19 @@ impl BoxBuilder {
     ghost use Rattle.oci_json_model.specs.Types.{number_plain};
 
     /// Sets `height`: the height in characters. REQUIRED; absent, it is read as 0.
-    pub fn height(self, height: u64) -> Self
+    pub fn height(mut self, height: u64) -> Self
         ensures { result ≡ record self { height = Some height } }
     {
-        BoxBuilder {
-            height: Some(height),
-            ..self
-        }
+        self.height = Some(height);
+        self
     }
 
     /// Sets `width`: the width in characters. REQUIRED; absent, it is read as 0.
-    pub fn width(self, width: u64) -> Self
+    pub fn width(mut self, width: u64) -> Self
         ensures { result ≡ record self { width = Some width } }
     {
-        BoxBuilder {
-            width: Some(width),
-            ..self
-        }
+        self.width = Some(width);
+        self
     }
 
     /// Builds the document. Fields that are not set have their defaults.

@@ -149,23 +149,19 @@ impl ExecCPUAffinityBuilder {
 
     /// Sets `initial`: the CPUs for the time before the move into the container's cgroup, as `0-3,7`. A string that is no CPU list is
     /// rejected when read or written.
-    pub fn initial(self, initial: String) -> Self
+    pub fn initial(mut self, initial: String) -> Self
         ensures { result ≡ record self { initial = Some initial } }
     {
-        ExecCPUAffinityBuilder {
-            initial: Some(initial),
-            ..self
-        }
+        self.initial = Some(initial);
+        self
     }
 
     /// Sets `cpu_affinity_final`: the CPUs after the move into the container's cgroup, as `0-3,7`; the kernel decides where none are given.
     /// A string that is no CPU list is rejected when read or written.
-    pub fn cpu_affinity_final(self, cpu_affinity_final: String) -> Self
+    pub fn cpu_affinity_final(mut self, cpu_affinity_final: String) -> Self
         ensures { result ≡ record self { cpu_affinity_final = Some cpu_affinity_final } }
     {
-        ExecCPUAffinityBuilder {
-            cpu_affinity_final: Some(cpu_affinity_final),
-            ..self
-        }
+        self.cpu_affinity_final = Some(cpu_affinity_final);
+        self
     }
 }

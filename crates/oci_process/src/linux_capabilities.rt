@@ -269,53 +269,43 @@ impl LinuxCapabilitiesBuilder {
     ghost use Rattle.oci_json_model.specs.Types.{perhaps};
 
     /// Sets `bounding`: the bounding capabilities that are kept: the most that starting a program can give the process.
-    pub fn bounding(self, bounding: HashSet<Capability>) -> Self
+    pub fn bounding(mut self, bounding: HashSet<Capability>) -> Self
         ensures { result ≡ record self { bounding = Some bounding } }
     {
-        LinuxCapabilitiesBuilder {
-            bounding: Some(bounding),
-            ..self
-        }
+        self.bounding = Some(bounding);
+        self
     }
 
     /// Sets `effective`: the effective capabilities that are kept: those that the kernel grants the process.
-    pub fn effective(self, effective: HashSet<Capability>) -> Self
+    pub fn effective(mut self, effective: HashSet<Capability>) -> Self
         ensures { result ≡ record self { effective = Some effective } }
     {
-        LinuxCapabilitiesBuilder {
-            effective: Some(effective),
-            ..self
-        }
+        self.effective = Some(effective);
+        self
     }
 
     /// Sets `inheritable`: the inheritable capabilities that are kept: those that a started program keeps if its file allows them.
-    pub fn inheritable(self, inheritable: HashSet<Capability>) -> Self
+    pub fn inheritable(mut self, inheritable: HashSet<Capability>) -> Self
         ensures { result ≡ record self { inheritable = Some inheritable } }
     {
-        LinuxCapabilitiesBuilder {
-            inheritable: Some(inheritable),
-            ..self
-        }
+        self.inheritable = Some(inheritable);
+        self
     }
 
     /// Sets `permitted`: the permitted capabilities that are kept: those that the process may make effective.
-    pub fn permitted(self, permitted: HashSet<Capability>) -> Self
+    pub fn permitted(mut self, permitted: HashSet<Capability>) -> Self
         ensures { result ≡ record self { permitted = Some permitted } }
     {
-        LinuxCapabilitiesBuilder {
-            permitted: Some(permitted),
-            ..self
-        }
+        self.permitted = Some(permitted);
+        self
     }
 
     /// Sets `ambient`: the ambient capabilities that are kept: those that a started program keeps if its file has no privileges of its own.
-    pub fn ambient(self, ambient: HashSet<Capability>) -> Self
+    pub fn ambient(mut self, ambient: HashSet<Capability>) -> Self
         ensures { result ≡ record self { ambient = Some ambient } }
     {
-        LinuxCapabilitiesBuilder {
-            ambient: Some(ambient),
-            ..self
-        }
+        self.ambient = Some(ambient);
+        self
     }
 
     /// Builds the document. Fields that are not set have their defaults.

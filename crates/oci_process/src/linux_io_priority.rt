@@ -106,24 +106,20 @@ impl LinuxIOPriorityBuilder {
     ghost use Rattle.oci_process_names.specs.IOPriorityClass.{io_priority_class_name, io_priority_class_default};
 
     /// Sets `class`: the I/O scheduling class, which counts before the priority. REQUIRED; absent, it is read as `IOPRIO_CLASS_BE`.
-    pub fn class(self, class: IOPriorityClass) -> Self
+    pub fn class(mut self, class: IOPriorityClass) -> Self
         ensures { result ≡ record self { class = Some class } }
     {
-        LinuxIOPriorityBuilder {
-            class: Some(class),
-            ..self
-        }
+        self.class = Some(class);
+        self
     }
 
     /// Sets `priority`: the priority within the class. REQUIRED (absent, it is read as 0), and should be from 0, the highest, to 7; the
     /// range is not checked here.
-    pub fn priority(self, priority: i64) -> Self
+    pub fn priority(mut self, priority: i64) -> Self
         ensures { result ≡ record self { priority = Some priority } }
     {
-        LinuxIOPriorityBuilder {
-            priority: Some(priority),
-            ..self
-        }
+        self.priority = Some(priority);
+        self
     }
 
     /// Builds the document. Fields that are not set have their defaults.

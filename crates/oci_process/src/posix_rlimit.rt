@@ -118,34 +118,28 @@ impl PosixRlimitBuilder {
     ghost use Rattle.oci_process_names.specs.PosixRlimitType.{posix_rlimit_type_name, posix_rlimit_type_default};
 
     /// Sets `typ`: the resource that is limited, by its name in getrlimit(2). REQUIRED; absent, it is read as `RLIMIT_CPU`.
-    pub fn typ(self, typ: PosixRlimitType) -> Self
+    pub fn typ(mut self, typ: PosixRlimitType) -> Self
         ensures { result ≡ record self { typ = Some typ } }
     {
-        PosixRlimitBuilder {
-            typ: Some(typ),
-            ..self
-        }
+        self.typ = Some(typ);
+        self
     }
 
     /// Sets `hard`: the ceiling up to which a process without privileges may raise its soft limit, in the resource's unit. REQUIRED;
     /// absent, it is read as 0.
-    pub fn hard(self, hard: u64) -> Self
+    pub fn hard(mut self, hard: u64) -> Self
         ensures { result ≡ record self { hard = Some hard } }
     {
-        PosixRlimitBuilder {
-            hard: Some(hard),
-            ..self
-        }
+        self.hard = Some(hard);
+        self
     }
 
     /// Sets `soft`: the limit that the kernel enforces, in the resource's unit. REQUIRED; absent, it is read as 0.
-    pub fn soft(self, soft: u64) -> Self
+    pub fn soft(mut self, soft: u64) -> Self
         ensures { result ≡ record self { soft = Some soft } }
     {
-        PosixRlimitBuilder {
-            soft: Some(soft),
-            ..self
-        }
+        self.soft = Some(soft);
+        self
     }
 
     /// Builds the document. Fields that are not set have their defaults.

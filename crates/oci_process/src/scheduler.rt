@@ -265,74 +265,60 @@ impl SchedulerBuilder {
     ghost use Rattle.oci_process_names.specs.LinuxSchedulerPolicy.{linux_scheduler_policy_name, linux_scheduler_policy_default};
 
     /// Sets `policy`: the scheduling policy, by its name in sched(7).
-    pub fn policy(self, policy: LinuxSchedulerPolicy) -> Self
+    pub fn policy(mut self, policy: LinuxSchedulerPolicy) -> Self
         ensures { result ≡ record self { policy = Some policy } }
     {
-        SchedulerBuilder {
-            policy: Some(policy),
-            ..self
-        }
+        self.policy = Some(policy);
+        self
     }
 
     /// Sets `nice`: the nice value, from -20, the highest priority, to 19; 0 where none is given. The range is not checked here.
-    pub fn nice(self, nice: i32) -> Self
+    pub fn nice(mut self, nice: i32) -> Self
         ensures { result ≡ record self { nice = Some nice } }
     {
-        SchedulerBuilder {
-            nice: Some(nice),
-            ..self
-        }
+        self.nice = Some(nice);
+        self
     }
 
     /// Sets `priority`: the static priority for `SCHED_FIFO` and `SCHED_RR`, from 1 to 99; 0 where none is given. The range is not checked
     /// here.
-    pub fn priority(self, priority: i32) -> Self
+    pub fn priority(mut self, priority: i32) -> Self
         ensures { result ≡ record self { priority = Some priority } }
     {
-        SchedulerBuilder {
-            priority: Some(priority),
-            ..self
-        }
+        self.priority = Some(priority);
+        self
     }
 
     /// Sets `flags`: the flags with which the policy is set, by their names in sched_setattr(2).
-    pub fn flags(self, flags: Vec<LinuxSchedulerFlag>) -> Self
+    pub fn flags(mut self, flags: Vec<LinuxSchedulerFlag>) -> Self
         ensures { result ≡ record self { flags = Some flags } }
     {
-        SchedulerBuilder {
-            flags: Some(flags),
-            ..self
-        }
+        self.flags = Some(flags);
+        self
     }
 
     /// Sets `runtime`: the time in nanoseconds that the process may run in each period, for `SCHED_DEADLINE`; 0 where none is given.
-    pub fn runtime(self, runtime: u64) -> Self
+    pub fn runtime(mut self, runtime: u64) -> Self
         ensures { result ≡ record self { runtime = Some runtime } }
     {
-        SchedulerBuilder {
-            runtime: Some(runtime),
-            ..self
-        }
+        self.runtime = Some(runtime);
+        self
     }
 
     /// Sets `deadline`: the time in nanoseconds by which the process has to be done, for `SCHED_DEADLINE`; 0 where none is given.
-    pub fn deadline(self, deadline: u64) -> Self
+    pub fn deadline(mut self, deadline: u64) -> Self
         ensures { result ≡ record self { deadline = Some deadline } }
     {
-        SchedulerBuilder {
-            deadline: Some(deadline),
-            ..self
-        }
+        self.deadline = Some(deadline);
+        self
     }
 
     /// Sets `period`: the length of a period in nanoseconds, for `SCHED_DEADLINE`; 0 where none is given.
-    pub fn period(self, period: u64) -> Self
+    pub fn period(mut self, period: u64) -> Self
         ensures { result ≡ record self { period = Some period } }
     {
-        SchedulerBuilder {
-            period: Some(period),
-            ..self
-        }
+        self.period = Some(period);
+        self
     }
 
     /// Builds the document. Fields that are not set have their defaults.

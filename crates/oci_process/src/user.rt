@@ -272,54 +272,44 @@ impl UserBuilder {
     ghost use Rattle.oci_json_model.specs.Types.{number_plain};
 
     /// Sets `uid`: the user ID in the container namespace. REQUIRED on POSIX platforms; absent, it is read as 0, which is root.
-    pub fn uid(self, uid: u32) -> Self
+    pub fn uid(mut self, uid: u32) -> Self
         ensures { result ≡ record self { uid = Some uid } }
     {
-        UserBuilder {
-            uid: Some(uid),
-            ..self
-        }
+        self.uid = Some(uid);
+        self
     }
 
     /// Sets `gid`: the group ID in the container namespace. REQUIRED on POSIX platforms; absent, it is read as 0, which is root's group.
-    pub fn gid(self, gid: u32) -> Self
+    pub fn gid(mut self, gid: u32) -> Self
         ensures { result ≡ record self { gid = Some gid } }
     {
-        UserBuilder {
-            gid: Some(gid),
-            ..self
-        }
+        self.gid = Some(gid);
+        self
     }
 
     /// Sets `umask`: the umask of the user, the permission bits that new files do not get. Without one, that of the calling process is
     /// kept.
-    pub fn umask(self, umask: u32) -> Self
+    pub fn umask(mut self, umask: u32) -> Self
         ensures { result ≡ record self { umask = Some umask } }
     {
-        UserBuilder {
-            umask: Some(umask),
-            ..self
-        }
+        self.umask = Some(umask);
+        self
     }
 
     /// Sets `additional_gids`: the IDs of further groups in the container namespace.
-    pub fn additional_gids(self, additional_gids: Vec<u32>) -> Self
+    pub fn additional_gids(mut self, additional_gids: Vec<u32>) -> Self
         ensures { result ≡ record self { additional_gids = Some additional_gids } }
     {
-        UserBuilder {
-            additional_gids: Some(additional_gids),
-            ..self
-        }
+        self.additional_gids = Some(additional_gids);
+        self
     }
 
     /// Sets `username`: the name of the user, on Windows.
-    pub fn username(self, username: String) -> Self
+    pub fn username(mut self, username: String) -> Self
         ensures { result ≡ record self { username = Some username } }
     {
-        UserBuilder {
-            username: Some(username),
-            ..self
-        }
+        self.username = Some(username);
+        self
     }
 
     /// Builds the document. Fields that are not set have their defaults.

@@ -48,155 +48,125 @@ impl SpecBuilder {
 
     /// Sets `version`: the version of the runtime specification with which the bundle complies. REQUIRED, and MUST be in the format of
     /// SemVer 2.0.0, which is not checked here; absent, it is read as empty.
-    pub fn version(self, version: String) -> Self
+    pub fn version(mut self, version: String) -> Self
         ensures { result ≡ record self { version = Some version } }
     {
-        SpecBuilder {
-            version: Some(version),
-            ..self
-        }
+        self.version = Some(version);
+        self
     }
 
     /// Sets `root`: the container's root file system. REQUIRED, but for Hyper-V containers it MUST NOT be set; not checked here.
-    pub fn root(self, root: Root) -> Self
+    pub fn root(mut self, root: Root) -> Self
         ensures { result ≡ record self { root = Some root } }
     {
-        SpecBuilder {
-            root: Some(root),
-            ..self
-        }
+        self.root = Some(root);
+        self
     }
 
     /// Sets `mounts`: the mounts beside the root, which runtimes MUST make in the listed order.
-    pub fn mounts(self, mounts: Vec<Mount>) -> Self
+    pub fn mounts(mut self, mounts: Vec<Mount>) -> Self
         ensures { result ≡ record self { mounts = Some mounts } }
     {
-        SpecBuilder {
-            mounts: Some(mounts),
-            ..self
-        }
+        self.mounts = Some(mounts);
+        self
     }
 
     /// Sets `process`: the container's process. REQUIRED when the container is started; not checked here.
-    pub fn process(self, process: Process) -> Self
+    pub fn process(mut self, process: Process) -> Self
         ensures { result ≡ record self { process = Some process } }
     {
-        SpecBuilder {
-            process: Some(process),
-            ..self
-        }
+        self.process = Some(process);
+        self
     }
 
     /// Sets `hostname`: the host name that processes in the container see. On Linux it is set in the container's UTS namespace.
-    pub fn hostname(self, hostname: String) -> Self
+    pub fn hostname(mut self, hostname: String) -> Self
         ensures { result ≡ record self { hostname = Some hostname } }
     {
-        SpecBuilder {
-            hostname: Some(hostname),
-            ..self
-        }
+        self.hostname = Some(hostname);
+        self
     }
 
     /// Sets `domainname`: the domain name that processes in the container see. On Linux it is set in the container's UTS namespace.
-    pub fn domainname(self, domainname: String) -> Self
+    pub fn domainname(mut self, domainname: String) -> Self
         ensures { result ≡ record self { domainname = Some domainname } }
     {
-        SpecBuilder {
-            domainname: Some(domainname),
-            ..self
-        }
+        self.domainname = Some(domainname);
+        self
     }
 
     /// Sets `hooks`: the programs that are run at events of the container's lifecycle, on POSIX platforms.
-    pub fn hooks(self, hooks: Hooks) -> Self
+    pub fn hooks(mut self, hooks: Hooks) -> Self
         ensures { result ≡ record self { hooks = Some hooks } }
     {
-        SpecBuilder {
-            hooks: Some(hooks),
-            ..self
-        }
+        self.hooks = Some(hooks);
+        self
     }
 
     /// Sets `annotations`: any metadata for the container, by its key. Keys MUST NOT be empty and SHOULD be in reverse domain notation, and
     /// `org.opencontainers` is reserved; not checked here.
-    pub fn annotations(self, annotations: BTreeMap<String, String>) -> Self
+    pub fn annotations(mut self, annotations: BTreeMap<String, String>) -> Self
         ensures { result ≡ record self { annotations = Some annotations } }
     {
-        SpecBuilder {
-            annotations: Some(annotations),
-            ..self
-        }
+        self.annotations = Some(annotations);
+        self
     }
 
     /// Sets `linux`: the configuration for Linux. MAY be set if that is the target platform.
-    pub fn linux(self, linux: Linux) -> Self
+    pub fn linux(mut self, linux: Linux) -> Self
         ensures { result ≡ record self { linux = Some linux } }
     {
-        SpecBuilder {
-            linux: Some(linux),
-            ..self
-        }
+        self.linux = Some(linux);
+        self
     }
 
     /// Sets `solaris`: the configuration for Solaris. MAY be set if that is the target platform.
-    pub fn solaris(self, solaris: Solaris) -> Self
+    pub fn solaris(mut self, solaris: Solaris) -> Self
         ensures { result ≡ record self { solaris = Some solaris } }
     {
-        SpecBuilder {
-            solaris: Some(solaris),
-            ..self
-        }
+        self.solaris = Some(solaris);
+        self
     }
 
     /// Sets `windows`: the configuration for Windows. MUST be set if that is the target platform; not checked here.
-    pub fn windows(self, windows: Windows) -> Self
+    pub fn windows(mut self, windows: Windows) -> Self
         ensures { result ≡ record self { windows = Some windows } }
     {
-        SpecBuilder {
-            windows: Some(windows),
-            ..self
-        }
+        self.windows = Some(windows);
+        self
     }
 
     /// Sets `vm`: the configuration of a virtual machine. MAY be set if the target platform and architecture support hardware
     /// virtualization.
-    pub fn vm(self, vm: VM) -> Self
+    pub fn vm(mut self, vm: VM) -> Self
         ensures { result ≡ record self { vm = Some vm } }
     {
-        SpecBuilder {
-            vm: Some(vm),
-            ..self
-        }
+        self.vm = Some(vm);
+        self
     }
 
     /// Sets `zos`: the configuration for z/OS. MAY be set if that is the target platform.
-    pub fn zos(self, zos: ZOS) -> Self
+    pub fn zos(mut self, zos: ZOS) -> Self
         ensures { result ≡ record self { zos = Some zos } }
     {
-        SpecBuilder {
-            zos: Some(zos),
-            ..self
-        }
+        self.zos = Some(zos);
+        self
     }
 
     /// Sets `uid_mappings`: mappings of user IDs for mounts, which the specification does not have (deprecated; a mount has its own).
-    pub fn uid_mappings(self, uid_mappings: Vec<LinuxIdMapping>) -> Self
+    pub fn uid_mappings(mut self, uid_mappings: Vec<LinuxIdMapping>) -> Self
         ensures { result ≡ record self { uid_mappings = Some uid_mappings } }
     {
-        SpecBuilder {
-            uid_mappings: Some(uid_mappings),
-            ..self
-        }
+        self.uid_mappings = Some(uid_mappings);
+        self
     }
 
     /// Sets `gid_mappings`: mappings of group IDs for mounts, which the specification does not have (deprecated; a mount has its own).
-    pub fn gid_mappings(self, gid_mappings: Vec<LinuxIdMapping>) -> Self
+    pub fn gid_mappings(mut self, gid_mappings: Vec<LinuxIdMapping>) -> Self
         ensures { result ≡ record self { gid_mappings = Some gid_mappings } }
     {
-        SpecBuilder {
-            gid_mappings: Some(gid_mappings),
-            ..self
-        }
+        self.gid_mappings = Some(gid_mappings);
+        self
     }
 
     /// Builds the document. Fields that are not set have their defaults.

@@ -282,54 +282,44 @@ impl ContainerProcessStateBuilder {
     ghost use Rattle.oci_runtime_records.specs.State.{state_plain};
 
     /// Sets `version`: the version of the runtime specification with which the state complies. REQUIRED; absent, it is read as empty.
-    pub fn version(self, version: String) -> Self
+    pub fn version(mut self, version: String) -> Self
         ensures { result ≡ record self { version = Some version } }
     {
-        ContainerProcessStateBuilder {
-            version: Some(version),
-            ..self
-        }
+        self.version = Some(version);
+        self
     }
 
     /// Sets `fds`: the names of the file descriptors that are sent with the state, in the order of the `SCM_RIGHTS` array, as `seccompFd`;
     /// none where absent.
-    pub fn fds(self, fds: Vec<String>) -> Self
+    pub fn fds(mut self, fds: Vec<String>) -> Self
         ensures { result ≡ record self { fds = Some fds } }
     {
-        ContainerProcessStateBuilder {
-            fds: Some(fds),
-            ..self
-        }
+        self.fds = Some(fds);
+        self
     }
 
     /// Sets `pid`: the ID of the container's process, as the runtime sees it. REQUIRED; absent, it is read as 0.
-    pub fn pid(self, pid: i32) -> Self
+    pub fn pid(mut self, pid: i32) -> Self
         ensures { result ≡ record self { pid = Some pid } }
     {
-        ContainerProcessStateBuilder {
-            pid: Some(pid),
-            ..self
-        }
+        self.pid = Some(pid);
+        self
     }
 
     /// Sets `metadata`: opaque metadata for the seccomp agent, the `listenerMetadata` of the configuration.
-    pub fn metadata(self, metadata: String) -> Self
+    pub fn metadata(mut self, metadata: String) -> Self
         ensures { result ≡ record self { metadata = Some metadata } }
     {
-        ContainerProcessStateBuilder {
-            metadata: Some(metadata),
-            ..self
-        }
+        self.metadata = Some(metadata);
+        self
     }
 
     /// Sets `state`: the state of the container. REQUIRED; absent, it is read as a state whose members are absent.
-    pub fn state(self, state: State) -> Self
+    pub fn state(mut self, state: State) -> Self
         ensures { result ≡ record self { state = Some state } }
     {
-        ContainerProcessStateBuilder {
-            state: Some(state),
-            ..self
-        }
+        self.state = Some(state);
+        self
     }
 
     /// Builds the document. Fields that are not set have their defaults.

@@ -229,44 +229,36 @@ impl HookBuilder {
     ghost use Rattle.oci_json_model.specs.Types.{text_plain};
 
     /// Sets `path`: the program. MUST be an absolute path; not checked here.
-    pub fn path(self, path: String) -> Self
+    pub fn path(mut self, path: String) -> Self
         ensures { result ≡ record self { path = Some path } }
     {
-        HookBuilder {
-            path: Some(path),
-            ..self
-        }
+        self.path = Some(path);
+        self
     }
 
     /// Sets `args`: the program's arguments, as the `argv` of execv(3), its own name first.
-    pub fn args(self, args: Vec<String>) -> Self
+    pub fn args(mut self, args: Vec<String>) -> Self
         ensures { result ≡ record self { args = Some args } }
     {
-        HookBuilder {
-            args: Some(args),
-            ..self
-        }
+        self.args = Some(args);
+        self
     }
 
     /// Sets `env`: the environment variables, each as `NAME=value`. The format is not checked here.
-    pub fn env(self, env: Vec<String>) -> Self
+    pub fn env(mut self, env: Vec<String>) -> Self
         ensures { result ≡ record self { env = Some env } }
     {
-        HookBuilder {
-            env: Some(env),
-            ..self
-        }
+        self.env = Some(env);
+        self
     }
 
     /// Sets `timeout`: the time in seconds after which the hook is aborted; never where not given. MUST be greater than 0; not checked
     /// here.
-    pub fn timeout(self, timeout: i64) -> Self
+    pub fn timeout(mut self, timeout: i64) -> Self
         ensures { result ≡ record self { timeout = Some timeout } }
     {
-        HookBuilder {
-            timeout: Some(timeout),
-            ..self
-        }
+        self.timeout = Some(timeout);
+        self
     }
 
     /// Builds the document. Fields that are not set have their defaults.

@@ -316,66 +316,54 @@ impl HooksBuilder {
 
     /// Sets `prestart`: the hooks that MUST run in the runtime namespace when the container is created, before those of `createRuntime`.
     /// DEPRECATED for the three that follow.
-    pub fn prestart(self, prestart: Vec<Hook>) -> Self
+    pub fn prestart(mut self, prestart: Vec<Hook>) -> Self
         ensures { result ≡ record self { prestart = Some prestart } }
     {
-        HooksBuilder {
-            prestart: Some(prestart),
-            ..self
-        }
+        self.prestart = Some(prestart);
+        self
     }
 
     /// Sets `create_runtime`: the hooks that MUST run in the runtime namespace when the container is created, after its environment is made
     /// and before its root is changed (`pivot_root`).
-    pub fn create_runtime(self, create_runtime: Vec<Hook>) -> Self
+    pub fn create_runtime(mut self, create_runtime: Vec<Hook>) -> Self
         ensures { result ≡ record self { create_runtime = Some create_runtime } }
     {
-        HooksBuilder {
-            create_runtime: Some(create_runtime),
-            ..self
-        }
+        self.create_runtime = Some(create_runtime);
+        self
     }
 
     /// Sets `create_container`: the hooks that MUST run in the container namespace when the container is created, after those of
     /// `createRuntime` and before its root is changed; their paths are of the runtime namespace.
-    pub fn create_container(self, create_container: Vec<Hook>) -> Self
+    pub fn create_container(mut self, create_container: Vec<Hook>) -> Self
         ensures { result ≡ record self { create_container = Some create_container } }
     {
-        HooksBuilder {
-            create_container: Some(create_container),
-            ..self
-        }
+        self.create_container = Some(create_container);
+        self
     }
 
     /// Sets `start_container`: the hooks that MUST run in the container namespace when the container is started, before its program; their
     /// paths are of the container namespace.
-    pub fn start_container(self, start_container: Vec<Hook>) -> Self
+    pub fn start_container(mut self, start_container: Vec<Hook>) -> Self
         ensures { result ≡ record self { start_container = Some start_container } }
     {
-        HooksBuilder {
-            start_container: Some(start_container),
-            ..self
-        }
+        self.start_container = Some(start_container);
+        self
     }
 
     /// Sets `poststart`: the hooks that MUST run in the runtime namespace when the container is started, after its program has been.
-    pub fn poststart(self, poststart: Vec<Hook>) -> Self
+    pub fn poststart(mut self, poststart: Vec<Hook>) -> Self
         ensures { result ≡ record self { poststart = Some poststart } }
     {
-        HooksBuilder {
-            poststart: Some(poststart),
-            ..self
-        }
+        self.poststart = Some(poststart);
+        self
     }
 
     /// Sets `poststop`: the hooks that MUST run in the runtime namespace after the container is deleted.
-    pub fn poststop(self, poststop: Vec<Hook>) -> Self
+    pub fn poststop(mut self, poststop: Vec<Hook>) -> Self
         ensures { result ≡ record self { poststop = Some poststop } }
     {
-        HooksBuilder {
-            poststop: Some(poststop),
-            ..self
-        }
+        self.poststop = Some(poststop);
+        self
     }
 
     /// Builds the document.

@@ -318,66 +318,54 @@ impl MountBuilder {
 
     /// Sets `destination`: the mount point, a path inside the container. MUST be absolute, but on Linux only SHOULD, where a relative path
     /// is taken from `/` (deprecated); not checked here.
-    pub fn destination(self, destination: String) -> Self
+    pub fn destination(mut self, destination: String) -> Self
         ensures { result ≡ record self { destination = Some destination } }
     {
-        MountBuilder {
-            destination: Some(destination),
-            ..self
-        }
+        self.destination = Some(destination);
+        self
     }
 
     /// Sets `typ`: the type of the file system, as `proc`. Of a bind mount it is a dummy, often `none`.
-    pub fn typ(self, typ: String) -> Self
+    pub fn typ(mut self, typ: String) -> Self
         ensures { result ≡ record self { typ = Some typ } }
     {
-        MountBuilder {
-            typ: Some(typ),
-            ..self
-        }
+        self.typ = Some(typ);
+        self
     }
 
     /// Sets `source`: what is mounted: the name of a device, a path of the host for a bind mount, absolute or relative to the bundle, or a
     /// dummy.
-    pub fn source(self, source: String) -> Self
+    pub fn source(mut self, source: String) -> Self
         ensures { result ≡ record self { source = Some source } }
     {
-        MountBuilder {
-            source: Some(source),
-            ..self
-        }
+        self.source = Some(source);
+        self
     }
 
     /// Sets `options`: the mount options, as `nosuid`. With `bind` or `rbind` it is a bind mount; those that a runtime does not know SHOULD
     /// be passed to the file system.
-    pub fn options(self, options: Vec<String>) -> Self
+    pub fn options(mut self, options: Vec<String>) -> Self
         ensures { result ≡ record self { options = Some options } }
     {
-        MountBuilder {
-            options: Some(options),
-            ..self
-        }
+        self.options = Some(options);
+        self
     }
 
     /// Sets `uid_mappings`: the mappings of the file system's user IDs to those of the mount point. MUST be set together with
     /// `gidMappings`, and `options` SHOULD then have `idmap` or `ridmap`; not checked here.
-    pub fn uid_mappings(self, uid_mappings: Vec<LinuxIdMapping>) -> Self
+    pub fn uid_mappings(mut self, uid_mappings: Vec<LinuxIdMapping>) -> Self
         ensures { result ≡ record self { uid_mappings = Some uid_mappings } }
     {
-        MountBuilder {
-            uid_mappings: Some(uid_mappings),
-            ..self
-        }
+        self.uid_mappings = Some(uid_mappings);
+        self
     }
 
     /// Sets `gid_mappings`: the mappings of the file system's group IDs to those of the mount point. MUST be set together with
     /// `uidMappings`, and `options` SHOULD then have `idmap` or `ridmap`; not checked here.
-    pub fn gid_mappings(self, gid_mappings: Vec<LinuxIdMapping>) -> Self
+    pub fn gid_mappings(mut self, gid_mappings: Vec<LinuxIdMapping>) -> Self
         ensures { result ≡ record self { gid_mappings = Some gid_mappings } }
     {
-        MountBuilder {
-            gid_mappings: Some(gid_mappings),
-            ..self
-        }
+        self.gid_mappings = Some(gid_mappings);
+        self
     }
 }

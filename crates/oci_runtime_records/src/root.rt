@@ -133,24 +133,20 @@ impl RootBuilder {
 
     /// Sets `path`: the path of the root file system, where a directory MUST exist: absolute or relative to the bundle, SHOULD be `rootfs`,
     /// and on Windows MUST be a volume GUID path. REQUIRED; absent, it is read as empty. Not checked here.
-    pub fn path(self, path: String) -> Self
+    pub fn path(mut self, path: String) -> Self
         ensures { result ≡ record self { path = Some path } }
     {
-        RootBuilder {
-            path: Some(path),
-            ..self
-        }
+        self.path = Some(path);
+        self
     }
 
     /// Sets `readonly`: whether the root file system MUST be read-only in the container; false where not given. On Windows it MUST be
     /// absent or false; not checked here.
-    pub fn readonly(self, readonly: bool) -> Self
+    pub fn readonly(mut self, readonly: bool) -> Self
         ensures { result ≡ record self { readonly = Some readonly } }
     {
-        RootBuilder {
-            readonly: Some(readonly),
-            ..self
-        }
+        self.readonly = Some(readonly);
+        self
     }
 
     /// Builds the document. Fields that are not set have their defaults.

@@ -314,67 +314,55 @@ impl StateBuilder {
     ghost use Rattle.oci_runtime_names.specs.ContainerState.{container_state_name, container_state_default};
 
     /// Sets `version`: the version of the runtime specification with which the state complies. REQUIRED; absent, it is read as empty.
-    pub fn version(self, version: String) -> Self
+    pub fn version(mut self, version: String) -> Self
         ensures { result ≡ record self { version = Some version } }
     {
-        StateBuilder {
-            version: Some(version),
-            ..self
-        }
+        self.version = Some(version);
+        self
     }
 
     /// Sets `id`: the container's ID. MUST be unique across all containers of the host, which is not checked here. REQUIRED; absent, it is
     /// read as empty.
-    pub fn id(self, id: String) -> Self
+    pub fn id(mut self, id: String) -> Self
         ensures { result ≡ record self { id = Some id } }
     {
-        StateBuilder {
-            id: Some(id),
-            ..self
-        }
+        self.id = Some(id);
+        self
     }
 
     /// Sets `status`: the state of the container in its lifecycle. A runtime MAY define further values, which are rejected here. REQUIRED;
     /// absent, it is read as `stopped`.
-    pub fn status(self, status: ContainerState) -> Self
+    pub fn status(mut self, status: ContainerState) -> Self
         ensures { result ≡ record self { status = Some status } }
     {
-        StateBuilder {
-            status: Some(status),
-            ..self
-        }
+        self.status = Some(status);
+        self
     }
 
     /// Sets `pid`: the ID of the container's process, as the hook sees it that gets the state. REQUIRED on Linux while `status` is
     /// `created` or `running`; not checked here.
-    pub fn pid(self, pid: i32) -> Self
+    pub fn pid(mut self, pid: i32) -> Self
         ensures { result ≡ record self { pid = Some pid } }
     {
-        StateBuilder {
-            pid: Some(pid),
-            ..self
-        }
+        self.pid = Some(pid);
+        self
     }
 
     /// Sets `bundle`: the absolute path of the container's bundle; that it is absolute is not checked here. REQUIRED; absent, it is read as
     /// empty.
-    pub fn bundle(self, bundle: String) -> Self
+    pub fn bundle(mut self, bundle: String) -> Self
         ensures { result ≡ record self { bundle = Some bundle } }
     {
-        StateBuilder {
-            bundle: Some(bundle),
-            ..self
-        }
+        self.bundle = Some(bundle);
+        self
     }
 
     /// Sets `annotations`: the annotations of the container, by their keys.
-    pub fn annotations(self, annotations: BTreeMap<String, String>) -> Self
+    pub fn annotations(mut self, annotations: BTreeMap<String, String>) -> Self
         ensures { result ≡ record self { annotations = Some annotations } }
     {
-        StateBuilder {
-            annotations: Some(annotations),
-            ..self
-        }
+        self.annotations = Some(annotations);
+        self
     }
 
     /// Builds the document. Fields that are not set have their defaults.

@@ -24,97 +24,79 @@ impl LinuxCpuBuilder {
     ghost use Rattle.std.specs.Prelude.{Some};
 
     /// Sets `shares`: the container's share of processor time, relative to the shares of other groups.
-    pub fn shares(self, shares: u64) -> Self
+    pub fn shares(mut self, shares: u64) -> Self
         ensures { result ≡ record self { shares = Some shares } }
     {
-        LinuxCpuBuilder {
-            shares: Some(shares),
-            ..self
-        }
+        self.shares = Some(shares);
+        self
     }
 
     /// Sets `quota`: the time in microseconds that all tasks together may run in one period; a negative one is no limit. If positive, it
     /// MUST be no smaller than `burst`; not checked here.
-    pub fn quota(self, quota: i64) -> Self
+    pub fn quota(mut self, quota: i64) -> Self
         ensures { result ≡ record self { quota = Some quota } }
     {
-        LinuxCpuBuilder {
-            quota: Some(quota),
-            ..self
-        }
+        self.quota = Some(quota);
+        self
     }
 
     /// Sets `idle`: whether the tasks run only where nothing else does: 1 for that, 0 for the usual order. Other numbers are read too.
-    pub fn idle(self, idle: i64) -> Self
+    pub fn idle(mut self, idle: i64) -> Self
         ensures { result ≡ record self { idle = Some idle } }
     {
-        LinuxCpuBuilder {
-            idle: Some(idle),
-            ..self
-        }
+        self.idle = Some(idle);
+        self
     }
 
     /// Sets `burst`: the unused time in microseconds that may be saved up and run beyond the quota in one period. It MUST be no larger than
     /// a positive `quota`; not checked here.
-    pub fn burst(self, burst: u64) -> Self
+    pub fn burst(mut self, burst: u64) -> Self
         ensures { result ≡ record self { burst = Some burst } }
     {
-        LinuxCpuBuilder {
-            burst: Some(burst),
-            ..self
-        }
+        self.burst = Some(burst);
+        self
     }
 
     /// Sets `period`: the length of the period that the quota is for, in microseconds.
-    pub fn period(self, period: u64) -> Self
+    pub fn period(mut self, period: u64) -> Self
         ensures { result ≡ record self { period = Some period } }
     {
-        LinuxCpuBuilder {
-            period: Some(period),
-            ..self
-        }
+        self.period = Some(period);
+        self
     }
 
     /// Sets `realtime_runtime`: the time in microseconds that tasks of the realtime scheduler may run in one realtime period.
-    pub fn realtime_runtime(self, realtime_runtime: i64) -> Self
+    pub fn realtime_runtime(mut self, realtime_runtime: i64) -> Self
         ensures { result ≡ record self { realtime_runtime = Some realtime_runtime } }
     {
-        LinuxCpuBuilder {
-            realtime_runtime: Some(realtime_runtime),
-            ..self
-        }
+        self.realtime_runtime = Some(realtime_runtime);
+        self
     }
 
     /// Sets `realtime_period`: the length of the period of the realtime scheduler, in microseconds.
-    pub fn realtime_period(self, realtime_period: u64) -> Self
+    pub fn realtime_period(mut self, realtime_period: u64) -> Self
         ensures { result ≡ record self { realtime_period = Some realtime_period } }
     {
-        LinuxCpuBuilder {
-            realtime_period: Some(realtime_period),
-            ..self
-        }
+        self.realtime_period = Some(realtime_period);
+        self
     }
 
     /// Sets `cpus`: the CPUs that the container may run on, a list as `0-3,7`; all of them where none is given. The form is not checked
     /// here.
-    pub fn cpus(self, cpus: String) -> Self
+    pub fn cpus(mut self, cpus: String) -> Self
         ensures { result ≡ record self { cpus = Some cpus } }
     {
-        LinuxCpuBuilder {
-            cpus: Some(cpus),
-            ..self
-        }
+        self.cpus = Some(cpus);
+        self
     }
 
     /// Sets `mems`: the memory nodes that the container may use, a list as `0-3,7`; all of them where none is given. The form is not
     /// checked here.
-    pub fn mems(self, mems: String) -> Self
+    pub fn mems(mut self, mems: String) -> Self
         ensures { result ≡ record self { mems = Some mems } }
     {
-        LinuxCpuBuilder {
-            mems: Some(mems),
-            ..self
-        }
+        self.mems = Some(mems);
+        self
     }
 
     /// Builds the document.

@@ -24,94 +24,76 @@ impl LinuxMemoryBuilder {
     ghost use Rattle.std.specs.Prelude.{Some};
 
     /// Sets `limit`: the limit of the memory in bytes; -1 is no limit.
-    pub fn limit(self, limit: i64) -> Self
+    pub fn limit(mut self, limit: i64) -> Self
         ensures { result ≡ record self { limit = Some limit } }
     {
-        LinuxMemoryBuilder {
-            limit: Some(limit),
-            ..self
-        }
+        self.limit = Some(limit);
+        self
     }
 
     /// Sets `reservation`: the soft limit of the memory in bytes, which holds where memory is short; -1 is no limit.
-    pub fn reservation(self, reservation: i64) -> Self
+    pub fn reservation(mut self, reservation: i64) -> Self
         ensures { result ≡ record self { reservation = Some reservation } }
     {
-        LinuxMemoryBuilder {
-            reservation: Some(reservation),
-            ..self
-        }
+        self.reservation = Some(reservation);
+        self
     }
 
     /// Sets `swap`: the limit of memory and swap together in bytes; -1 is no limit.
-    pub fn swap(self, swap: i64) -> Self
+    pub fn swap(mut self, swap: i64) -> Self
         ensures { result ≡ record self { swap = Some swap } }
     {
-        LinuxMemoryBuilder {
-            swap: Some(swap),
-            ..self
-        }
+        self.swap = Some(swap);
+        self
     }
 
     /// Sets `kernel`: the limit of the kernel's memory in bytes; -1 is no limit. The specification has it as NOT RECOMMENDED.
-    pub fn kernel(self, kernel: i64) -> Self
+    pub fn kernel(mut self, kernel: i64) -> Self
         ensures { result ≡ record self { kernel = Some kernel } }
     {
-        LinuxMemoryBuilder {
-            kernel: Some(kernel),
-            ..self
-        }
+        self.kernel = Some(kernel);
+        self
     }
 
     /// Sets `kernel_tcp`: the limit of the kernel's buffers for TCP in bytes; -1 is no limit. The specification has it as NOT RECOMMENDED.
-    pub fn kernel_tcp(self, kernel_tcp: i64) -> Self
+    pub fn kernel_tcp(mut self, kernel_tcp: i64) -> Self
         ensures { result ≡ record self { kernel_tcp = Some kernel_tcp } }
     {
-        LinuxMemoryBuilder {
-            kernel_tcp: Some(kernel_tcp),
-            ..self
-        }
+        self.kernel_tcp = Some(kernel_tcp);
+        self
     }
 
     /// Sets `swappiness`: how readily the kernel swaps pages out, from 0 to 100. The range is not checked here.
-    pub fn swappiness(self, swappiness: u64) -> Self
+    pub fn swappiness(mut self, swappiness: u64) -> Self
         ensures { result ≡ record self { swappiness = Some swappiness } }
     {
-        LinuxMemoryBuilder {
-            swappiness: Some(swappiness),
-            ..self
-        }
+        self.swappiness = Some(swappiness);
+        self
     }
 
     /// Sets `disable_oom_killer`: whether tasks that ask for more than the limit wait rather than being killed.
-    pub fn disable_oom_killer(self, disable_oom_killer: bool) -> Self
+    pub fn disable_oom_killer(mut self, disable_oom_killer: bool) -> Self
         ensures { result ≡ record self { disable_oom_killer = Some disable_oom_killer } }
     {
-        LinuxMemoryBuilder {
-            disable_oom_killer: Some(disable_oom_killer),
-            ..self
-        }
+        self.disable_oom_killer = Some(disable_oom_killer);
+        self
     }
 
     /// Sets `use_hierarchy`: whether memory is counted together with that of the groups below.
-    pub fn use_hierarchy(self, use_hierarchy: bool) -> Self
+    pub fn use_hierarchy(mut self, use_hierarchy: bool) -> Self
         ensures { result ≡ record self { use_hierarchy = Some use_hierarchy } }
     {
-        LinuxMemoryBuilder {
-            use_hierarchy: Some(use_hierarchy),
-            ..self
-        }
+        self.use_hierarchy = Some(use_hierarchy);
+        self
     }
 
     /// Sets `check_before_update`: whether a runtime that updates the container MAY compare a new limit with what is in use; if it does, it
     /// MUST refuse a lower one.
-    pub fn check_before_update(self, check_before_update: bool) -> Self
+    pub fn check_before_update(mut self, check_before_update: bool) -> Self
         ensures { result ≡ record self { check_before_update = Some check_before_update } }
     {
-        LinuxMemoryBuilder {
-            check_before_update: Some(check_before_update),
-            ..self
-        }
+        self.check_before_update = Some(check_before_update);
+        self
     }
 
     /// Builds the document.

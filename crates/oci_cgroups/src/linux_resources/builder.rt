@@ -33,94 +33,76 @@ impl LinuxResourcesBuilder {
     ghost use Rattle.std.specs.Prelude.{Some};
 
     /// Sets `devices`: the rules for devices. A runtime MUST apply them in their order.
-    pub fn devices(self, devices: Vec<LinuxDeviceCgroup>) -> Self
+    pub fn devices(mut self, devices: Vec<LinuxDeviceCgroup>) -> Self
         ensures { result ≡ record self { devices = Some devices } }
     {
-        LinuxResourcesBuilder {
-            devices: Some(devices),
-            ..self
-        }
+        self.devices = Some(devices);
+        self
     }
 
     /// Sets `memory`: how much memory the container may use.
-    pub fn memory(self, memory: LinuxMemory) -> Self
+    pub fn memory(mut self, memory: LinuxMemory) -> Self
         ensures { result ≡ record self { memory = Some memory } }
     {
-        LinuxResourcesBuilder {
-            memory: Some(memory),
-            ..self
-        }
+        self.memory = Some(memory);
+        self
     }
 
     /// Sets `cpu`: how much time on which processors the container may use.
-    pub fn cpu(self, cpu: LinuxCpu) -> Self
+    pub fn cpu(mut self, cpu: LinuxCpu) -> Self
         ensures { result ≡ record self { cpu = Some cpu } }
     {
-        LinuxResourcesBuilder {
-            cpu: Some(cpu),
-            ..self
-        }
+        self.cpu = Some(cpu);
+        self
     }
 
     /// Sets `pids`: how many tasks the container may have.
-    pub fn pids(self, pids: LinuxPids) -> Self
+    pub fn pids(mut self, pids: LinuxPids) -> Self
         ensures { result ≡ record self { pids = Some pids } }
     {
-        LinuxResourcesBuilder {
-            pids: Some(pids),
-            ..self
-        }
+        self.pids = Some(pids);
+        self
     }
 
     /// Sets `block_io`: what the container may read from and write to block devices.
-    pub fn block_io(self, block_io: LinuxBlockIo) -> Self
+    pub fn block_io(mut self, block_io: LinuxBlockIo) -> Self
         ensures { result ≡ record self { block_io = Some block_io } }
     {
-        LinuxResourcesBuilder {
-            block_io: Some(block_io),
-            ..self
-        }
+        self.block_io = Some(block_io);
+        self
     }
 
     /// Sets `hugepage_limits`: how much the container may use of huge pages, a size each.
-    pub fn hugepage_limits(self, hugepage_limits: Vec<LinuxHugepageLimit>) -> Self
+    pub fn hugepage_limits(mut self, hugepage_limits: Vec<LinuxHugepageLimit>) -> Self
         ensures { result ≡ record self { hugepage_limits = Some hugepage_limits } }
     {
-        LinuxResourcesBuilder {
-            hugepage_limits: Some(hugepage_limits),
-            ..self
-        }
+        self.hugepage_limits = Some(hugepage_limits);
+        self
     }
 
     /// Sets `network`: how the container's network traffic is marked and ranked.
-    pub fn network(self, network: LinuxNetwork) -> Self
+    pub fn network(mut self, network: LinuxNetwork) -> Self
         ensures { result ≡ record self { network = Some network } }
     {
-        LinuxResourcesBuilder {
-            network: Some(network),
-            ..self
-        }
+        self.network = Some(network);
+        self
     }
 
     /// Sets `rdma`: what the container may use of devices for remote direct memory access, by the devices' names.
-    pub fn rdma(self, rdma: BTreeMap<String, LinuxRdma>) -> Self
+    pub fn rdma(mut self, rdma: BTreeMap<String, LinuxRdma>) -> Self
         ensures { result ≡ record self { rdma = Some rdma } }
     {
-        LinuxResourcesBuilder {
-            rdma: Some(rdma),
-            ..self
-        }
+        self.rdma = Some(rdma);
+        self
     }
 
     /// Sets `unified`: what is written to files of the unified hierarchy (cgroup v2), by the files' names. A runtime MUST write entries
     /// that it does not know, too.
-    pub fn unified(self, unified: BTreeMap<String, String>) -> Self
+    pub fn unified(mut self, unified: BTreeMap<String, String>) -> Self
         ensures { result ≡ record self { unified = Some unified } }
     {
-        LinuxResourcesBuilder {
-            unified: Some(unified),
-            ..self
-        }
+        self.unified = Some(unified);
+        self
     }
 
     /// Builds the document.

@@ -35,104 +35,84 @@ impl LinuxFeatureBuilder {
 
     /// Sets `namespaces`: the kinds of namespaces that the runtime knows; it MUST recognize them in `config.json`. None where they are not
     /// known.
-    pub fn namespaces(self, namespaces: Vec<LinuxNamespaceType>) -> Self
+    pub fn namespaces(mut self, namespaces: Vec<LinuxNamespaceType>) -> Self
         ensures { result ≡ record self { namespaces = Some namespaces } }
     {
-        LinuxFeatureBuilder {
-            namespaces: Some(namespaces),
-            ..self
-        }
+        self.namespaces = Some(namespaces);
+        self
     }
 
     /// Sets `capabilities`: the capabilities that the runtime knows, as `CAP_SYS_ADMIN`; it MUST recognize them in `config.json`. None
     /// where they are not known.
-    pub fn capabilities(self, capabilities: Vec<String>) -> Self
+    pub fn capabilities(mut self, capabilities: Vec<String>) -> Self
         ensures { result ≡ record self { capabilities = Some capabilities } }
     {
-        LinuxFeatureBuilder {
-            capabilities: Some(capabilities),
-            ..self
-        }
+        self.capabilities = Some(capabilities);
+        self
     }
 
     /// Sets `cgroup`: what the runtime can do with control groups.
-    pub fn cgroup(self, cgroup: Cgroup) -> Self
+    pub fn cgroup(mut self, cgroup: Cgroup) -> Self
         ensures { result ≡ record self { cgroup = Some cgroup } }
     {
-        LinuxFeatureBuilder {
-            cgroup: Some(cgroup),
-            ..self
-        }
+        self.cgroup = Some(cgroup);
+        self
     }
 
     /// Sets `seccomp`: what the runtime knows of filters of system calls.
-    pub fn seccomp(self, seccomp: Seccomp) -> Self
+    pub fn seccomp(mut self, seccomp: Seccomp) -> Self
         ensures { result ≡ record self { seccomp = Some seccomp } }
     {
-        LinuxFeatureBuilder {
-            seccomp: Some(seccomp),
-            ..self
-        }
+        self.seccomp = Some(seccomp);
+        self
     }
 
     /// Sets `apparmor`: whether the runtime has AppArmor.
-    pub fn apparmor(self, apparmor: Apparmor) -> Self
+    pub fn apparmor(mut self, apparmor: Apparmor) -> Self
         ensures { result ≡ record self { apparmor = Some apparmor } }
     {
-        LinuxFeatureBuilder {
-            apparmor: Some(apparmor),
-            ..self
-        }
+        self.apparmor = Some(apparmor);
+        self
     }
 
     /// Sets `selinux`: whether the runtime has SELinux.
-    pub fn selinux(self, selinux: Selinux) -> Self
+    pub fn selinux(mut self, selinux: Selinux) -> Self
         ensures { result ≡ record self { selinux = Some selinux } }
     {
-        LinuxFeatureBuilder {
-            selinux: Some(selinux),
-            ..self
-        }
+        self.selinux = Some(selinux);
+        self
     }
 
     /// Sets `intel_rdt`: what the runtime can do with Intel's Resource Director Technology.
-    pub fn intel_rdt(self, intel_rdt: IntelRdt) -> Self
+    pub fn intel_rdt(mut self, intel_rdt: IntelRdt) -> Self
         ensures { result ≡ record self { intel_rdt = Some intel_rdt } }
     {
-        LinuxFeatureBuilder {
-            intel_rdt: Some(intel_rdt),
-            ..self
-        }
+        self.intel_rdt = Some(intel_rdt);
+        self
     }
 
     /// Sets `memory_policy`: what the runtime knows of memory policies.
-    pub fn memory_policy(self, memory_policy: MemoryPolicy) -> Self
+    pub fn memory_policy(mut self, memory_policy: MemoryPolicy) -> Self
         ensures { result ≡ record self { memory_policy = Some memory_policy } }
     {
-        LinuxFeatureBuilder {
-            memory_policy: Some(memory_policy),
-            ..self
-        }
+        self.memory_policy = Some(memory_policy);
+        self
     }
 
     /// Sets `mount_extensions`: what the runtime can do with mounts beyond the usual.
-    pub fn mount_extensions(self, mount_extensions: MountExtensions) -> Self
+    pub fn mount_extensions(mut self, mount_extensions: MountExtensions) -> Self
         ensures { result ≡ record self { mount_extensions = Some mount_extensions } }
     {
-        LinuxFeatureBuilder {
-            mount_extensions: Some(mount_extensions),
-            ..self
-        }
+        self.mount_extensions = Some(mount_extensions);
+        self
     }
 
     /// Sets `net_devices`: whether the runtime can move network devices into a container.
-    pub fn net_devices(self, net_devices: NetDevices) -> Self
+    pub fn net_devices(mut self, net_devices: NetDevices) -> Self
         ensures { result ≡ record self { net_devices = Some net_devices } }
     {
-        LinuxFeatureBuilder {
-            net_devices: Some(net_devices),
-            ..self
-        }
+        self.net_devices = Some(net_devices);
+        self
     }
 
     /// Builds the document.

@@ -26,99 +26,81 @@ impl ConfigBuilder {
 
     /// Sets `user`: the user that the process runs as unless the container sets one: on Linux a name or ID, and that of a group behind a
     /// colon, as `user:gid`. The format is not checked here.
-    pub fn user(self, user: String) -> Self
+    pub fn user(mut self, user: String) -> Self
         ensures { result ≡ record self { user = Some user } }
     {
-        ConfigBuilder {
-            user: Some(user),
-            ..self
-        }
+        self.user = Some(user);
+        self
     }
 
     /// Sets `exposed_ports`: the ports that the container exposes beside its own, each as `port`, `port/tcp` or `port/udp`, of TCP where
     /// none is named. The format is not checked here.
-    pub fn exposed_ports(self, exposed_ports: Vec<String>) -> Self
+    pub fn exposed_ports(mut self, exposed_ports: Vec<String>) -> Self
         ensures { result ≡ record self { exposed_ports = Some exposed_ports } }
     {
-        ConfigBuilder {
-            exposed_ports: Some(exposed_ports),
-            ..self
-        }
+        self.exposed_ports = Some(exposed_ports);
+        self
     }
 
     /// Sets `env`: the environment variables, which are merged with those of the container, each as `NAME=value`. The format is not checked
     /// here.
-    pub fn env(self, env: Vec<String>) -> Self
+    pub fn env(mut self, env: Vec<String>) -> Self
         ensures { result ≡ record self { env = Some env } }
     {
-        ConfigBuilder {
-            env: Some(env),
-            ..self
-        }
+        self.env = Some(env);
+        self
     }
 
     /// Sets `entrypoint`: the arguments of the command that runs when the container starts, its program first, unless the container sets
     /// others.
-    pub fn entrypoint(self, entrypoint: Vec<String>) -> Self
+    pub fn entrypoint(mut self, entrypoint: Vec<String>) -> Self
         ensures { result ≡ record self { entrypoint = Some entrypoint } }
     {
-        ConfigBuilder {
-            entrypoint: Some(entrypoint),
-            ..self
-        }
+        self.entrypoint = Some(entrypoint);
+        self
     }
 
     /// Sets `cmd`: the default arguments of the entrypoint, unless the container sets others. Without `Entrypoint`, the first SHOULD be run
     /// as the program.
-    pub fn cmd(self, cmd: Vec<String>) -> Self
+    pub fn cmd(mut self, cmd: Vec<String>) -> Self
         ensures { result ≡ record self { cmd = Some cmd } }
     {
-        ConfigBuilder {
-            cmd: Some(cmd),
-            ..self
-        }
+        self.cmd = Some(cmd);
+        self
     }
 
     /// Sets `volumes`: the directories in which the process is likely to write data of this container alone.
-    pub fn volumes(self, volumes: Vec<String>) -> Self
+    pub fn volumes(mut self, volumes: Vec<String>) -> Self
         ensures { result ≡ record self { volumes = Some volumes } }
     {
-        ConfigBuilder {
-            volumes: Some(volumes),
-            ..self
-        }
+        self.volumes = Some(volumes);
+        self
     }
 
     /// Sets `working_dir`: the working directory in which the entrypoint starts, unless the container sets one.
-    pub fn working_dir(self, working_dir: String) -> Self
+    pub fn working_dir(mut self, working_dir: String) -> Self
         ensures { result ≡ record self { working_dir = Some working_dir } }
     {
-        ConfigBuilder {
-            working_dir: Some(working_dir),
-            ..self
-        }
+        self.working_dir = Some(working_dir);
+        self
     }
 
     /// Sets `labels`: any metadata for the container, by its key. The rules of annotations MUST be kept: keys SHOULD be in reverse domain
     /// notation, and `org.opencontainers` is reserved; not checked here.
-    pub fn labels(self, labels: BTreeMap<String, String>) -> Self
+    pub fn labels(mut self, labels: BTreeMap<String, String>) -> Self
         ensures { result ≡ record self { labels = Some labels } }
     {
-        ConfigBuilder {
-            labels: Some(labels),
-            ..self
-        }
+        self.labels = Some(labels);
+        self
     }
 
     /// Sets `stop_signal`: the signal that is sent to the container to make it exit, as `SIGKILL` or `SIGRTMIN+3`. That there is one of
     /// this name is not checked here.
-    pub fn stop_signal(self, stop_signal: String) -> Self
+    pub fn stop_signal(mut self, stop_signal: String) -> Self
         ensures { result ≡ record self { stop_signal = Some stop_signal } }
     {
-        ConfigBuilder {
-            stop_signal: Some(stop_signal),
-            ..self
-        }
+        self.stop_signal = Some(stop_signal);
+        self
     }
 
     /// Builds the document.

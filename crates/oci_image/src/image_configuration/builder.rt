@@ -34,108 +34,88 @@ impl ImageConfigurationBuilder {
     ghost use Rattle.oci_image.specs.RootFs.{root_fs_plain, default_root_fs};
 
     /// Sets `created`: when the image was created, a date and time by RFC 3339, section 5.6. The format is not checked here.
-    pub fn created(self, created: String) -> Self
+    pub fn created(mut self, created: String) -> Self
         ensures { result ≡ record self { created = Some created } }
     {
-        ImageConfigurationBuilder {
-            created: Some(created),
-            ..self
-        }
+        self.created = Some(created);
+        self
     }
 
     /// Sets `author`: who created the image and maintains it, by name or email address.
-    pub fn author(self, author: String) -> Self
+    pub fn author(mut self, author: String) -> Self
         ensures { result ≡ record self { author = Some author } }
     {
-        ImageConfigurationBuilder {
-            author: Some(author),
-            ..self
-        }
+        self.author = Some(author);
+        self
     }
 
     /// Sets `architecture`: the CPU architecture that the image's binaries are built for. SHOULD be a value of Go's `GOARCH`; any other
     /// string is read as well.
-    pub fn architecture(self, architecture: Arch) -> Self
+    pub fn architecture(mut self, architecture: Arch) -> Self
         ensures { result ≡ record self { architecture = Some architecture } }
     {
-        ImageConfigurationBuilder {
-            architecture: Some(architecture),
-            ..self
-        }
+        self.architecture = Some(architecture);
+        self
     }
 
     /// Sets `os`: the operating system that the image is built for. SHOULD be a value of Go's `GOOS`; any other string is read as well.
-    pub fn os(self, os: Os) -> Self
+    pub fn os(mut self, os: Os) -> Self
         ensures { result ≡ record self { os = Some os } }
     {
-        ImageConfigurationBuilder {
-            os: Some(os),
-            ..self
-        }
+        self.os = Some(os);
+        self
     }
 
     /// Sets `os_version`: the version of the operating system that the image targets, as `10.0.14393.1066` on Windows; which there are is
     /// left to implementations.
-    pub fn os_version(self, os_version: String) -> Self
+    pub fn os_version(mut self, os_version: String) -> Self
         ensures { result ≡ record self { os_version = Some os_version } }
     {
-        ImageConfigurationBuilder {
-            os_version: Some(os_version),
-            ..self
-        }
+        self.os_version = Some(os_version);
+        self
     }
 
     /// Sets `os_features`: features of the operating system that the image requires. On Windows they SHOULD be of the specification's list,
     /// which has `win32k`; not checked here.
-    pub fn os_features(self, os_features: Vec<String>) -> Self
+    pub fn os_features(mut self, os_features: Vec<String>) -> Self
         ensures { result ≡ record self { os_features = Some os_features } }
     {
-        ImageConfigurationBuilder {
-            os_features: Some(os_features),
-            ..self
-        }
+        self.os_features = Some(os_features);
+        self
     }
 
     /// Sets `variant`: the variant of the CPU architecture. SHOULD be of the specification's table: `v6`, `v7` or `v8` of `arm`, `v8` of
     /// `arm64`; not checked here.
-    pub fn variant(self, variant: String) -> Self
+    pub fn variant(mut self, variant: String) -> Self
         ensures { result ≡ record self { variant = Some variant } }
     {
-        ImageConfigurationBuilder {
-            variant: Some(variant),
-            ..self
-        }
+        self.variant = Some(variant);
+        self
     }
 
     /// Sets `config`: the execution parameters that SHOULD be the base of the image's containers. Without them, all are given when a
     /// container is created.
-    pub fn config(self, config: Config) -> Self
+    pub fn config(mut self, config: Config) -> Self
         ensures { result ≡ record self { config = Some config } }
     {
-        ImageConfigurationBuilder {
-            config: Some(config),
-            ..self
-        }
+        self.config = Some(config);
+        self
     }
 
     /// Sets `rootfs`: the layers of the image's file system, by the digests of their uncompressed content.
-    pub fn rootfs(self, rootfs: RootFs) -> Self
+    pub fn rootfs(mut self, rootfs: RootFs) -> Self
         ensures { result ≡ record self { rootfs = Some rootfs } }
     {
-        ImageConfigurationBuilder {
-            rootfs: Some(rootfs),
-            ..self
-        }
+        self.rootfs = Some(rootfs);
+        self
     }
 
     /// Sets `history`: what made each layer, the first step first. Steps without a layer are marked `empty_layer`.
-    pub fn history(self, history: Vec<History>) -> Self
+    pub fn history(mut self, history: Vec<History>) -> Self
         ensures { result ≡ record self { history = Some history } }
     {
-        ImageConfigurationBuilder {
-            history: Some(history),
-            ..self
-        }
+        self.history = Some(history);
+        self
     }
 
     /// Builds the document. Fields that are not set have their defaults.

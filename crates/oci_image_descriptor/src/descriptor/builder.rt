@@ -28,88 +28,72 @@ impl DescriptorBuilder {
     ghost use Rattle.oci_image_descriptor.specs.DescriptorBuilder.{descriptor_unset};
 
     /// Sets `media_type`: the media type of the content. MUST be one by RFC 6838, section 4.2; not checked here.
-    pub fn media_type(self, media_type: MediaType) -> Self
+    pub fn media_type(mut self, media_type: MediaType) -> Self
         ensures { result ≡ record self { media_type = Some media_type } }
     {
-        DescriptorBuilder {
-            media_type: Some(media_type),
-            ..self
-        }
+        self.media_type = Some(media_type);
+        self
     }
 
     /// Sets `digest`: the digest of the content, whose grammar is checked. Content from an untrusted source SHOULD be verified against it,
     /// which is left to the caller.
-    pub fn digest(self, digest: Digest) -> Self
+    pub fn digest(mut self, digest: Digest) -> Self
         ensures { result ≡ record self { digest = Some digest } }
     {
-        DescriptorBuilder {
-            digest: Some(digest),
-            ..self
-        }
+        self.digest = Some(digest);
+        self
     }
 
     /// Sets `size`: the size of the content in bytes, an int64 in the specification; a larger one is not rejected here. Content of another
     /// length SHOULD NOT be trusted.
-    pub fn size(self, size: u64) -> Self
+    pub fn size(mut self, size: u64) -> Self
         ensures { result ≡ record self { size = Some size } }
     {
-        DescriptorBuilder {
-            size: Some(size),
-            ..self
-        }
+        self.size = Some(size);
+        self
     }
 
     /// Sets `urls`: where the content may be downloaded. Each MUST be a URI by RFC 3986 and SHOULD use `http` or `https`; not checked here.
-    pub fn urls(self, urls: Vec<String>) -> Self
+    pub fn urls(mut self, urls: Vec<String>) -> Self
         ensures { result ≡ record self { urls = Some urls } }
     {
-        DescriptorBuilder {
-            urls: Some(urls),
-            ..self
-        }
+        self.urls = Some(urls);
+        self
     }
 
     /// Sets `annotations`: any metadata for the descriptor, by its key. Keys SHOULD be in reverse domain notation, and `org.opencontainers`
     /// is reserved; not checked here.
-    pub fn annotations(self, annotations: BTreeMap<String, String>) -> Self
+    pub fn annotations(mut self, annotations: BTreeMap<String, String>) -> Self
         ensures { result ≡ record self { annotations = Some annotations } }
     {
-        DescriptorBuilder {
-            annotations: Some(annotations),
-            ..self
-        }
+        self.annotations = Some(annotations);
+        self
     }
 
     /// Sets `platform`: the platform that the content needs. SHOULD be set where the content is an image manifest; not checked here.
-    pub fn platform(self, platform: Platform) -> Self
+    pub fn platform(mut self, platform: Platform) -> Self
         ensures { result ≡ record self { platform = Some platform } }
     {
-        DescriptorBuilder {
-            platform: Some(platform),
-            ..self
-        }
+        self.platform = Some(platform);
+        self
     }
 
     /// Sets `artifact_type`: the type of the artifact that the content is; of an image manifest, the media type of its `config`. MUST be
     /// one by RFC 6838, section 4.2; not checked here.
-    pub fn artifact_type(self, artifact_type: MediaType) -> Self
+    pub fn artifact_type(mut self, artifact_type: MediaType) -> Self
         ensures { result ≡ record self { artifact_type = Some artifact_type } }
     {
-        DescriptorBuilder {
-            artifact_type: Some(artifact_type),
-            ..self
-        }
+        self.artifact_type = Some(artifact_type);
+        self
     }
 
     /// Sets `data`: the content itself, in Base64 (RFC 4648, section 4). What it decodes to MUST be the content of `digest` and `size`; not
     /// checked here.
-    pub fn data(self, data: String) -> Self
+    pub fn data(mut self, data: String) -> Self
         ensures { result ≡ record self { embedded_data = Some «data» } }
     {
-        DescriptorBuilder {
-            embedded_data: Some(data),
-            ..self
-        }
+        self.embedded_data = Some(data);
+        self
     }
 
     /// Builds the document. Fails with `Builder`, which names the first required field that is not set.

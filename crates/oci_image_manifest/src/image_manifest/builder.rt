@@ -27,79 +27,65 @@ impl ImageManifestBuilder {
     ghost use Rattle.oci_image_manifest.specs.ImageManifestBuilder.{image_manifest_unset};
 
     /// Sets `schema_version`: the manifest schema version. MUST be 2; not checked here.
-    pub fn schema_version(self, schema_version: u32) -> Self
+    pub fn schema_version(mut self, schema_version: u32) -> Self
         ensures { result ≡ record self { schema_version = Some schema_version } }
     {
-        ImageManifestBuilder {
-            schema_version: Some(schema_version),
-            ..self
-        }
+        self.schema_version = Some(schema_version);
+        self
     }
 
     /// Sets `media_type`: the media type of the manifest itself. SHOULD be set, and MUST then be
     /// `application/vnd.oci.image.manifest.v1+json`; not checked here.
-    pub fn media_type(self, media_type: MediaType) -> Self
+    pub fn media_type(mut self, media_type: MediaType) -> Self
         ensures { result ≡ record self { media_type = Some media_type } }
     {
-        ImageManifestBuilder {
-            media_type: Some(media_type),
-            ..self
-        }
+        self.media_type = Some(media_type);
+        self
     }
 
     /// Sets `artifact_type`: the type of the artifact, where the manifest is used for one. MUST be set where `config` is the empty
     /// descriptor, to a media type by RFC 6838, section 4.2; not checked here.
-    pub fn artifact_type(self, artifact_type: MediaType) -> Self
+    pub fn artifact_type(mut self, artifact_type: MediaType) -> Self
         ensures { result ≡ record self { artifact_type = Some artifact_type } }
     {
-        ImageManifestBuilder {
-            artifact_type: Some(artifact_type),
-            ..self
-        }
+        self.artifact_type = Some(artifact_type);
+        self
     }
 
     /// Sets `config`: the descriptor of the configuration. For an image its media type SHOULD be
     /// `application/vnd.oci.image.config.v1+json`; not checked here.
-    pub fn config(self, config: Descriptor) -> Self
+    pub fn config(mut self, config: Descriptor) -> Self
         ensures { result ≡ record self { config = Some config } }
     {
-        ImageManifestBuilder {
-            config: Some(config),
-            ..self
-        }
+        self.config = Some(config);
+        self
     }
 
     /// Sets `layers`: the descriptors of the layers, the base layer first. SHOULD have at least one, with a media type of the
     /// specification; not checked here.
-    pub fn layers(self, layers: Vec<Descriptor>) -> Self
+    pub fn layers(mut self, layers: Vec<Descriptor>) -> Self
         ensures { result ≡ record self { layers = Some layers } }
     {
-        ImageManifestBuilder {
-            layers: Some(layers),
-            ..self
-        }
+        self.layers = Some(layers);
+        self
     }
 
     /// Sets `subject`: the descriptor of another manifest to which this manifest is related. Registries list it among that manifest's
     /// referrers.
-    pub fn subject(self, subject: Descriptor) -> Self
+    pub fn subject(mut self, subject: Descriptor) -> Self
         ensures { result ≡ record self { subject = Some subject } }
     {
-        ImageManifestBuilder {
-            subject: Some(subject),
-            ..self
-        }
+        self.subject = Some(subject);
+        self
     }
 
     /// Sets `annotations`: any metadata for the manifest, by its key. Keys SHOULD be in reverse domain notation, and `org.opencontainers`
     /// is reserved; not checked here.
-    pub fn annotations(self, annotations: BTreeMap<String, String>) -> Self
+    pub fn annotations(mut self, annotations: BTreeMap<String, String>) -> Self
         ensures { result ≡ record self { annotations = Some annotations } }
     {
-        ImageManifestBuilder {
-            annotations: Some(annotations),
-            ..self
-        }
+        self.annotations = Some(annotations);
+        self
     }
 
     /// Builds the document. Fails with `Builder`, which names the first required field that is not set.

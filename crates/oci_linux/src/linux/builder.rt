@@ -49,177 +49,143 @@ impl LinuxBuilder {
     ghost use Rattle.oci_linux_namespaces.specs.LinuxNamespace.{linux_namespace_plain};
 
     /// Sets `net_devices`: the network devices of the host that are moved into the container, by their names on the host.
-    pub fn net_devices(self, net_devices: BTreeMap<String, LinuxNetDevice>) -> Self
+    pub fn net_devices(mut self, net_devices: BTreeMap<String, LinuxNetDevice>) -> Self
         ensures { result ≡ record self { net_devices = Some net_devices } }
     {
-        LinuxBuilder {
-            net_devices: Some(net_devices),
-            ..self
-        }
+        self.net_devices = Some(net_devices);
+        self
     }
 
     /// Sets `uid_mappings`: the mappings of the container's user IDs to those of the host, for a user namespace.
-    pub fn uid_mappings(self, uid_mappings: Vec<LinuxIdMapping>) -> Self
+    pub fn uid_mappings(mut self, uid_mappings: Vec<LinuxIdMapping>) -> Self
         ensures { result ≡ record self { uid_mappings = Some uid_mappings } }
     {
-        LinuxBuilder {
-            uid_mappings: Some(uid_mappings),
-            ..self
-        }
+        self.uid_mappings = Some(uid_mappings);
+        self
     }
 
     /// Sets `gid_mappings`: the mappings of the container's group IDs to those of the host, for a user namespace.
-    pub fn gid_mappings(self, gid_mappings: Vec<LinuxIdMapping>) -> Self
+    pub fn gid_mappings(mut self, gid_mappings: Vec<LinuxIdMapping>) -> Self
         ensures { result ≡ record self { gid_mappings = Some gid_mappings } }
     {
-        LinuxBuilder {
-            gid_mappings: Some(gid_mappings),
-            ..self
-        }
+        self.gid_mappings = Some(gid_mappings);
+        self
     }
 
     /// Sets `sysctl`: parameters of the kernel that are set for the container, by their names.
-    pub fn sysctl(self, sysctl: BTreeMap<String, String>) -> Self
+    pub fn sysctl(mut self, sysctl: BTreeMap<String, String>) -> Self
         ensures { result ≡ record self { sysctl = Some sysctl } }
     {
-        LinuxBuilder {
-            sysctl: Some(sysctl),
-            ..self
-        }
+        self.sysctl = Some(sysctl);
+        self
     }
 
     /// Sets `resources`: what the container may use of its host.
-    pub fn resources(self, resources: LinuxResources) -> Self
+    pub fn resources(mut self, resources: LinuxResources) -> Self
         ensures { result ≡ record self { resources = Some resources } }
     {
-        LinuxBuilder {
-            resources: Some(resources),
-            ..self
-        }
+        self.resources = Some(resources);
+        self
     }
 
     /// Sets `cgroups_path`: the path of the container's control group: from where these are mounted if it is absolute, else from where the
     /// runtime chooses. A runtime MUST attach to the same place each time it is given the same path.
-    pub fn cgroups_path(self, cgroups_path: String) -> Self
+    pub fn cgroups_path(mut self, cgroups_path: String) -> Self
         ensures { result ≡ record self { cgroups_path = Some cgroups_path } }
     {
-        LinuxBuilder {
-            cgroups_path: Some(cgroups_path),
-            ..self
-        }
+        self.cgroups_path = Some(cgroups_path);
+        self
     }
 
     /// Sets `namespaces`: the namespaces that the container has of its own or joins; where a type is absent it MUST inherit that of the
     /// runtime. A runtime MUST refuse a type that stands twice; not checked here.
-    pub fn namespaces(self, namespaces: Vec<LinuxNamespace>) -> Self
+    pub fn namespaces(mut self, namespaces: Vec<LinuxNamespace>) -> Self
         ensures { result ≡ record self { namespaces = Some namespaces } }
     {
-        LinuxBuilder {
-            namespaces: Some(namespaces),
-            ..self
-        }
+        self.namespaces = Some(namespaces);
+        self
     }
 
     /// Sets `devices`: the device files that MUST be available in the container, beside the default ones that each runtime MUST supply.
-    pub fn devices(self, devices: Vec<LinuxDevice>) -> Self
+    pub fn devices(mut self, devices: Vec<LinuxDevice>) -> Self
         ensures { result ≡ record self { devices = Some devices } }
     {
-        LinuxBuilder {
-            devices: Some(devices),
-            ..self
-        }
+        self.devices = Some(devices);
+        self
     }
 
     /// Sets `seccomp`: the seccomp filter of the container's system calls.
-    pub fn seccomp(self, seccomp: LinuxSeccomp) -> Self
+    pub fn seccomp(mut self, seccomp: LinuxSeccomp) -> Self
         ensures { result ≡ record self { seccomp = Some seccomp } }
     {
-        LinuxBuilder {
-            seccomp: Some(seccomp),
-            ..self
-        }
+        self.seccomp = Some(seccomp);
+        self
     }
 
     /// Sets `rootfs_propagation`: how mounts below the container's root are passed on: `shared`, `slave`, `private` or `unbindable`. Any
     /// string is read.
-    pub fn rootfs_propagation(self, rootfs_propagation: String) -> Self
+    pub fn rootfs_propagation(mut self, rootfs_propagation: String) -> Self
         ensures { result ≡ record self { rootfs_propagation = Some rootfs_propagation } }
     {
-        LinuxBuilder {
-            rootfs_propagation: Some(rootfs_propagation),
-            ..self
-        }
+        self.rootfs_propagation = Some(rootfs_propagation);
+        self
     }
 
     /// Sets `masked_paths`: the paths that the container cannot read. They MUST be absolute, in the container; not checked here.
-    pub fn masked_paths(self, masked_paths: Vec<String>) -> Self
+    pub fn masked_paths(mut self, masked_paths: Vec<String>) -> Self
         ensures { result ≡ record self { masked_paths = Some masked_paths } }
     {
-        LinuxBuilder {
-            masked_paths: Some(masked_paths),
-            ..self
-        }
+        self.masked_paths = Some(masked_paths);
+        self
     }
 
     /// Sets `readonly_paths`: the paths that the container cannot write to. They MUST be absolute, in the container; not checked here.
-    pub fn readonly_paths(self, readonly_paths: Vec<String>) -> Self
+    pub fn readonly_paths(mut self, readonly_paths: Vec<String>) -> Self
         ensures { result ≡ record self { readonly_paths = Some readonly_paths } }
     {
-        LinuxBuilder {
-            readonly_paths: Some(readonly_paths),
-            ..self
-        }
+        self.readonly_paths = Some(readonly_paths);
+        self
     }
 
     /// Sets `mount_label`: the SELinux label of the container's mounts.
-    pub fn mount_label(self, mount_label: String) -> Self
+    pub fn mount_label(mut self, mount_label: String) -> Self
         ensures { result ≡ record self { mount_label = Some mount_label } }
     {
-        LinuxBuilder {
-            mount_label: Some(mount_label),
-            ..self
-        }
+        self.mount_label = Some(mount_label);
+        self
     }
 
     /// Sets `intel_rdt`: the container's share of the processor's caches and memory bandwidth. A runtime MUST NOT touch `resctrl` where it
     /// is absent.
-    pub fn intel_rdt(self, intel_rdt: LinuxIntelRdt) -> Self
+    pub fn intel_rdt(mut self, intel_rdt: LinuxIntelRdt) -> Self
         ensures { result ≡ record self { intel_rdt = Some intel_rdt } }
     {
-        LinuxBuilder {
-            intel_rdt: Some(intel_rdt),
-            ..self
-        }
+        self.intel_rdt = Some(intel_rdt);
+        self
     }
 
     /// Sets `memory_policy`: from which memory nodes the container's memory comes.
-    pub fn memory_policy(self, memory_policy: LinuxMemoryPolicy) -> Self
+    pub fn memory_policy(mut self, memory_policy: LinuxMemoryPolicy) -> Self
         ensures { result ≡ record self { memory_policy = Some memory_policy } }
     {
-        LinuxBuilder {
-            memory_policy: Some(memory_policy),
-            ..self
-        }
+        self.memory_policy = Some(memory_policy);
+        self
     }
 
     /// Sets `personality`: the execution domain of the container.
-    pub fn personality(self, personality: LinuxPersonality) -> Self
+    pub fn personality(mut self, personality: LinuxPersonality) -> Self
         ensures { result ≡ record self { personality = Some personality } }
     {
-        LinuxBuilder {
-            personality: Some(personality),
-            ..self
-        }
+        self.personality = Some(personality);
+        self
     }
 
     /// Sets `time_offsets`: by how much the clocks of the time namespace differ, by the clocks' names, `boottime` and `monotonic`.
-    pub fn time_offsets(self, time_offsets: BTreeMap<String, LinuxTimeOffset>) -> Self
+    pub fn time_offsets(mut self, time_offsets: BTreeMap<String, LinuxTimeOffset>) -> Self
         ensures { result ≡ record self { time_offsets = Some time_offsets } }
     {
-        LinuxBuilder {
-            time_offsets: Some(time_offsets),
-            ..self
-        }
+        self.time_offsets = Some(time_offsets);
+        self
     }
 
     /// Builds the document. Fields that are not set have their defaults.

@@ -47,168 +47,136 @@ impl ProcessBuilder {
     ghost use Rattle.oci_process.specs.PosixRlimit.{posix_rlimit_plain};
 
     /// Sets `terminal`: whether a terminal is attached to the process; false where not given.
-    pub fn terminal(self, terminal: bool) -> Self
+    pub fn terminal(mut self, terminal: bool) -> Self
         ensures { result ≡ record self { terminal = Some terminal } }
     {
-        ProcessBuilder {
-            terminal: Some(terminal),
-            ..self
-        }
+        self.terminal = Some(terminal);
+        self
     }
 
     /// Sets `console_size`: the size of the terminal. Runtimes MUST ignore it unless `terminal` is true.
-    pub fn console_size(self, console_size: Box) -> Self
+    pub fn console_size(mut self, console_size: Box) -> Self
         ensures { result ≡ record self { console_size = Some console_size } }
     {
-        ProcessBuilder {
-            console_size: Some(console_size),
-            ..self
-        }
+        self.console_size = Some(console_size);
+        self
     }
 
     /// Sets `user`: the user and groups that the process runs as.
-    pub fn user(self, user: User) -> Self
+    pub fn user(mut self, user: User) -> Self
         ensures { result ≡ record self { user = Some user } }
     {
-        ProcessBuilder {
-            user: Some(user),
-            ..self
-        }
+        self.user = Some(user);
+        self
     }
 
     /// Sets `args`: the program and its arguments, as the `argv` of execvp(3). On other platforms than Windows at least one entry is
     /// REQUIRED; not checked here.
-    pub fn args(self, args: Vec<String>) -> Self
+    pub fn args(mut self, args: Vec<String>) -> Self
         ensures { result ≡ record self { args = Some args } }
     {
-        ProcessBuilder {
-            args: Some(args),
-            ..self
-        }
+        self.args = Some(args);
+        self
     }
 
     /// Sets `command_line`: the whole command line, on Windows. REQUIRED there if `args` is absent, which is not checked here; without it
     /// the runtime escapes and joins `args`.
-    pub fn command_line(self, command_line: String) -> Self
+    pub fn command_line(mut self, command_line: String) -> Self
         ensures { result ≡ record self { command_line = Some command_line } }
     {
-        ProcessBuilder {
-            command_line: Some(command_line),
-            ..self
-        }
+        self.command_line = Some(command_line);
+        self
     }
 
     /// Sets `env`: the environment variables, each as `NAME=value`. The format is not checked here.
-    pub fn env(self, env: Vec<String>) -> Self
+    pub fn env(mut self, env: Vec<String>) -> Self
         ensures { result ≡ record self { env = Some env } }
     {
-        ProcessBuilder {
-            env: Some(env),
-            ..self
-        }
+        self.env = Some(env);
+        self
     }
 
     /// Sets `cwd`: the working directory of the process. MUST be an absolute path; not checked here.
-    pub fn cwd(self, cwd: String) -> Self
+    pub fn cwd(mut self, cwd: String) -> Self
         ensures { result ≡ record self { cwd = Some cwd } }
     {
-        ProcessBuilder {
-            cwd: Some(cwd),
-            ..self
-        }
+        self.cwd = Some(cwd);
+        self
     }
 
     /// Sets `capabilities`: the capabilities of the process, on Linux. A name that is no capability is rejected, where a runtime MUST only
     /// log a warning.
-    pub fn capabilities(self, capabilities: LinuxCapabilities) -> Self
+    pub fn capabilities(mut self, capabilities: LinuxCapabilities) -> Self
         ensures { result ≡ record self { capabilities = Some capabilities } }
     {
-        ProcessBuilder {
-            capabilities: Some(capabilities),
-            ..self
-        }
+        self.capabilities = Some(capabilities);
+        self
     }
 
     /// Sets `rlimits`: the resource limits of the process. A runtime MUST reject two of one `type`; not checked here.
-    pub fn rlimits(self, rlimits: Vec<PosixRlimit>) -> Self
+    pub fn rlimits(mut self, rlimits: Vec<PosixRlimit>) -> Self
         ensures { result ≡ record self { rlimits = Some rlimits } }
     {
-        ProcessBuilder {
-            rlimits: Some(rlimits),
-            ..self
-        }
+        self.rlimits = Some(rlimits);
+        self
     }
 
     /// Sets `no_new_privileges`: whether the process is kept from gaining privileges, on Linux by `no_new_privs`.
-    pub fn no_new_privileges(self, no_new_privileges: bool) -> Self
+    pub fn no_new_privileges(mut self, no_new_privileges: bool) -> Self
         ensures { result ≡ record self { no_new_privileges = Some no_new_privileges } }
     {
-        ProcessBuilder {
-            no_new_privileges: Some(no_new_privileges),
-            ..self
-        }
+        self.no_new_privileges = Some(no_new_privileges);
+        self
     }
 
     /// Sets `apparmor_profile`: the name of the process's AppArmor profile, on Linux.
-    pub fn apparmor_profile(self, apparmor_profile: String) -> Self
+    pub fn apparmor_profile(mut self, apparmor_profile: String) -> Self
         ensures { result ≡ record self { apparmor_profile = Some apparmor_profile } }
     {
-        ProcessBuilder {
-            apparmor_profile: Some(apparmor_profile),
-            ..self
-        }
+        self.apparmor_profile = Some(apparmor_profile);
+        self
     }
 
     /// Sets `oom_score_adj`: the `oom_score_adj` of the process, from -1000, never killed, to 1000, which a runtime MUST set if given and
     /// else MUST NOT change. The range is not checked here.
-    pub fn oom_score_adj(self, oom_score_adj: i32) -> Self
+    pub fn oom_score_adj(mut self, oom_score_adj: i32) -> Self
         ensures { result ≡ record self { oom_score_adj = Some oom_score_adj } }
     {
-        ProcessBuilder {
-            oom_score_adj: Some(oom_score_adj),
-            ..self
-        }
+        self.oom_score_adj = Some(oom_score_adj);
+        self
     }
 
     /// Sets `selinux_label`: the SELinux label of the process, on Linux.
-    pub fn selinux_label(self, selinux_label: String) -> Self
+    pub fn selinux_label(mut self, selinux_label: String) -> Self
         ensures { result ≡ record self { selinux_label = Some selinux_label } }
     {
-        ProcessBuilder {
-            selinux_label: Some(selinux_label),
-            ..self
-        }
+        self.selinux_label = Some(selinux_label);
+        self
     }
 
     /// Sets `io_priority`: the I/O priority of the container's processes, on Linux.
-    pub fn io_priority(self, io_priority: LinuxIOPriority) -> Self
+    pub fn io_priority(mut self, io_priority: LinuxIOPriority) -> Self
         ensures { result ≡ record self { io_priority = Some io_priority } }
     {
-        ProcessBuilder {
-            io_priority: Some(io_priority),
-            ..self
-        }
+        self.io_priority = Some(io_priority);
+        self
     }
 
     /// Sets `scheduler`: the scheduling policy of the process and its parameters, on Linux.
-    pub fn scheduler(self, scheduler: Scheduler) -> Self
+    pub fn scheduler(mut self, scheduler: Scheduler) -> Self
         ensures { result ≡ record self { scheduler = Some scheduler } }
     {
-        ProcessBuilder {
-            scheduler: Some(scheduler),
-            ..self
-        }
+        self.scheduler = Some(scheduler);
+        self
     }
 
     /// Sets `exec_cpu_affinity`: the CPUs of a program that is started in the running container, on Linux; not those of the container's
     /// first process.
-    pub fn exec_cpu_affinity(self, exec_cpu_affinity: ExecCPUAffinity) -> Self
+    pub fn exec_cpu_affinity(mut self, exec_cpu_affinity: ExecCPUAffinity) -> Self
         ensures { result ≡ record self { exec_cpu_affinity = Some exec_cpu_affinity } }
     {
-        ProcessBuilder {
-            exec_cpu_affinity: Some(exec_cpu_affinity),
-            ..self
-        }
+        self.exec_cpu_affinity = Some(exec_cpu_affinity);
+        self
     }
 
     /// Builds the document. Fields that are not set have their defaults.
