@@ -34,13 +34,13 @@ kept_one c t is = rw is refl
 passed_one : (c : Told → Bool) (t : Told) → c t ≡ false → filter c (t ∷ []) ≡ []
 passed_one c t is = rw is refl
 
-pub one_kept : (c : Told → Bool) (fs base : List Finding) (bs : List Broken) (i : ℕ) (f : Finding) (b : Broken) → i < length bs → b ≡ get_or bs i b → c (told b) ≡ true → breach f ≡ Some (told b)
+pub one_kept : (c : Told → Bool) (new fs base : List Finding) (bs : List Broken) (i : ℕ) (b : Broken) → i < length bs → b ≡ get_or bs i b → c (told b) ≡ true → map breach new ≡ map breach fs ++ Some (told b) ∷ []
     → map breach fs ≡ map breach base ++ map Some (filter c (map told (take i bs)))
-    → map breach (fs ++ f ∷ []) ≡ map breach base ++ map Some (filter c (map told (take (i + 1) bs)))
-one_kept c fs base bs i f b lt is counts says before =
+    → map breach new ≡ map breach base ++ map Some (filter c (map told (take (i + 1) bs)))
+one_kept c new fs base bs i b lt is counts says before =
     let more : filter c (map told (take (i + 1) bs)) ≡ filter c (map told (take i bs)) ++ told b ∷ [] = counted_more c bs i b lt is ∙ ap (λ q. filter c (map told (take i bs)) ++ q) (kept_one c (told b) counts) in
-    map_both breach fs f ∙ ap (λ q. q ++ breach f ∷ []) before ∙ append_assoc (map breach base) (map Some (filter c (map told (take i bs)))) (breach f ∷ [])
-    ∙ ap (λ q. map breach base ++ (map Some (filter c (map told (take i bs))) ++ q ∷ [])) says ∙ ap (λ q. map breach base ++ q) (sym (map_both Some (filter c (map told (take i bs))) (told b)))
+    says ∙ ap (λ q. q ++ Some (told b) ∷ []) before ∙ append_assoc (map breach base) (map Some (filter c (map told (take i bs)))) (Some (told b) ∷ [])
+    ∙ ap (λ q. map breach base ++ q) (sym (map_both Some (filter c (map told (take i bs))) (told b)))
     ∙ ap (λ q. map breach base ++ map Some q) (sym more)
 
 pub one_passed : (c : Told → Bool) (fs base : List Finding) (bs : List Broken) (i : ℕ) (b : Broken) → i < length bs → b ≡ get_or bs i b → c (told b) ≡ false
@@ -78,13 +78,16 @@ book_more c p d new fs books i b listed lt all more before =
 
 -- ---- nothing is wrong
 
-pub all_right : (a b e v : List Finding) (M : Type 0) (k : List Told) (n : List Report) → v ≡ a ++ (b ++ e) → (a ≡ []) ↔ M → map breach b ≡ map Some k → length e ≡ length n → (v ≡ []) ↔ (M × ((k ≡ []) × (n ≡ [])))
-all_right [] [] [] v M [] [] is h says len = ((λ none. (h.0 refl, (refl, refl))), (λ all. is))
-all_right [] [] [] v M [] (x ∷ n) is h says len = absurd (omega arith)
-all_right [] [] [] v M (x ∷ k) n is h says len = cc
-all_right [] [] (x ∷ e) v M k [] is h says len = absurd (omega arith)
-all_right [] [] (x ∷ e) v M [] (y ∷ n) is h says len = ((λ none. cc), (λ all. let no = all.1.1 in cc))
-all_right [] [] (x ∷ e) v M (z ∷ k) (y ∷ n) is h says len = cc
-all_right [] (x ∷ b) e v M [] n is h says len = cc
-all_right [] (x ∷ b) e v M (y ∷ k) n is h says len = ((λ none. cc), (λ all. let no = all.1.0 in cc))
-all_right (x ∷ a) b e v M k n is h says len = ((λ none. cc), (λ all. let no = h.1 all.0 in cc))
+pub none_counted : (b e v : List Finding) (k : List Told) (n : List Report) → v ≡ b ++ e → map breach b ≡ map Some k → length e ≡ length n → (v ≡ []) ↔ ((k ≡ []) × (n ≡ []))
+none_counted [] [] v [] [] is says len = ((λ none. (refl, refl)), (λ all. is))
+none_counted [] [] v [] (x ∷ n) is says len = absurd (omega arith)
+none_counted [] [] v (x ∷ k) n is says len = cc
+none_counted [] (x ∷ e) v k [] is says len = absurd (omega arith)
+none_counted [] (x ∷ e) v k (y ∷ n) is says len = ((λ none. cc), (λ all. let no = all.1 in cc))
+none_counted (x ∷ b) e v [] n is says len = cc
+none_counted (x ∷ b) e v (y ∷ k) n is says len = ((λ none. cc), (λ all. let no = all.0 in cc))
+
+pub none_in_both : (a b v : List Finding) (M N : Type 0) → v ≡ a ++ b → (a ≡ []) ↔ M → (b ≡ []) ↔ N → (v ≡ []) ↔ (M × N)
+none_in_both [] [] v M N is h k = ((λ none. (h.0 refl, k.0 refl)), (λ all. is))
+none_in_both [] (x ∷ b) v M N is h k = ((λ none. cc), (λ all. let no = k.1 all.1 in cc))
+none_in_both (x ∷ a) b v M N is h k = ((λ none. cc), (λ all. let no = h.1 all.0 in cc))

@@ -7,12 +7,11 @@ use Rattle.oci_report.specs.declared.finding.Finding.{Finding}
 use Rattle.oci_report.specs.Findings.{told, told_of, as_told}
 use Rattle.oci_check.proofs.Each.{one_more, map_both}
 
-pub told_more : (fs : List Finding) (vs : List Violation) (i : ℕ) (f : Finding) (v : Violation) → i < length vs → v ≡ get_or vs i v → told f ≡ told_of v → map told fs ≡ map told_of (take i vs)
-    → map told (fs ++ f ∷ []) ≡ map told_of (take (i + 1) vs)
-told_more fs vs i f v lt is same before =
+pub told_more : (new fs : List Finding) (vs : List Violation) (i : ℕ) (v : Violation) → i < length vs → v ≡ get_or vs i v → map told new ≡ map told fs ++ told_of v ∷ [] → map told fs ≡ map told_of (take i vs)
+    → map told new ≡ map told_of (take (i + 1) vs)
+told_more new fs vs i v lt is says before =
     let step : i + 1 ≡ suc i = omega arith in
-    let more : map told fs ++ told f ∷ [] ≡ map told_of (take i vs) ++ told_of v ∷ [] = (let a = same in let b = before in cc) in
-    map_both told fs f ∙ more ∙ sym (map_both told_of (take i vs) v) ∙ sym (ap (map told_of) (ap (λ n. take n vs) step ∙ one_more vs i v lt is))
+    says ∙ ap (λ q. q ++ told_of v ∷ []) before ∙ sym (map_both told_of (take i vs) v) ∙ sym (ap (map told_of) (ap (λ n. take n vs) step ∙ one_more vs i v lt is))
 
 composed : (vs : List Violation) → map told_of vs ≡ map as_told (map reported vs)
 composed [] = refl

@@ -1,5 +1,5 @@
 //! What is wrong with the bytes of a document, beside its schema too: rules, and members that the schema does not list.
-ghost use Rattle.std.specs.Prelude.{◌≡◌, ◌↔◌, ◌++◌, [], Some, map, length, IfOk, OnOk};
+ghost use Rattle.std.specs.Prelude.{◌≡◌, ◌↔◌, ◌++◌, ◌+◌, ◌∷◌, [], Some, map, length, IfOk, OnOk};
 ghost use Rattle.std.specs.List.{filter, flat_map};
 ghost use Rattle.serde_json.specs.View.{view};
 ghost use Rattle.oci_kinds.specs.Kinds.{shape_of};
@@ -7,10 +7,10 @@ ghost use Rattle.oci_lint.specs.Unknown.{unknown as all_unknown};
 ghost use Rattle.oci_rules.specs.Listed.{all_broken};
 ghost use Rattle.oci_rules.specs.Tables.{level_of, platform_of, rule_of, told as broken_told};
 ghost use Rattle.oci_report.specs.Findings.{breach};
-ghost use Rattle.oci_check.specs.Checks.{IsRight, IsRightValue, IsWrong, asked_rules, platform_asked, counts as does_count, binds as does_bind, is_error as makes_wrong, counted, denied};
+ghost use Rattle.oci_check.specs.Checks.{IsRight, IsRightValue, IsWrong, asked_rules, platform_asked, counts as does_count, binds as does_bind, is_error as makes_wrong, counted, denied, rules_if};
 
 use crate::asked::{Check, Unknown};
-use crate::inspect::{Reading, faulty, read_value, schema_findings, shown_at, with_other_kind};
+use crate::inspect::{Reading, faulty, read_value, schema_errors, shown_at};
 use crate::quick::is_right;
 use crate::repeated::warn_of_repeated;
 use crate::rulebooks::RuleBooks;
@@ -24,7 +24,6 @@ use serde_json::Value;
 use std::alloc::{AllocError, Global};
 
 /// What is wrong with the bytes of a document, by all that is asked. Fails if out of memory.
-#[tactic(auto, using(crate::proofs::Allowed::right_of, crate::proofs::Allowed::wrong_of, crate::proofs::Allowed::wrong_of_no_json))]
 pub fn examine<'a, B: RuleBooks>(
     books: &B,
     asked: &Check<'a>,
@@ -39,6 +38,21 @@ pub fn examine<'a, B: RuleBooks>(
     if is_right(asked, name, bytes, workspace, alloc) {
         return Report::new(Vec::new(alloc), Vec::new(alloc), bytes, alloc);
     }
+    examine_read(books, asked, name, bytes, alloc)
+}
+
+/// The same by way of a value.
+#[tactic(auto, using(crate::proofs::Allowed::right_of, crate::proofs::Allowed::wrong_of, crate::proofs::Allowed::wrong_of_no_json))]
+fn examine_read<'a, B: RuleBooks>(
+    books: &B,
+    asked: &Check<'a>,
+    name: &str,
+    bytes: &[u8],
+    alloc: Global,
+) -> Result<Report<'a>, AllocError>
+    ensures right { IfOk result (λ r. r.errors.items ≡ [] → IsRight (B.rules books.now) asked.now bytes.now) }
+    ensures wrong { IfOk result (λ r. ¬ (r.errors.items ≡ []) → IsWrong (B.rules books.now) asked.now bytes.now) }
+{
     match read_value(asked.kind, name, bytes, alloc)? {
         Reading::Value(kind, value) => {
             examine_value(books, asked, kind, name, &value, bytes, alloc)
@@ -77,22 +91,34 @@ fn errors_of<'a, B: RuleBooks>(
 ) -> Result<Vec<Finding<'a>>, AllocError>
     ensures { IfOk result (λ v. (v.items ≡ []) ↔ IsRightValue (B.rules books.now) asked.now kind (view value.now)) }
 {
-    let of_schema = schema_findings(kind, value, alloc)?;
-    let of_schema = with_other_kind(kind, name, value, of_schema, alloc)?;
-    let of_rules = rule_findings(books, asked, kind, value, warnings, alloc)?;
-    let of_members = denied_findings(asked.unknown, kind, value, alloc)?;
-    joined(of_schema, of_rules, of_members)
+    let of_schema = schema_errors(kind, name, value, alloc)?;
+    let of_asked = errors_asked(books, asked, kind, value, warnings, alloc)?;
+    joined(of_schema, of_asked)
 }
 
-/// Three lists, one behind the other.
+/// What is wrong with a value beside its schema.
+fn errors_asked<'a, B: RuleBooks>(
+    books: &B,
+    asked: &Check<'a>,
+    kind: Kind,
+    value: &Value,
+    warnings: &mut Vec<Finding<'a>>,
+    alloc: Global,
+) -> Result<Vec<Finding<'a>>, AllocError>
+    ensures { IfOk result (λ v. (v.items ≡ []) ↔ ((counted (B.rules books.now) asked.now kind (view value.now) ≡ []) × (denied asked.now.unknown kind (view value.now) ≡ []))) }
+{
+    let of_rules = rule_findings(books, asked, kind, value, warnings, alloc)?;
+    let of_members = denied_findings(asked.unknown, kind, value, alloc)?;
+    joined(of_rules, of_members)
+}
+
+/// Two lists, one behind the other.
 fn joined<'a>(
     mut first: Vec<Finding<'a>>,
     mut second: Vec<Finding<'a>>,
-    mut third: Vec<Finding<'a>>,
 ) -> Result<Vec<Finding<'a>>, AllocError>
-    ensures { IfOk result (λ v. v.items ≡ first.entry.items ++ (second.entry.items ++ third.entry.items)) }
+    ensures { IfOk result (λ v. v.items ≡ first.entry.items ++ second.entry.items) }
 {
-    second.append(&mut third)?;
     first.append(&mut second)?;
     Ok(first)
 }
@@ -141,13 +167,25 @@ fn asked_books<'a, B: RuleBooks>(
 ) -> Result<Vec<&'a [Rule<'a>]>, AllocError>
     ensures { IfOk result (λ v. flat_map (λ b. map rule_of b.now) v.items ≡ asked_rules (B.rules books.now) asked.now kind) }
 {
-    let mut found = if asked.rules {
-        books.books_of(kind, alloc)?
-    } else {
-        Vec::new(alloc)
-    };
+    let mut found = books_if(books, asked.rules, kind, alloc)?;
     found.push(asked.policy)?;
     Ok(found)
+}
+
+/// The books of the kind, if they are asked for.
+fn books_if<B: RuleBooks>(
+    books: &B,
+    asked: bool,
+    kind: Kind,
+    alloc: Global,
+) -> Result<Vec<&'static [Rule<'static>]>, AllocError>
+    ensures { IfOk result (λ v. flat_map (λ b. map rule_of b.now) v.items ≡ rules_if asked (B.rules books.now kind)) }
+{
+    if asked {
+        books.books_of(kind, alloc)
+    } else {
+        Ok(Vec::new(alloc))
+    }
 }
 
 /// The platform that is asked for, or the one that the document says.
@@ -173,7 +211,7 @@ fn add_counted<'a>(
 {
     for item in listed {
         if is_error(level, item.rule.level) {
-            found.push(rule_finding(item, value, false, alloc)?)?;
+            add_rule_finding(item, value, false, found, alloc)?;
         } else {
             warn_if_counted(item, level, value, warnings, alloc)?;
         }
@@ -190,8 +228,22 @@ fn warn_if_counted<'a>(
     alloc: Global,
 ) -> Result<(), AllocError> {
     if counts(level, item.rule.level) {
-        warnings.push(rule_finding(item, value, true, alloc)?)?;
+        add_rule_finding(item, value, true, warnings, alloc)?;
     }
+    Ok(())
+}
+
+fn add_rule_finding<'a>(
+    item: &Broken<'a>,
+    value: &Value,
+    is_warning: bool,
+    found: &mut Vec<Finding<'a>>,
+    alloc: Global,
+) -> Result<(), AllocError>
+    ensures { OnOk result (map breach found.new.items ≡ map breach found.old.items ++ Some (broken_told item.now) ∷ []) }
+{
+    let finding = rule_finding(item, value, is_warning, alloc)?;
+    found.push(finding)?;
     Ok(())
 }
 
@@ -243,12 +295,12 @@ fn rule_finding<'a>(
 }
 
 /// The members that the schema does not list, where they are denied.
-fn denied_findings(
+fn denied_findings<'a>(
     asked: Unknown,
     kind: Kind,
     value: &Value,
     alloc: Global,
-) -> Result<Vec<Finding<'static>>, AllocError>
+) -> Result<Vec<Finding<'a>>, AllocError>
     ensures { IfOk result (λ v. length v.items ≡ length (denied asked kind (view value.now))) }
 {
     match asked {
@@ -270,37 +322,50 @@ fn warnings_of<'a>(
     }
 }
 
-fn unknown_findings(
+fn unknown_findings<'a>(
     kind: Kind,
     value: &Value,
     is_warning: bool,
     alloc: Global,
-) -> Result<Vec<Finding<'static>>, AllocError>
+) -> Result<Vec<Finding<'a>>, AllocError>
     ensures { IfOk result (λ v. length v.items ≡ length (all_unknown (shape_of kind) [] (view value.now))) }
 {
     let listed = unknown_members(&OciRecords, kind.schema(), value, alloc)?;
     findings_of(&listed, is_warning, alloc)
 }
 
-fn findings_of(
+fn findings_of<'a>(
     listed: &Vec<UnknownMember>,
     is_warning: bool,
     alloc: Global,
-) -> Result<Vec<Finding<'static>>, AllocError>
+) -> Result<Vec<Finding<'a>>, AllocError>
     ensures { IfOk result (λ v. length v.items ≡ length listed.now.items) }
 {
     let mut found = Vec::new(alloc);
     for member in listed {
-        found.push(unknown_finding(member, is_warning, alloc)?)?;
+        add_unknown(member, is_warning, &mut found, alloc)?;
     }
     Ok(found)
 }
 
-fn unknown_finding(
+fn add_unknown<'a>(
+    member: &UnknownMember,
+    is_warning: bool,
+    found: &mut Vec<Finding<'a>>,
+    alloc: Global,
+) -> Result<(), AllocError>
+    ensures { OnOk result (length found.new.items ≡ length found.old.items + 1) }
+{
+    let finding = unknown_finding(member, is_warning, alloc)?;
+    found.push(finding)?;
+    Ok(())
+}
+
+fn unknown_finding<'a>(
     member: &UnknownMember,
     is_warning: bool,
     alloc: Global,
-) -> Result<Finding<'static>, AllocError> {
+) -> Result<Finding<'a>, AllocError> {
     let meant = suggestion(member.owner.members, member.name.as_str(), alloc)?;
     Ok(Finding {
         pointer: String::from_str(alloc, member.pointer.as_str())?,

@@ -1,5 +1,5 @@
 //! What is wrong with the bytes of a document.
-ghost use Rattle.std.specs.Prelude.{◌≡◌, ◌↔◌, [], true, map, is_some, IfOk, IfSome};
+ghost use Rattle.std.specs.Prelude.{◌≡◌, ◌↔◌, ◌++◌, ◌∷◌, [], true, map, is_some, IfOk, IfSome, OnOk};
 ghost use Rattle.serde_json.specs.View.{view};
 ghost use Rattle.oci_json_model.specs.Plain.{Plain};
 ghost use Rattle.oci_json_model.specs.Means.{Means};
@@ -85,8 +85,7 @@ pub fn inspect(
 {
     match read_value(kind, name, bytes, alloc)? {
         Reading::Value(found, value) => {
-            let errors = schema_findings(found, &value, alloc)?;
-            let errors = with_other_kind(found, name, &value, errors, alloc)?;
+            let errors = schema_errors(found, name, &value, alloc)?;
             Report::new(errors, Vec::new(alloc), bytes, alloc)
         }
         Reading::Fault(fault) => faulty(fault, alloc),
@@ -103,12 +102,25 @@ pub fn faulty<'a>(fault: Finding<'a>, alloc: Global) -> Result<Report<'a>, Alloc
 }
 
 /// A finding on the whole document.
-fn at_start(cause: Cause<'static>, alloc: Global) -> Finding<'static> {
+fn at_start<'a>(cause: Cause<'a>, alloc: Global) -> Finding<'a> {
     Finding {
         pointer: String::new(alloc),
         cause,
         is_warning: false,
     }
+}
+
+/// The violations of a kind's schema by a value, and if there is one, that the document looks like one of another kind, where it does.
+pub(crate) fn schema_errors<'a>(
+    kind: Kind,
+    name: &str,
+    value: &Value,
+    alloc: Global,
+) -> Result<Vec<Finding<'a>>, AllocError>
+    ensures { IfOk result (λ v. (v.items ≡ []) ↔ ((p : Plain) × Means (shape_of kind) (view value.now) p)) }
+{
+    let found = schema_findings(kind, value, alloc)?;
+    with_other_kind(kind, name, value, found, alloc)
 }
 
 /// The findings, and if there is one, that the document looks like one of another kind, where it does.
@@ -124,14 +136,25 @@ pub fn with_other_kind<'a>(
     if found.is_empty() {
         return Ok(found);
     }
-    if let Detected::One(kind) = detect(name, value) {
-        if kind != asked {
-            let (title, word) = (title_of(kind), name_of(kind));
-            let text = format!(in alloc; "this looks like {title} (--kind {word})")?;
-            found.push(at_start(Cause::Kind(text), alloc))?;
-        }
+    if let Some(kind) = other_kind(asked, name, value) {
+        found.push(looks_like(kind, alloc)?)?;
     }
     Ok(found)
+}
+
+/// The kind that a document looks like, if it is another one.
+fn other_kind(asked: Kind, name: &str, value: &Value) -> Option<Kind> {
+    match detect(name, value) {
+        Detected::One(kind) if kind != asked => Some(kind),
+        _ => None,
+    }
+}
+
+/// That a document looks like one of this kind.
+fn looks_like<'a>(kind: Kind, alloc: Global) -> Result<Finding<'a>, AllocError> {
+    let (title, word) = (title_of(kind), name_of(kind));
+    let text = format!(in alloc; "this looks like {title} (--kind {word})")?;
+    Ok(at_start(Cause::Kind(text), alloc))
 }
 
 /// That the bytes are not JSON.
@@ -165,11 +188,11 @@ fn before(bytes: &[u8], line: usize, column: usize) -> &[u8] {
 }
 
 /// The violations of a kind's schema by a value.
-pub fn schema_findings(
+pub fn schema_findings<'a>(
     kind: Kind,
     value: &Value,
     alloc: Global,
-) -> Result<Vec<Finding<'static>>, AllocError>
+) -> Result<Vec<Finding<'a>>, AllocError>
     ensures all { IfOk result (λ v. map told v.items ≡ map as_told (all_violations (shape_of kind) [] (view value.now))) }
     ensures none { IfOk result (λ v. (v.items ≡ []) ↔ ((p : Plain) × Means (shape_of kind) (view value.now) p)) }
 {
@@ -178,37 +201,58 @@ pub fn schema_findings(
     findings_of(&listed, value, alloc)
 }
 
-fn findings_of(
+fn findings_of<'a>(
     listed: &Vec<Violation>,
     value: &Value,
     alloc: Global,
-) -> Result<Vec<Finding<'static>>, AllocError>
+) -> Result<Vec<Finding<'a>>, AllocError>
     ensures { IfOk result (λ v. map told v.items ≡ map told_of listed.now.items) }
 {
     let mut found = Vec::new(alloc);
     for violation in listed {
-        found.push(finding_of(violation, value, alloc)?)?;
+        add_finding(violation, value, &mut found, alloc)?;
     }
     Ok(found)
 }
 
-fn finding_of(
+fn add_finding<'a>(
+    violation: &Violation,
+    value: &Value,
+    found: &mut Vec<Finding<'a>>,
+    alloc: Global,
+) -> Result<(), AllocError>
+    ensures { OnOk result (map told found.new.items ≡ map told found.old.items ++ told_of violation.now ∷ []) }
+{
+    let finding = finding_of(violation, value, alloc)?;
+    found.push(finding)?;
+    Ok(())
+}
+
+fn finding_of<'a>(
     violation: &Violation,
     value: &Value,
     alloc: Global,
-) -> Result<Finding<'static>, AllocError>
+) -> Result<Finding<'a>, AllocError>
     ensures { IfOk result (λ f. told f ≡ told_of violation.now) }
 {
-    let pointer = violation.pointer.as_str();
-    let shown = match violation.expected {
-        Expected::Value(_) => shown_at(value, pointer, alloc)?,
-        _ => None,
-    };
+    let shown = shown_of(violation, value, alloc)?;
     Ok(Finding {
-        pointer: String::from_str(alloc, pointer)?,
+        pointer: String::from_str(alloc, violation.pointer.as_str())?,
         cause: Cause::Schema(violation.expected, shown),
         is_warning: false,
     })
+}
+
+/// The text of the value that is not what is expected, if it is there.
+fn shown_of(
+    violation: &Violation,
+    value: &Value,
+    alloc: Global,
+) -> Result<Option<String>, AllocError> {
+    match violation.expected {
+        Expected::Value(_) => shown_at(value, violation.pointer.as_str(), alloc),
+        _ => Ok(None),
+    }
 }
 
 /// The text of the value at a pointer, cut where it is long.

@@ -6,24 +6,22 @@ use Rattle.oci_check.specs.Checks.{IsAsked}
 use Rattle.oci_check.proofs.Allowed.{allowed_of, none_of}
 use Rattle.oci_check.proofs.inspect.inspect.Goals as goal
 
-pub returns-in_ok-errors-in-Value-2-clause-allowed : goal.returns-in_ok-errors-in-Value-2-clause-allowed
-returns-in_ok-errors-in-Value-2-clause-allowed c =
+pub returns-in_ok-errors-in-Value-clause-allowed : goal.returns-in_ok-errors-in-Value-clause-allowed
+returns-in_ok-errors-in-Value-clause-allowed c =
     let asked : IsAsked c.args.kind c.in-Value.found = search rules in
     let reads : ReadsAs c.args.bytes.now (view c.in-Value.value) = search rules in
-    let both = c.in_ok-errors-in-Value-2.ensures in
-    let means = c.in_ok-errors-in-Value.ensures.none in
+    let both = c.in_ok-errors-in-Value.ensures in
     IfOk-weaker c.new-in-Value.result _ _
     (λ r same. allowed_of c.args.kind c.in-Value.found c.args.bytes.now (view c.in-Value.value) r.errors.items asked reads
-    ((λ none. means.0 (both.0 (ap (λ v. v.items) (sym same) ∙ none))), (λ m. ap (λ v. v.items) same ∙ both.1 (means.1 m))))
+    ((λ none. both.0 (ap (λ v. v.items) (sym same) ∙ none)), (λ m. ap (λ v. v.items) same ∙ both.1 m)))
     c.new-in-Value.ensures.errors
 
-pub returns-in_ok-errors-in-Value-2-clause-all : goal.returns-in_ok-errors-in-Value-2-clause-all
-returns-in_ok-errors-in-Value-2-clause-all c =
+pub returns-in_ok-errors-in-Value-clause-all : goal.returns-in_ok-errors-in-Value-clause-all
+returns-in_ok-errors-in-Value-clause-all c =
     let asked : IsAsked c.args.kind c.in-Value.found = search rules in
     let reads : ReadsAs c.args.bytes.now (view c.in-Value.value) = search rules in
-    let both = c.in_ok-errors-in-Value-2.ensures in
-    let means = c.in_ok-errors-in-Value.ensures.none in
+    let both = c.in_ok-errors-in-Value.ensures in
     IfOk-weaker c.new-in-Value.result _ _
     (λ r same. none_of c.args.kind c.in-Value.found c.args.bytes.now (view c.in-Value.value) r.errors.items asked reads
-    ((λ none. means.0 (both.0 (ap (λ v. v.items) (sym same) ∙ none))), (λ m. ap (λ v. v.items) same ∙ both.1 (means.1 m))))
+    ((λ none. both.0 (ap (λ v. v.items) (sym same) ∙ none)), (λ m. ap (λ v. v.items) same ∙ both.1 m)))
     c.new-in-Value.ensures.errors

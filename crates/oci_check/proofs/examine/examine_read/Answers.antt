@@ -4,7 +4,7 @@ use Rattle.serde_json.specs.View.{view}
 use Rattle.oci_json_io.specs.Engines.{ReadsAs}
 use Rattle.oci_check.specs.Checks.{IsAsked}
 use Rattle.oci_check.proofs.Allowed.{wrong_of}
-use Rattle.oci_check.proofs.examine.examine.Goals as goal
+use Rattle.oci_check.proofs.examine.examine_read.Goals as goal
 
 pub returns-in-Value-clause-wrong : goal.returns-in-Value-clause-wrong
 returns-in-Value-clause-wrong g c =
