@@ -35,6 +35,11 @@ pub pushed : {A E : Type 0} (r : Result A E) (new old s : List ℕ) → new ≡ 
 pushed (Ok x) new old s e = e
 pushed (Err x) new old s e = tt
 
+-- the words of what they are about
+pub pushed_words : {A E : Type 0} (r : Result A E) (new old s words : List ℕ) → words ≡ s → new ≡ (if is_ok r then old ++ s else old) → OnOk r (new ≡ old ++ words)
+pushed_words (Ok x) new old s words same e = e ∙ ap (λ z. old ++ z) (sym same)
+pushed_words (Err x) new old s words same e = tt
+
 pub three_pushed : (text a b c first second third : List ℕ) → first ≡ text ++ a → second ≡ first ++ b → third ≡ second ++ c → third ≡ text ++ (a ++ (b ++ c))
 three_pushed text a b c first second third e1 e2 e3 =
     e3 ∙ ap (λ z. z ++ c) (e2 ∙ ap (λ z. z ++ b) e1) ∙ append_assoc (text ++ a) b c ∙ append_assoc text a (b ++ c)

@@ -137,6 +137,13 @@ fn is_possible(kind: Kind, value: &Value) -> bool {
 /// Why no kind was found out, and which are possible.
 pub fn explain_open(value: &Value, alloc: Global) -> Result<String, AllocError> {
     let mut text = String::from_str(alloc, "cannot tell which kind of document this is")?;
+    push_possible(&mut text, value)?;
+    text.push_str("; say which with --kind")?;
+    Ok(text)
+}
+
+/// Adds the kinds that are possible.
+fn push_possible(text: &mut String, value: &Value) -> Result<(), AllocError> {
     let mut mark = ": it could be ";
     for kind in &KINDS {
         if is_possible(*kind, value) {
@@ -145,6 +152,5 @@ pub fn explain_open(value: &Value, alloc: Global) -> Result<String, AllocError> 
             mark = ", ";
         }
     }
-    text.push_str("; say which with --kind")?;
-    Ok(text)
+    Ok(())
 }

@@ -1,6 +1,6 @@
 //! Indexes and manifests as trees.
 use crate::kinds::title_of;
-use crate::render::on_a_line;
+use crate::render::{on_a_line, push_on_a_line};
 use oci_kinds::Kind;
 use serde_json::Value;
 use std::alloc::{AllocError, Global};
@@ -72,48 +72,82 @@ fn add_children(
     match value.get(member) {
         Some(Value::Array(items)) => {
             for item in items {
-                children.push(child_of(member, item, alloc)?)?;
+                add_child(children, member, item, alloc)?;
             }
         }
-        Some(part) => {
-            if part.is_object() {
-                children.push(child_of(member, part, alloc)?)?;
-            }
-        }
-        None => {}
+        Some(part) if part.is_object() => add_child(children, member, part, alloc)?,
+        _ => {}
     }
     Ok(())
 }
 
+fn add_child(
+    children: &mut Vec<Child>,
+    member: &str,
+    descriptor: &Value,
+    alloc: Global,
+) -> Result<(), AllocError> {
+    children.push(child_of(member, descriptor, alloc)?)?;
+    Ok(())
+}
+
 fn child_of(member: &str, descriptor: &Value, alloc: Global) -> Result<Child, AllocError> {
-    let digest = match descriptor.get("digest").and_then(Value::as_str) {
-        Some(digest) => Some(String::from_str(alloc, digest)?),
-        None => None,
-    };
     Ok(Child {
         row: row_of(member, descriptor, alloc)?,
-        digest,
+        digest: digest_of(descriptor, alloc)?,
         is_document: member == "manifests",
     })
+}
+
+fn digest_of(descriptor: &Value, alloc: Global) -> Result<Option<String>, AllocError> {
+    match descriptor.get("digest").and_then(Value::as_str) {
+        Some(digest) => Ok(Some(String::from_str(alloc, digest)?)),
+        None => Ok(None),
+    }
 }
 
 /// The row of a descriptor: what it is for, its media type, digest and size, and its platform.
 fn row_of(member: &str, descriptor: &Value, alloc: Global) -> Result<String, AllocError> {
     let mut row = String::from_str(alloc, word_of(member))?;
-    for name in ["mediaType", "digest"] {
-        if let Some(text) = descriptor.get(name).and_then(Value::as_str) {
-            row.push_str(" ")?;
-            row.push_str(on_a_line(text, alloc)?.as_str())?;
-        }
-    }
-    if let Some(size) = descriptor.get("size").and_then(Value::as_u64) {
-        row.push_str(" ")?;
-        row.push_str(size_text(size, alloc)?.as_str())?;
-    }
-    if let Some(platform) = descriptor.get("platform") {
-        push_platform(&mut row, platform, alloc)?;
-    }
+    push_parts(&mut row, descriptor, alloc)?;
     Ok(row)
+}
+
+/// Adds the parts of a row that a descriptor has.
+fn push_parts(row: &mut String, descriptor: &Value, alloc: Global) -> Result<(), AllocError> {
+    for name in ["mediaType", "digest"] {
+        push_member(row, " ", descriptor, name, alloc)?;
+    }
+    push_size(row, descriptor, alloc)?;
+    match descriptor.get("platform") {
+        Some(platform) => push_platform(row, platform, alloc),
+        None => Ok(()),
+    }
+}
+
+/// Adds a mark and the member of this name, if it is a string, and returns whether it is.
+fn push_member(
+    row: &mut String,
+    mark: &str,
+    value: &Value,
+    name: &str,
+    alloc: Global,
+) -> Result<bool, AllocError> {
+    let Some(text) = value.get(name).and_then(Value::as_str) else {
+        return Ok(false);
+    };
+    row.push_str(mark)?;
+    push_on_a_line(row, text, alloc)?;
+    Ok(true)
+}
+
+fn push_size(row: &mut String, descriptor: &Value, alloc: Global) -> Result<(), AllocError> {
+    let Some(size) = descriptor.get("size").and_then(Value::as_u64) else {
+        return Ok(());
+    };
+    let shown = size_text(size, alloc)?;
+    row.push_str(" ")?;
+    row.push_str(shown.as_str())
 }
 
 /// The word of a member for one of its items.
@@ -130,9 +164,7 @@ fn word_of(member: &str) -> &'static str {
 fn push_platform(row: &mut String, platform: &Value, alloc: Global) -> Result<(), AllocError> {
     let mut mark = " ";
     for name in ["os", "architecture", "variant"] {
-        if let Some(text) = platform.get(name).and_then(Value::as_str) {
-            row.push_str(mark)?;
-            row.push_str(on_a_line(text, alloc)?.as_str())?;
+        if push_member(row, mark, platform, name, alloc)? {
             mark = "/";
         }
     }

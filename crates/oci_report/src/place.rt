@@ -92,12 +92,17 @@ impl Places {
             };
             walk.step_to(text.as_bytes(), offset);
             if walk.enter(token)? {
-                if let Some(place) = self.found.get_mut(walk.pointer.as_slice()) {
-                    *place = walk.place;
-                }
+                self.note(&walk);
             }
         }
         Ok(())
+    }
+
+    /// Notes where the part that a walk met is, if it was asked for.
+    fn note(&mut self, walk: &Walk) {
+        if let Some(place) = self.found.get_mut(walk.pointer.as_slice()) {
+            *place = walk.place;
+        }
     }
 
     /// Where the part at this pointer begins, or else the part that holds it, or else the text.
@@ -191,11 +196,7 @@ impl Walk {
         }
         self.pointer.push(b'/')?;
         for byte in name.as_bytes() {
-            match *byte {
-                b'~' => self.pointer.extend_from_slice(b"~0")?,
-                b'/' => self.pointer.extend_from_slice(b"~1")?,
-                other => self.pointer.push(other)?,
-            }
+            push_escaped(&mut self.pointer, *byte)?;
         }
         Ok(())
     }
@@ -218,5 +219,17 @@ impl Walk {
             next: Some(index.saturating_add(1)),
         })?;
         Ok(())
+    }
+}
+
+/// Adds a byte of a name, as a pointer has it.
+fn push_escaped(pointer: &mut Vec<u8>, byte: u8) -> Result<(), AllocError> {
+    match byte {
+        b'~' => pointer.extend_from_slice(b"~0"),
+        b'/' => pointer.extend_from_slice(b"~1"),
+        other => {
+            pointer.push(other)?;
+            Ok(())
+        }
     }
 }

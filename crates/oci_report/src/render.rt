@@ -11,14 +11,18 @@ pub fn on_a_line(text: &str, alloc: Global) -> Result<String, AllocError> {
     let mut line = String::new(alloc);
     for c in text.chars() {
         if c.is_control() {
-            let code = c as u32;
-            let escaped = format!(in alloc; "\\u{code:04x}")?;
-            line.push_str(escaped.as_str())?;
+            push_escaped(&mut line, c as u32, alloc)?;
         } else {
             line.push(c)?;
         }
     }
     Ok(line)
+}
+
+/// Adds the escape of the character with this code.
+fn push_escaped(line: &mut String, code: u32, alloc: Global) -> Result<(), AllocError> {
+    let escaped = format!(in alloc; "\\u{code:04x}")?;
+    line.push_str(escaped.as_str())
 }
 
 /// The word of a level.
@@ -46,35 +50,58 @@ pub fn line_of(
     place: Place,
     alloc: Global,
 ) -> Result<String, AllocError> {
+    let mut text = place_text(name, place, alloc)?;
+    push_finding(&mut text, finding, alloc)?;
+    Ok(text)
+}
+
+/// The beginning of a line: the file, the line and the column.
+fn place_text(name: &str, place: Place, alloc: Global) -> Result<String, AllocError> {
     let line = place.line;
     let column = place.column;
     let name = on_a_line(name, alloc)?;
-    let mut text = format!(in alloc; "{name}:{line}:{column}: ")?;
+    format!(in alloc; "{name}:{line}:{column}: ")
+}
+
+/// Adds the rest of the line of a finding.
+fn push_finding(text: &mut String, finding: &Finding<'_>, alloc: Global) -> Result<(), AllocError> {
     if finding.is_warning {
         text.push_str("warning: ")?;
     }
     if !finding.pointer.is_empty() {
-        text.push_str(on_a_line(finding.pointer.as_str(), alloc)?.as_str())?;
+        push_on_a_line(text, finding.pointer.as_str(), alloc)?;
         text.push_str(": ")?;
     }
+    push_message(text, finding, alloc)?;
+    push_mark(text, finding)
+}
+
+fn push_message(text: &mut String, finding: &Finding<'_>, alloc: Global) -> Result<(), AllocError> {
     let message = finding.message(alloc)?;
-    text.push_str(on_a_line(message.as_str(), alloc)?.as_str())?;
-    push_mark(&mut text, finding, alloc)?;
-    Ok(text)
+    push_on_a_line(text, message.as_str(), alloc)
+}
+
+/// Adds a text as `on_a_line` shows it.
+pub fn push_on_a_line(line: &mut String, text: &str, alloc: Global) -> Result<(), AllocError> {
+    let shown = on_a_line(text, alloc)?;
+    line.push_str(shown.as_str())
 }
 
 /// Adds the name of the rule, with its level and section, if it has them.
-fn push_mark(text: &mut String, finding: &Finding<'_>, alloc: Global) -> Result<(), AllocError> {
-    let name = finding.rule();
-    let mark = match rule_in(finding) {
-        Some(rule) => {
-            let level = word_of(rule.level);
-            let section = rule.section;
-            format!(in alloc; " [{name}, {level}: {section}]\n")?
-        }
-        None => format!(in alloc; " [{name}]\n")?,
-    };
-    text.push_str(mark.as_str())
+fn push_mark(text: &mut String, finding: &Finding<'_>) -> Result<(), AllocError> {
+    text.push_str(" [")?;
+    text.push_str(finding.rule())?;
+    if let Some(rule) = rule_in(finding) {
+        push_requirement(text, rule)?;
+    }
+    text.push_str("]\n")
+}
+
+fn push_requirement(text: &mut String, rule: &Rule<'_>) -> Result<(), AllocError> {
+    text.push_str(", ")?;
+    text.push_str(word_of(rule.level))?;
+    text.push_str(": ")?;
+    text.push_str(rule.section)
 }
 
 /// The lines of a report for people: errors before warnings. A line that equals the one before it is left out, as where several parts
@@ -96,12 +123,18 @@ fn push_lines(
     let mut before = String::new(alloc);
     for finding in found {
         let line = line_of(name, finding, report.place_of(finding), alloc)?;
-        if line.as_str() != before.as_str() {
-            lines.push_str(line.as_str())?;
-        }
+        push_new(lines, before.as_str(), line.as_str())?;
         before = line;
     }
     Ok(())
+}
+
+/// Adds a line, unless it equals the one before it.
+fn push_new(lines: &mut String, before: &str, line: &str) -> Result<(), AllocError> {
+    if line == before {
+        return Ok(());
+    }
+    lines.push_str(line)
 }
 
 /// Writes a member with a text.
@@ -135,18 +168,31 @@ fn put_object(
 ) -> Result<(), AllocError> {
     let message = finding.message(alloc)?;
     out.begin_object()?;
+    put_place(out, name, place)?;
+    put_members(out, finding, message.as_str())?;
+    out.end_object()
+}
+
+fn put_place(out: &mut Writer, name: &str, place: Place) -> Result<(), AllocError> {
     text_member(out, "file", name)?;
     number_member(out, "line", place.line)?;
-    number_member(out, "column", place.column)?;
+    number_member(out, "column", place.column)
+}
+
+fn put_members(out: &mut Writer, finding: &Finding<'_>, message: &str) -> Result<(), AllocError> {
     text_member(out, "pointer", finding.pointer.as_str())?;
     text_member(out, "rule", finding.rule())?;
     text_member(out, "level", severity_of(finding))?;
-    text_member(out, "message", message.as_str())?;
-    if let Some(rule) = rule_in(finding) {
-        text_member(out, "requirement", word_of(rule.level))?;
-        text_member(out, "section", rule.section)?;
+    text_member(out, "message", message)?;
+    match rule_in(finding) {
+        Some(rule) => put_requirement(out, rule),
+        None => Ok(()),
     }
-    out.end_object()
+}
+
+fn put_requirement(out: &mut Writer, rule: &Rule<'_>) -> Result<(), AllocError> {
+    text_member(out, "requirement", word_of(rule.level))?;
+    text_member(out, "section", rule.section)
 }
 
 /// The lines of a report for programs: an object a line, errors before warnings, none that equals the one before it.
@@ -166,14 +212,31 @@ fn push_objects(
 ) -> Result<(), AllocError> {
     let mut before = Vec::new(alloc);
     for finding in found {
-        let mut out = Writer::new(Vec::new(alloc));
-        put_object(&mut out, name, finding, report.place_of(finding), alloc)?;
-        let object = out.into_inner();
-        if object.as_slice() != before.as_slice() {
-            lines.extend_from_slice(object.as_slice())?;
-            lines.push(b'\n')?;
-        }
+        let object = object_of(name, finding, report.place_of(finding), alloc)?;
+        push_new_object(lines, before.as_slice(), object.as_slice())?;
         before = object;
     }
+    Ok(())
+}
+
+/// The object of a finding.
+fn object_of(
+    name: &str,
+    finding: &Finding<'_>,
+    place: Place,
+    alloc: Global,
+) -> Result<Vec<u8>, AllocError> {
+    let mut out = Writer::new(Vec::new(alloc));
+    put_object(&mut out, name, finding, place, alloc)?;
+    Ok(out.into_inner())
+}
+
+/// Adds an object and the end of its line, unless it equals the one before it.
+fn push_new_object(lines: &mut Vec<u8>, before: &[u8], object: &[u8]) -> Result<(), AllocError> {
+    if object == before {
+        return Ok(());
+    }
+    lines.extend_from_slice(object)?;
+    lines.push(b'\n')?;
     Ok(())
 }

@@ -20,10 +20,6 @@ impl Log {
     pub fn new(alloc: Global) -> Result<Log, AllocError> {
         let mut out = Writer::new(Vec::new(alloc));
         begin(&mut out)?;
-        put_driver(&mut out)?;
-        text_member(&mut out, "columnKind", "unicodeCodePoints")?;
-        out.key("results")?;
-        out.begin_array()?;
         Ok(Log { out })
     }
 
@@ -60,17 +56,23 @@ impl Log {
     /// The whole log.
     pub fn finish(self) -> Result<Vec<u8>, AllocError> {
         let Log { mut out } = self;
-        out.end_array()?;
-        out.end_object()?;
-        out.end_array()?;
-        out.end_object()?;
+        end(&mut out)?;
         let mut bytes = out.into_inner();
         bytes.push(b'\n')?;
         Ok(bytes)
     }
 }
 
+/// Writes all that is before the results.
 fn begin(out: &mut Writer) -> Result<(), AllocError> {
+    begin_run(out)?;
+    put_driver(out)?;
+    text_member(out, "columnKind", "unicodeCodePoints")?;
+    out.key("results")?;
+    out.begin_array()
+}
+
+fn begin_run(out: &mut Writer) -> Result<(), AllocError> {
     out.begin_object()?;
     text_member(
         out,
@@ -83,11 +85,17 @@ fn begin(out: &mut Writer) -> Result<(), AllocError> {
     out.begin_object()
 }
 
+/// Writes all that is behind the results.
+fn end(out: &mut Writer) -> Result<(), AllocError> {
+    out.end_array()?;
+    out.end_object()?;
+    out.end_array()?;
+    out.end_object()
+}
+
 fn put_driver(out: &mut Writer) -> Result<(), AllocError> {
-    out.key("tool")?;
-    out.begin_object()?;
-    out.key("driver")?;
-    out.begin_object()?;
+    begin_member(out, "tool")?;
+    begin_member(out, "driver")?;
     text_member(out, "name", "ciderglen")?;
     text_member(out, "version", VERSION)?;
     out.end_object()?;
@@ -101,15 +109,18 @@ fn put_result(
     place: Place,
     alloc: Global,
 ) -> Result<(), AllocError> {
-    let message = finding.message(alloc)?;
     out.begin_object()?;
     text_member(out, "ruleId", finding.rule())?;
     text_member(out, "level", severity_of(finding))?;
-    out.key("message")?;
-    out.begin_object()?;
-    text_member(out, "text", message.as_str())?;
-    out.end_object()?;
+    put_message(out, finding, alloc)?;
     put_location(out, name, place, finding.pointer.as_str())?;
+    out.end_object()
+}
+
+fn put_message(out: &mut Writer, finding: &Finding<'_>, alloc: Global) -> Result<(), AllocError> {
+    let message = finding.message(alloc)?;
+    begin_member(out, "message")?;
+    text_member(out, "text", message.as_str())?;
     out.end_object()
 }
 
@@ -119,35 +130,53 @@ fn put_location(
     place: Place,
     pointer: &str,
 ) -> Result<(), AllocError> {
-    out.key("locations")?;
-    out.begin_array()?;
-    out.begin_object()?;
-    put_region(out, name, place)?;
+    begin_item(out, "locations")?;
+    put_physical(out, name, place)?;
     put_pointer(out, pointer)?;
-    out.end_object()?;
-    out.end_array()
+    end_item(out)
 }
 
-fn put_region(out: &mut Writer, name: &str, place: Place) -> Result<(), AllocError> {
-    out.key("physicalLocation")?;
-    out.begin_object()?;
-    out.key("artifactLocation")?;
-    out.begin_object()?;
+fn put_physical(out: &mut Writer, name: &str, place: Place) -> Result<(), AllocError> {
+    begin_member(out, "physicalLocation")?;
+    put_file(out, name)?;
+    put_region(out, place)?;
+    out.end_object()
+}
+
+fn put_file(out: &mut Writer, name: &str) -> Result<(), AllocError> {
+    begin_member(out, "artifactLocation")?;
     text_member(out, "uri", name)?;
-    out.end_object()?;
-    out.key("region")?;
-    out.begin_object()?;
+    out.end_object()
+}
+
+fn put_region(out: &mut Writer, place: Place) -> Result<(), AllocError> {
+    begin_member(out, "region")?;
     number_member(out, "startLine", place.line)?;
     number_member(out, "startColumn", place.column)?;
-    out.end_object()?;
     out.end_object()
 }
 
 fn put_pointer(out: &mut Writer, pointer: &str) -> Result<(), AllocError> {
-    out.key("logicalLocations")?;
-    out.begin_array()?;
-    out.begin_object()?;
+    begin_item(out, "logicalLocations")?;
     text_member(out, "fullyQualifiedName", pointer)?;
+    end_item(out)
+}
+
+/// Begins a member that is an object.
+fn begin_member(out: &mut Writer, name: &str) -> Result<(), AllocError> {
+    out.key(name)?;
+    out.begin_object()
+}
+
+/// Begins a member that is an array of one object.
+fn begin_item(out: &mut Writer, name: &str) -> Result<(), AllocError> {
+    out.key(name)?;
+    out.begin_array()?;
+    out.begin_object()
+}
+
+/// Ends what `begin_item` began.
+fn end_item(out: &mut Writer) -> Result<(), AllocError> {
     out.end_object()?;
     out.end_array()
 }

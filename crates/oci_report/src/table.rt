@@ -77,15 +77,28 @@ fn push_presence(text: &mut String, presence: &Presence, alloc: Global) -> Resul
 }
 
 fn push_default(text: &mut String, value: &DefaultValue, alloc: Global) -> Result<(), AllocError> {
-    let shown = match value {
+    match value {
         DefaultValue::String(default) | DefaultValue::Variant(default) => {
-            format!(in alloc; "default \"{default}\", ")?
+            push_quoted(text, default)
         }
-        DefaultValue::Boolean(default) => format!(in alloc; "default {default}, ")?,
-        DefaultValue::Integer(default) => format!(in alloc; "default {default}, ")?,
-        DefaultValue::EmptyArray => format!(in alloc; "default [], ")?,
-    };
-    text.push_str(shown.as_str())
+        DefaultValue::Boolean(true) => text.push_str("default true, "),
+        DefaultValue::Boolean(false) => text.push_str("default false, "),
+        DefaultValue::Integer(default) => push_integer(text, *default, alloc),
+        DefaultValue::EmptyArray => text.push_str("default [], "),
+    }
+}
+
+fn push_quoted(text: &mut String, default: &str) -> Result<(), AllocError> {
+    text.push_str("default \"")?;
+    text.push_str(default)?;
+    text.push_str("\", ")
+}
+
+fn push_integer(text: &mut String, default: i128, alloc: Global) -> Result<(), AllocError> {
+    let shown = default.to_string(alloc)?;
+    text.push_str("default ")?;
+    text.push_str(shown.as_str())?;
+    text.push_str(", ")
 }
 
 fn push_schema(text: &mut String, schema: &Schema, alloc: Global) -> Result<(), AllocError> {

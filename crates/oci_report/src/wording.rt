@@ -102,13 +102,17 @@ pub fn push_expected(
             text.push_str("expected ")?;
             push_kind(text, kind, alloc)
         }
-        Expected::Member(kind) => {
-            text.push_str("required member is missing (")?;
-            push_kind(text, kind, alloc)?;
-            text.push_str(")")
-        }
+        Expected::Member(kind) => push_missing(text, kind, alloc),
         Expected::NoAlias(alias) => push_alias(text, alias),
     }
+}
+
+fn push_missing(text: &mut String, kind: &Kind, alloc: Global) -> Result<(), AllocError>
+    ensures { OnOk result (string_bytes text.new ≡ string_bytes text.old ++ (codes "required member is missing (" ++ (kind_words kind.now ++ codes ")"))) }
+{
+    text.push_str("required member is missing (")?;
+    push_kind(text, kind, alloc)?;
+    text.push_str(")")
 }
 
 fn push_alias(text: &mut String, alias: &str) -> Result<(), AllocError>
