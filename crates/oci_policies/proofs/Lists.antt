@@ -8,7 +8,7 @@ use Rattle.oci_rules.specs.declared.rule.Step.{Step}
 use Rattle.oci_rules.specs.declared.rule.Step.TheVariants as step
 use Rattle.oci_rules.specs.Tables.{place_of, texts_of}
 use Rattle.oci_policies.specs.Places.{along}
-use Rattle.oci_policies.specs.Policies.{Worded, together}
+use Rattle.oci_policies.specs.Policies.{Worded, rules_in, table_rules, together}
 use Rattle.oci_policies.specs.Steps.{step_view, steps_view}
 use Rattle.oci_policies.specs.Values.{all, before, behind, each, two}
 
@@ -47,6 +47,15 @@ behind_together xs ys (Some rs) None is = refl
 behind_together xs ys (Some rs) (Some ss) is =
     let same : xs ++ rs ≡ ys = cc in
     ap Some (sym (append_assoc xs rs ss) ∙ ap (λ l. l ++ ss) same)
+
+pub tables_next : (xs : List Value) (i : ℕ) (x : Value) (old new : List Worded) (whole : Option (List Worded))
+    → i < length xs → x ≡ get_or xs i x → behind old (table_rules (view x)) ≡ Some new
+    → behind old (rules_in (items_view (drop i xs))) ≡ whole → behind new (rules_in (items_view (drop (i + 1) xs))) ≡ whole
+tables_next xs i x old new whole within it is sofar =
+    let cut : drop i xs ≡ get_or xs i x ∷ drop (suc i) xs = drop-cons xs i x within in
+    let here : behind old (table_rules (view (get_or xs i x))) ≡ Some new = subst (λ (z : Value). behind old (table_rules (view z)) ≡ Some new) it is in
+    let more = rw cut at sofar in
+    rw add-one (sym (behind_together old new (table_rules (view (get_or xs i x))) (rules_in (items_view (drop (suc i) xs))) here) ∙ more)
 
 -- the place of steps is that of what they stand for
 step_is : (s : Step) (ss : List Step) → place_of ss ≡ along (steps_view ss) → place_of (s ∷ ss) ≡ along (steps_view (s ∷ ss))

@@ -10,7 +10,7 @@ ghost use Rattle.toml.specs.View.{view, table_view};
 use crate::error::{Fault, expected};
 use crate::places::way;
 use crate::values::{
-    boolean, bounds, found, kept_text, sole_other, table_of, texts, under, unknown, yes,
+    boolean, bounds, found, kept_under, sole_other, table_of, texts, texts_under, unknown, yes,
 };
 use bumpalo::Bump;
 use oci_rules::{Check, Condition, Origin};
@@ -51,8 +51,8 @@ fn texts_or_none<'a>(
 fn item<'a>(arena: &'a Bump, table: &Table) -> Result<Check<'a>, Fault>
     ensures { Reads check_of result (conditions.item_of (table_view table.now)) }
 {
-    let name = kept_text(arena, "name", under(table, "name")?)?;
-    let values = texts(arena, "values", under(table, "values")?)?;
+    let name = kept_under(arena, "name", table)?;
+    let values = texts_under(arena, "values", table)?;
     let with = texts_or_none(arena, "with", table)?;
     let without = texts_or_none(arena, "without", table)?;
     Ok(Check::ListsItem(name, values, with, without))

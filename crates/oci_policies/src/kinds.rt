@@ -10,7 +10,8 @@ use crate::error::{Fault, expected};
 use crate::grammars::grammar;
 use crate::places::way;
 use crate::values::{
-    boolean, bounds, kept_text, natural, pair, table_of, texts, under, unknown, yes,
+    boolean, bounds, kept_text, kept_under, natural, pair, table_of, texts, texts_under, under,
+    unknown, yes,
 };
 use bumpalo::Bump;
 use bumpalo::collections::into_bump_slice;
@@ -46,8 +47,8 @@ fn item_names() -> &'static [&'static str]
 fn reserved<'a>(arena: &'a Bump, table: &Table) -> Result<Test<'a>, Fault>
     ensures { Reads test_of result (tests.reserved_of (table_view table.now)) }
 {
-    let prefix = kept_text(arena, "prefix", under(table, "prefix")?)?;
-    let names = texts(arena, "names", under(table, "names")?)?;
+    let prefix = kept_under(arena, "prefix", table)?;
+    let names = texts_under(arena, "names", table)?;
     Ok(Test::Reserved(prefix, names))
 }
 
@@ -64,8 +65,8 @@ fn sum<'a>(arena: &'a Bump, table: &Table) -> Result<Test<'a>, Fault>
 fn item<'a>(arena: &'a Bump, table: &Table) -> Result<Test<'a>, Fault>
     ensures { Reads test_of result (tests.item_of (table_view table.now)) }
 {
-    let name = kept_text(arena, "name", under(table, "name")?)?;
-    let value = kept_text(arena, "value", under(table, "value")?)?;
+    let name = kept_under(arena, "name", table)?;
+    let value = kept_under(arena, "value", table)?;
     Ok(Test::ListsItem(name, value))
 }
 

@@ -6,14 +6,14 @@ ghost use Rattle.oci_policies.specs.Policies as policies;
 ghost use Rattle.oci_policies.specs.Policies.{rule_at, rule_placed};
 ghost use Rattle.oci_policies.specs.Places.{steps_in};
 ghost use Rattle.oci_policies.specs.Steps.{step_view, steps_view, head_view, worded};
-ghost use Rattle.oci_policies.specs.Values.{Reads, each, list_in, under_or, behind};
+ghost use Rattle.oci_policies.specs.Values.{Reads, each, list_in, under as under_in, under_or, behind};
 ghost use Rattle.toml.specs.View.{view, items_view, table_view};
 
 use crate::conditions::condition;
 use crate::error::{Fault, expected};
 use crate::kinds::test;
 use crate::places::{steps, steps_of};
-use crate::values::{found, kept_text, sole_other, text, under};
+use crate::values::{found, kept_under, sole_other, text, under};
 use bumpalo::Bump;
 use bumpalo::collections::into_bump_slice;
 use oci_rules::{Level, Platform, Rule, Step, Test};
@@ -52,10 +52,10 @@ fn rule_names() -> &'static [&'static str]
     &RULE_NAMES
 }
 
-fn level(value: &Value) -> Result<Level, Fault>
-    ensures { Reads level_of result (policies.level_in (view value.now)) }
+fn level(table: &Table) -> Result<Level, Fault>
+    ensures { Reads level_of result (under_in policies.level_in (codes "level") (table_view table.now)) }
 {
-    match text("level", value)? {
+    match text("level", under(table, "level")?)? {
         "must" => Ok(Level::Must),
         "stated" => Ok(Level::Stated),
         "should" => Ok(Level::Should),
@@ -123,10 +123,10 @@ fn test_in<'a>(arena: &'a Bump, table: &Table, alloc: Global) -> Result<Test<'a>
 fn head<'a>(arena: &'a Bump, table: &Table, alloc: Global) -> Result<Rule<'a>, Fault>
     ensures { Reads head_view result (policies.head_of (table_view table.now)) }
 {
-    let name = kept_text(arena, "name", under(table, "name")?)?;
-    let level = level(under(table, "level")?)?;
-    let section = kept_text(arena, "source", under(table, "source")?)?;
-    let wanted = kept_text(arena, "message", under(table, "message")?)?;
+    let name = kept_under(arena, "name", table)?;
+    let level = level(table)?;
+    let section = kept_under(arena, "source", table)?;
+    let wanted = kept_under(arena, "message", table)?;
     let platforms = platforms(arena, table)?;
     let test = test_in(arena, table, alloc)?;
     Ok(Rule {

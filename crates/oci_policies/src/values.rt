@@ -35,6 +35,17 @@ pub(crate) fn kept_text<'a>(
     Ok(arena.try_alloc_str(text(key, value)?)?)
 }
 
+/// The string under a name, which stays in the arena.
+pub(crate) fn kept_under<'a>(
+    arena: &'a Bump,
+    key: &'static str,
+    table: &Table,
+) -> Result<&'a str, Fault>
+    ensures { Reads (λ t. t.now) result (values.under as_str key.now (table_view table.now)) }
+{
+    kept_text(arena, key, under(table, key)?)
+}
+
 /// An array of strings.
 pub(crate) fn texts<'a>(
     arena: &'a Bump,
@@ -47,6 +58,17 @@ pub(crate) fn texts<'a>(
         Some(items) => each_text(arena, key, items),
         None => Err(expected(key, "an array of strings")),
     }
+}
+
+/// The array of strings under a name.
+pub(crate) fn texts_under<'a>(
+    arena: &'a Bump,
+    key: &'static str,
+    table: &Table,
+) -> Result<&'a [&'a str], Fault>
+    ensures { Reads (λ ts. texts_of ts.now) result (values.under values.texts_in key.now (table_view table.now)) }
+{
+    texts(arena, key, under(table, key)?)
 }
 
 #[tactic(auto, using(crate::proofs::Lists::behind_nothing, crate::proofs::Lists::behind_more))]
