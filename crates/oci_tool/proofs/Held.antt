@@ -2,7 +2,8 @@
 use Rattle.std.proofs.Common.{◌≡◌, ◌⊎◌, inl, inr, ℕ, List, Bool, true, false, Option, Some, None, Result, Ok, Err, subst}
 use Rattle.std.specs.Prelude.{IfSome, OnOk}
 use Rattle.oci_json_model.specs.Shape.{Shape}
-use Rattle.oci_json_io.specs.Engines.{WritesDocument}
+use Rattle.oci_json_io.specs.Engines.{MeansBytes, WritesDocument}
+use Rattle.oci_json_model.specs.Plain.{Plain}
 use Rattle.oci_schema.specs.Normalizes.{WritesPretty}
 use Rattle.oci_kinds.specs.declared.kind.Kind.{Kind}
 use Rattle.oci_kinds.specs.Kinds.{shape_of}
@@ -57,3 +58,9 @@ pinned_held text (Some b) bytes Writes is h = subst (λ x. WritesPinned text (So
 pub fault_held : (N : Type 0) (P : List ℕ → Type 0) (known : Option (List ℕ)) (bytes : List ℕ) → IfSome known (λ b. bytes ≡ b) → N ⊎ P bytes → N ⊎ IfSome known P
 fault_held N P known bytes is (inl none) = inl none
 fault_held N P known bytes is (inr h) = inr (held P known bytes is h)
+
+-- bytes in which something is wrong mean nothing
+pub none_meant : (Clean : Type 0) (kind : Option Kind) (bytes : List ℕ) → IfSome kind (λ k. (p : Plain) → MeansBytes (shape_of k) bytes p → Clean) → ¬ Clean
+    → IfSome kind (λ k. (p : Plain) → ¬ MeansBytes (shape_of k) bytes p)
+none_meant Clean None bytes all wrong = tt
+none_meant Clean (Some k) bytes all wrong = λ p means. wrong (all p means)

@@ -19,26 +19,48 @@ pub fn rules_of_kind<B: RuleBooks>(
     text.push_str("\n")?;
     let mut told = Vec::new(alloc);
     for book in books.books_of(kind, alloc)? {
-        for rule in book {
-            if !told.contains(&rule.name) {
-                told.push(rule.name)?;
-                push_rule(&mut text, rule, alloc)?;
-            }
-        }
+        push_new_rules(&mut text, &mut told, book, alloc)?;
     }
     Ok(text)
+}
+
+/// Adds the rules of a book whose names were not told before.
+fn push_new_rules<'a>(
+    text: &mut String,
+    told: &mut Vec<&'a str>,
+    book: &[Rule<'a>],
+    alloc: Global,
+) -> Result<(), AllocError> {
+    for rule in book {
+        if !told.contains(&rule.name) {
+            told.push(rule.name)?;
+            push_rule(text, rule, alloc)?;
+        }
+    }
+    Ok(())
 }
 
 /// The rules of all kinds.
 pub fn all_rules<B: RuleBooks>(books: &B, alloc: Global) -> Result<String, AllocError> {
     let mut text = String::new(alloc);
     for kind in &KINDS {
-        if !text.is_empty() {
-            text.push_str("\n")?;
-        }
-        text.push_str(rules_of_kind(books, *kind, alloc)?.as_str())?;
+        push_rules(&mut text, books, *kind, alloc)?;
     }
     Ok(text)
+}
+
+/// Adds the rules of a kind, behind an empty line unless they are the first.
+fn push_rules<B: RuleBooks>(
+    text: &mut String,
+    books: &B,
+    kind: Kind,
+    alloc: Global,
+) -> Result<(), AllocError> {
+    let rules = rules_of_kind(books, kind, alloc)?;
+    if !text.is_empty() {
+        text.push_str("\n")?;
+    }
+    text.push_str(rules.as_str())
 }
 
 fn push_rule(text: &mut String, rule: &Rule<'_>, alloc: Global) -> Result<(), AllocError> {
@@ -72,20 +94,41 @@ fn add_of_kind<B: RuleBooks>(
     for book in books.books_of(kind, alloc)? {
         for rule in book {
             if rule.name == name {
-                if last.is_empty() {
-                    text.push_str(title_of(kind))?;
-                    text.push_str("\n")?;
-                    push_rule(text, rule, alloc)?;
-                }
-                let line = place_line(rule, alloc)?;
-                if line != last {
-                    text.push_str(line.as_str())?;
-                    last = line;
-                }
+                add_place(rule, kind, &mut last, text, alloc)?;
             }
         }
     }
     Ok(())
+}
+
+/// Adds the place of a rule, unless it is the last one again. Before the first, the kind and the rule are written.
+fn add_place(
+    rule: &Rule<'_>,
+    kind: Kind,
+    last: &mut String,
+    text: &mut String,
+    alloc: Global,
+) -> Result<(), AllocError> {
+    if last.is_empty() {
+        push_head(text, rule, kind, alloc)?;
+    }
+    let line = place_line(rule, alloc)?;
+    if line != *last {
+        text.push_str(line.as_str())?;
+        *last = line;
+    }
+    Ok(())
+}
+
+fn push_head(
+    text: &mut String,
+    rule: &Rule<'_>,
+    kind: Kind,
+    alloc: Global,
+) -> Result<(), AllocError> {
+    text.push_str(title_of(kind))?;
+    text.push_str("\n")?;
+    push_rule(text, rule, alloc)
 }
 
 /// The line of a rule's place, and of the platforms that it is for, unless it is for all of them.

@@ -15,8 +15,8 @@ ghost use Rattle.oci_tool.specs.Done.{IsStatus};
 use crate::asked::Format;
 use crate::contents::digest_line;
 use crate::store::Store;
-use crate::texts::{complain, complain_of, report_findings};
-use oci_check::inspect::{inspect, kind_of};
+use crate::texts::{complain, complain_of, is_wrong};
+use oci_check::inspect::kind_of;
 use oci_content::Algorithm;
 use oci_json_io::write_text;
 use oci_kinds::Kind;
@@ -115,9 +115,8 @@ fn format_bytes<S: Store, W: Write, E: Write>(
     ensures written { IfOk result (λ s. s ≡ 0 → asked.now.check ≡ false → asked.now.output ≡ None → Formats asked.now.kind asked.now.pretty (Some bytes.now) (Appends (W.contents writer.old) (W.contents writer.new))) }
     ensures refused { IfOk result (λ s. s ≡ 1 → IsUnformatted asked.now bytes.now) }
 {
-    let found = inspect(asked.kind, asked.file, bytes, alloc)?;
-    if !found.errors.is_empty() {
-        report_findings(asked.file, &found, alloc, errors)?;
+    let wrong = is_wrong(asked.kind, asked.file, bytes, alloc, errors)?;
+    if wrong {
         return Ok(1);
     }
     let before = Value::from_slice(alloc, bytes)?;
@@ -285,14 +284,32 @@ fn push_dropped(
     alloc: Global,
 ) -> std::result::Result<(), AllocError> {
     let shown = on_a_line(place, alloc)?;
-    let line = match name {
-        "os_version" if kept.contains_key("os.version") => {
-            format!(in alloc; "renamed: {shown} to os.version\n")?
-        }
-        "os_features" if kept.contains_key("os.features") => {
-            format!(in alloc; "renamed: {shown} to os.features\n")?
-        }
-        _ => format!(in alloc; "dropped: {shown}\n")?,
-    };
-    lines.push_str(line.as_str())
+    match new_name(name, kept) {
+        Some(other) => push_parts(lines, "renamed: ", shown.as_str(), " to ", other),
+        None => push_parts(lines, "dropped: ", shown.as_str(), "", ""),
+    }
+}
+
+/// The name under which a member is read, where it is another one.
+fn new_name(name: &str, kept: &Map<String, Value>) -> Option<&'static str> {
+    match name {
+        "os_version" if kept.contains_key("os.version") => Some("os.version"),
+        "os_features" if kept.contains_key("os.features") => Some("os.features"),
+        _ => None,
+    }
+}
+
+/// Adds a line of four parts.
+fn push_parts(
+    lines: &mut String,
+    first: &str,
+    second: &str,
+    third: &str,
+    fourth: &str,
+) -> std::result::Result<(), AllocError> {
+    lines.push_str(first)?;
+    lines.push_str(second)?;
+    lines.push_str(third)?;
+    lines.push_str(fourth)?;
+    lines.push_str("\n")
 }

@@ -8,8 +8,8 @@ ghost use Rattle.oci_tool.specs.Done.{IsStatus};
 use crate::asked::{Compare, Style};
 use crate::canonical::normal_value;
 use crate::store::Store;
-use crate::texts::{complain, complain_of, report_findings};
-use oci_check::inspect::{inspect, kind_of};
+use crate::texts::{complain, complain_of, is_wrong};
+use oci_check::inspect::kind_of;
 use oci_diff::{Change, Difference, differences};
 use oci_json_io::write_text;
 use oci_kinds::Kind;
@@ -127,9 +127,8 @@ fn side_of<E: Write>(
 ) -> Result<Side>
     ensures { IfOk result (IsSide asked (Some bytes.now)) }
 {
-    let found = inspect(asked, name, bytes, alloc)?;
-    if !found.errors.is_empty() {
-        report_findings(name, &found, alloc, errors)?;
+    let wrong = is_wrong(asked, name, bytes, alloc, errors)?;
+    if wrong {
         return Ok(Side::Wrong);
     }
     let value = Value::from_slice(alloc, bytes)?;
@@ -157,21 +156,38 @@ fn push_line(
     alloc: Global,
 ) -> std::result::Result<(), AllocError> {
     let at = on_a_line(difference.pointer.as_str(), alloc)?;
-    let line = match difference.change {
-        Change::Added(value) => {
-            let value = value.to_string(alloc)?;
-            format!(in alloc; "+ {at}: {value}\n")?
-        }
-        Change::Removed(value) => {
-            let value = value.to_string(alloc)?;
-            format!(in alloc; "- {at}: {value}\n")?
-        }
+    match difference.change {
+        Change::Added(value) => push_one_line(lines, "+", at.as_str(), value, alloc),
+        Change::Removed(value) => push_one_line(lines, "-", at.as_str(), value, alloc),
         Change::Changed(before, after) => {
-            let before = before.to_string(alloc)?;
-            let after = after.to_string(alloc)?;
-            format!(in alloc; "~ {at}: {before} -> {after}\n")?
+            push_both_line(lines, at.as_str(), before, after, alloc)
         }
-    };
+    }
+}
+
+/// Adds the line of a value that stands on one side alone.
+fn push_one_line(
+    lines: &mut Vec<u8>,
+    mark: &str,
+    at: &str,
+    value: &Value,
+    alloc: Global,
+) -> std::result::Result<(), AllocError> {
+    let value = value.to_string(alloc)?;
+    let line = format!(in alloc; "{mark} {at}: {value}\n")?;
+    lines.extend_from_slice(line.as_bytes())
+}
+
+fn push_both_line(
+    lines: &mut Vec<u8>,
+    at: &str,
+    before: &Value,
+    after: &Value,
+    alloc: Global,
+) -> std::result::Result<(), AllocError> {
+    let before = before.to_string(alloc)?;
+    let after = after.to_string(alloc)?;
+    let line = format!(in alloc; "~ {at}: {before} -> {after}\n")?;
     lines.extend_from_slice(line.as_bytes())
 }
 
@@ -182,23 +198,47 @@ fn push_object(
     alloc: Global,
 ) -> std::result::Result<(), AllocError> {
     let at = quoted(difference.pointer.as_str(), alloc)?;
-    let line = match difference.change {
+    match difference.change {
         Change::Added(value) => {
-            let value = value.to_string(alloc)?;
-            format!(in alloc; "{{\"change\":\"added\",\"pointer\":{at},\"after\":{value}}}\n")?
+            push_one_object(lines, "added", at.as_str(), "after", value, alloc)
         }
         Change::Removed(value) => {
-            let value = value.to_string(alloc)?;
-            format!(in alloc; "{{\"change\":\"removed\",\"pointer\":{at},\"before\":{value}}}\n")?
+            push_one_object(lines, "removed", at.as_str(), "before", value, alloc)
         }
         Change::Changed(before, after) => {
-            let before = before.to_string(alloc)?;
-            let after = after.to_string(alloc)?;
-            format!(in alloc;
-                "{{\"change\":\"changed\",\"pointer\":{at},\"before\":{before},\"after\":{after}}}\n"
-            )?
+            push_both_object(lines, at.as_str(), before, after, alloc)
         }
-    };
+    }
+}
+
+/// Adds the object of a value that stands on one side alone.
+fn push_one_object(
+    lines: &mut Vec<u8>,
+    change: &str,
+    at: &str,
+    side: &str,
+    value: &Value,
+    alloc: Global,
+) -> std::result::Result<(), AllocError> {
+    let value = value.to_string(alloc)?;
+    let line = format!(in alloc;
+        "{{\"change\":\"{change}\",\"pointer\":{at},\"{side}\":{value}}}\n"
+    )?;
+    lines.extend_from_slice(line.as_bytes())
+}
+
+fn push_both_object(
+    lines: &mut Vec<u8>,
+    at: &str,
+    before: &Value,
+    after: &Value,
+    alloc: Global,
+) -> std::result::Result<(), AllocError> {
+    let before = before.to_string(alloc)?;
+    let after = after.to_string(alloc)?;
+    let line = format!(in alloc;
+        "{{\"change\":\"changed\",\"pointer\":{at},\"before\":{before},\"after\":{after}}}\n"
+    )?;
     lines.extend_from_slice(line.as_bytes())
 }
 

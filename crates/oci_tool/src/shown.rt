@@ -10,7 +10,7 @@ use oci_kinds::Kind;
 use oci_report::kind_named;
 use oci_report::table::table_of;
 use oci_text_base::Result;
-use std::alloc::Global;
+use std::alloc::{AllocError, Global};
 use std::io::Write;
 
 /// Writes the rules of all kinds of documents, or those of a kind, or a rule, by its name. Returns 0 if that was done, and 1 if there is
@@ -24,14 +24,7 @@ pub fn rules<B: RuleBooks, W: Write, E: Write>(
 ) -> Result<u8>
     ensures { IfOk result IsStatus }
 {
-    let text = match name {
-        None => Some(all_rules(books, alloc)?),
-        Some(name) => match kind_named(name) {
-            Some(kind) => Some(rules_of_kind(books, kind, alloc)?),
-            None => rules_of_name(books, name, alloc)?,
-        },
-    };
-    match text {
+    match text_of(books, name, alloc)? {
         Some(text) => {
             write_text(text.as_bytes(), writer)?;
             Ok(0)
@@ -41,6 +34,21 @@ pub fn rules<B: RuleBooks, W: Write, E: Write>(
             complain_of(name.unwrap_or(""), &fault, alloc, errors);
             Ok(1)
         }
+    }
+}
+
+/// The rules of all kinds, or of the kind or rule of this name; none if there is no such.
+fn text_of<B: RuleBooks>(
+    books: &B,
+    name: Option<&str>,
+    alloc: Global,
+) -> std::result::Result<Option<String>, AllocError> {
+    match name {
+        None => Ok(Some(all_rules(books, alloc)?)),
+        Some(name) => match kind_named(name) {
+            Some(kind) => Ok(Some(rules_of_kind(books, kind, alloc)?)),
+            None => rules_of_name(books, name, alloc),
+        },
     }
 }
 

@@ -2,6 +2,9 @@
 ghost use Rattle.std.specs.Prelude.{◌≡◌, ◌⊎◌, true, false, [], Some, IfOk, IfSome};
 ghost use Rattle.std.specs.List.{All};
 ghost use Rattle.std.specs.Io.KnownBytes.{Appends};
+ghost use Rattle.oci_json_io.specs.Engines.{MeansBytes};
+ghost use Rattle.oci_json_model.specs.Plain.{Plain};
+ghost use Rattle.oci_kinds.specs.Kinds.{shape_of};
 ghost use Rattle.oci_doc_run.specs.Commands.{asked as asked_of, pin};
 ghost use Rattle.oci_doc_run.specs.Outputs.{Writes, WritesPinned};
 ghost use Rattle.oci_tool.specs.Done.{IsStatus, AppendsEach, WroteReferences};
@@ -63,6 +66,24 @@ pub fn report_findings<E: Write>(
     let lines = lines_of(name, found, alloc)?;
     complain(lines.as_str(), errors);
     Ok(())
+}
+
+/// Whether something is wrong with the bytes of a file, which is said on standard error.
+pub(crate) fn is_wrong<E: Write>(
+    kind: Option<Kind>,
+    name: &str,
+    bytes: &[u8],
+    alloc: Global,
+    errors: &mut E,
+) -> Result<bool>
+    ensures { IfOk result (λ b. b ≡ true → IfSome kind (λ k. (p : Plain) → ¬ MeansBytes (shape_of k) bytes.now p)) }
+{
+    let found = inspect(kind, name, bytes, alloc)?;
+    if found.errors.is_empty() {
+        return Ok(false);
+    }
+    report_findings(name, &found, alloc, errors)?;
+    Ok(true)
 }
 
 /// Writes the parts of each reference. Returns 0 if each text is a reference, and 1 if one is none, which a line on standard error
@@ -186,8 +207,17 @@ fn refused<E: Write>(refusal: Refusal, text: &str, alloc: Global, errors: &mut E
 /// The object of a reference's parts.
 fn reference_object(text: &str, reference: &Reference, alloc: Global) -> Result<Vec<u8>> {
     let whole = reference.whole()?;
+    Ok(object_line(text, reference, whole.as_str(), alloc)?)
+}
+
+fn object_line(
+    text: &str,
+    reference: &Reference,
+    whole: &str,
+    alloc: Global,
+) -> std::result::Result<Vec<u8>, AllocError> {
     let mut out = Writer::new(Vec::new(alloc));
-    put_reference(&mut out, text, reference, whole.as_str())?;
+    put_reference(&mut out, text, reference, whole)?;
     let mut line = out.into_inner();
     line.push(b'\n')?;
     Ok(line)
@@ -201,13 +231,17 @@ fn put_reference(
 ) -> std::result::Result<(), AllocError> {
     out.begin_object()?;
     text_member(out, "input", text)?;
-    text_member(out, "registry", reference.registry())?;
-    text_member(out, "repository", reference.repository())?;
-    member_if(out, "tag", reference.tag())?;
-    member_if(out, "digest", reference.digest())?;
+    put_parts(out, reference)?;
     text_member(out, "whole", whole)?;
     text_member(out, "resolve", reference.resolve_registry())?;
     out.end_object()
+}
+
+fn put_parts(out: &mut Writer, reference: &Reference) -> std::result::Result<(), AllocError> {
+    text_member(out, "registry", reference.registry())?;
+    text_member(out, "repository", reference.repository())?;
+    member_if(out, "tag", reference.tag())?;
+    member_if(out, "digest", reference.digest())
 }
 
 fn member_if(

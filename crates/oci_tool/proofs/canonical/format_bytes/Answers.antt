@@ -1,14 +1,12 @@
-use Rattle.std.proofs.Common.{◌≡◌, [], Some, rules}
+use Rattle.std.proofs.Common.{◌≡◌, Some}
 use Rattle.std.specs.Io.KnownBytes.{Appends}
 use Rattle.std.proofs.lemmas.Result.{IfOk-weaker}
 use Rattle.oci_tool.proofs.Forms.{unformatted_asked, unformatted_listed}
 use Rattle.oci_tool.proofs.Held.{formats_asked}
 use Rattle.oci_tool.proofs.canonical.format_bytes.Goals as goal
 
-pub returns-then-not-is_empty-clause-refused : goal.returns-then-not-is_empty-clause-refused
-returns-then-not-is_empty-clause-refused g c = λ one.
-    let not : ¬ (c.in_ok-found.found.errors.items ≡ []) = search rules in
-    unformatted_listed c.args.asked.now c.args.bytes.now (c.in_ok-found.found.errors.items ≡ []) c.in_ok-found.ensures.all not
+pub returns-then-wrong-clause-refused : goal.returns-then-wrong-clause-refused
+returns-then-wrong-clause-refused g c = λ one. unformatted_listed c.args.asked.now c.args.bytes.now ⊥ (c.in_ok-wrong.ensures c.if-wrong.true) (λ h. h)
 
 pub returns-in-Some-clause-canonical : goal.returns-in-Some-clause-canonical
 returns-in-Some-clause-canonical g c =

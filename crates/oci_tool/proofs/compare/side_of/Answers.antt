@@ -1,8 +1,5 @@
-use Rattle.std.proofs.Common.{◌≡◌, [], rules}
 use Rattle.oci_tool.proofs.Sides.{none_held}
 use Rattle.oci_tool.proofs.compare.side_of.Goals as goal
 
-pub returns-then-not-is_empty : goal.returns-then-not-is_empty
-returns-then-not-is_empty g c =
-    let wrong : ¬ (c.in_ok-found.found.errors.items ≡ []) = search rules in
-    none_held c.args.asked c.args.bytes.now c.in_ok-found.ensures.all wrong
+pub returns-then-wrong : goal.returns-then-wrong
+returns-then-wrong g c = none_held {E = ⊥} c.args.asked c.args.bytes.now (c.in_ok-wrong.ensures c.if-wrong.true) (λ h. h)
