@@ -74,7 +74,7 @@ fn verify_layout<L: ImageLayout, C: Watch, W: Write, E: Write>(
     let buffer = buffer.as_mut_slice();
     let mut told = Told::new(alloc);
     let marker = read_top(layout, alloc, "oci-layout", options.limit, buffer)?;
-    told.tell_all(alloc, options, marker_findings(alloc, marker)?, writer)?;
+    tell_marker(alloc, options, marker, &mut told, writer)?;
     match read_top(layout, alloc, "index.json", options.limit, buffer)? {
         Top::Bytes(index) => {
             let index = index.as_slice();
@@ -89,6 +89,16 @@ fn verify_layout<L: ImageLayout, C: Watch, W: Write, E: Write>(
         Top::Missing => Err(no_index(alloc, "there is no index.json")),
         Top::Unreadable => Err(no_index(alloc, "index.json cannot be read")),
     }
+}
+
+fn tell_marker<W: Write>(
+    alloc: Global,
+    options: &Options,
+    marker: Top,
+    told: &mut Told,
+    writer: &mut W,
+) -> Result<()> {
+    told.tell_all(alloc, options, marker_findings(alloc, marker)?, writer)
 }
 
 /// Why no index was read, or that memory ran out.
@@ -134,19 +144,30 @@ fn verify_index<L: ImageLayout, C: Watch, W: Write, E: Write>(
         held,
         violations,
     } = read_document(alloc, Kind::Index, index)?;
-    told.tell_all(
+    tell_index(
         alloc,
         options,
-        index_findings(alloc, fault, Detail { held, violations })?,
+        fault,
+        Detail { held, violations },
+        &mut told,
         writer,
     )?;
-    let mut progress = Progress::new();
-    if options.progress {
-        progress = totals(layout, options, alloc, index, buffer)?;
-    }
+    let progress = totals(layout, options, alloc, index, buffer)?;
     verify_claims(
         layout, options, alloc, watch, fault, claims, told, progress, buffer, writer, errors,
     )
+}
+
+fn tell_index<W: Write>(
+    alloc: Global,
+    options: &Options,
+    fault: Option<Fault>,
+    detail: Detail,
+    told: &mut Told,
+    writer: &mut W,
+) -> Result<()> {
+    let found = index_findings(alloc, fault, detail)?;
+    told.tell_all(alloc, options, found, writer)
 }
 
 /// The same, from what was found in `index.json` and the first claims on.
@@ -184,8 +205,7 @@ fn verify_claims<L: ImageLayout, C: Watch, W: Write, E: Write>(
         errors,
     )?;
     progress.end(alloc, options, errors)?;
-    let unreached = unreached(alloc, &layout.list(alloc)?, &walk)?;
-    told.tell_all(alloc, options, unreached, writer)?;
+    tell_unreached(layout, options, alloc, &walk, &mut told, writer)?;
     let is_told_sound = told.is_sound(options);
     let contents = walk.claims.len() as u64;
     told.finish(alloc, options, contents, bytes_of(&walk), writer)?;
@@ -194,6 +214,19 @@ fn verify_claims<L: ImageLayout, C: Watch, W: Write, E: Write>(
     } else {
         Ok(false)
     }
+}
+
+fn tell_unreached<L: ImageLayout, W: Write>(
+    layout: &L,
+    options: &Options,
+    alloc: Global,
+    walk: &Walk,
+    told: &mut Told,
+    writer: &mut W,
+) -> Result<()> {
+    let listed = layout.list(alloc)?;
+    let found = unreached(alloc, &listed, walk)?;
+    told.tell_all(alloc, options, found, writer)
 }
 
 /// Looks at all claims that are reached from the first ones, and reports what is found at each as it is found.
@@ -215,26 +248,40 @@ fn look_at_all<S: Shown, C: Watch, W: Write, E: Write>(
     let mut walk = Walk::begin(alloc, first)?;
     'looks: while walk.step(shown, alloc, buffer)? {
         let place = walk.faults.len() - 1;
-        told.tell_all(alloc, options, findings_at(alloc, &walk, place)?, writer)?;
+        tell_at(alloc, options, &walk, place, told, writer)?;
         progress.count(alloc, options, watch, walk.claims.get(place), errors)?;
     }
     Ok(walk)
+}
+
+/// Reports what was found at a claim.
+fn tell_at<W: Write>(
+    alloc: Global,
+    options: &Options,
+    walk: &Walk,
+    place: usize,
+    told: &mut Told,
+    writer: &mut W,
+) -> Result<()> {
+    told.tell_all(alloc, options, findings_at(alloc, walk, place)?, writer)
 }
 
 /// What stands against `index.json` itself.
 fn index_findings(alloc: Global, fault: Option<Fault>, detail: Detail) -> Result<Vec<Finding>> {
     let mut found = Vec::new(alloc);
     match fault {
-        Some(Fault::NoJson) => found.push(Finding::at(
-            alloc,
-            "document",
-            false,
-            "index.json",
-            "a JSON text",
-        )?)?,
+        Some(Fault::NoJson) => {
+            add_fault(alloc, "document", "index.json", "a JSON text", &mut found)?
+        }
         Some(Fault::OtherType) => {
             let text = "the media type of an image index";
-            found.push(Finding::at(alloc, "media-type", false, "index.json#/mediaType", text)?)?;
+            add_fault(
+                alloc,
+                "media-type",
+                "index.json#/mediaType",
+                text,
+                &mut found,
+            )?;
         }
         _ => {}
     }
@@ -242,7 +289,18 @@ fn index_findings(alloc: Global, fault: Option<Fault>, detail: Detail) -> Result
     Ok(found)
 }
 
-/// How many contents will be looked at, and their bytes: by a quick walk.
+fn add_fault(
+    alloc: Global,
+    kind: &'static str,
+    place: &str,
+    text: &str,
+    found: &mut Vec<Finding>,
+) -> Result<()> {
+    found.push(Finding::at(alloc, kind, false, place, text)?)?;
+    Ok(())
+}
+
+/// How many contents will be looked at, and their bytes: by a quick walk, where progress is asked for.
 fn totals<L: ImageLayout>(
     layout: &L,
     options: &Options,
@@ -252,6 +310,9 @@ fn totals<L: ImageLayout>(
 ) -> Result<Progress>
     requires { 0 < length buffer.old }
 {
+    if !options.progress {
+        return Ok(Progress::new());
+    }
     let seen = read_document(alloc, Kind::Index, index)?;
     let shown = Layout {
         store: layout,

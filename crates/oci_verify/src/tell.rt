@@ -93,10 +93,10 @@ impl Told {
             listed,
         } = self;
         let mut members = Map::new(alloc);
-        put(alloc, &mut members, "claims", Value::from(claims))?;
-        put(alloc, &mut members, "bytes", Value::from(bytes))?;
-        put(alloc, &mut members, "findings", Value::from(findings))?;
-        put(alloc, &mut members, "notes", Value::from(notes))?;
+        put_number(alloc, &mut members, "claims", claims)?;
+        put_number(alloc, &mut members, "bytes", bytes)?;
+        put_number(alloc, &mut members, "findings", findings)?;
+        put_number(alloc, &mut members, "notes", notes)?;
         put(alloc, &mut members, "list", Value::Array(listed))?;
         line_of(alloc, &Value::Object(members))
     }
@@ -117,6 +117,15 @@ fn text_of(alloc: Global, text: &str) -> Result<Value> {
     Ok(Value::String(String::from_str(alloc, text)?))
 }
 
+fn put_number(
+    alloc: Global,
+    members: &mut Map<String, Value>,
+    name: &str,
+    number: u64,
+) -> Result<()> {
+    put(alloc, members, name, Value::from(number))
+}
+
 fn put_text(alloc: Global, members: &mut Map<String, Value>, name: &str, text: &str) -> Result<()> {
     put(alloc, members, name, text_of(alloc, text)?)
 }
@@ -131,12 +140,15 @@ fn path_of(alloc: Global, finding: &Finding) -> Result<Value> {
 }
 
 fn json_of(alloc: Global, finding: &Finding) -> Result<Value> {
-    let path = path_of(alloc, finding)?;
     let mut members = Map::new(alloc);
-    put_text(alloc, &mut members, "kind", finding.kind)?;
-    put(alloc, &mut members, "note", Value::Bool(finding.is_note))?;
-    put_text(alloc, &mut members, "place", finding.place.as_str())?;
-    put_text(alloc, &mut members, "text", finding.text.as_str())?;
-    put(alloc, &mut members, "claimedBy", path)?;
+    put_finding(alloc, &mut members, finding)?;
     Ok(Value::Object(members))
+}
+
+fn put_finding(alloc: Global, members: &mut Map<String, Value>, finding: &Finding) -> Result<()> {
+    put_text(alloc, members, "kind", finding.kind)?;
+    put(alloc, members, "note", Value::Bool(finding.is_note))?;
+    put_text(alloc, members, "place", finding.place.as_str())?;
+    put_text(alloc, members, "text", finding.text.as_str())?;
+    put(alloc, members, "claimedBy", path_of(alloc, finding)?)
 }
