@@ -11,16 +11,18 @@ use std::io::{ErrorKind, Read, Write};
 pub struct Manner {
     /// How many bytes are given at most in one read.
     pub most_read: usize,
-    /// The read from which on each one fails, the first being 1.
+    /// The first read that fails, the first of all being 1.
     pub bad_read: usize,
     /// How many bytes are taken at most in one write.
     pub most_written: usize,
-    /// The write from which on each one fails.
+    /// The first write that fails.
     pub bad_write: usize,
     /// Whether a flush fails.
     pub bad_flush: bool,
-    /// The write to the errors from which on each one fails.
+    /// The first write to the errors that fails.
     pub bad_tell: usize,
+    /// Whether each one behind it fails too.
+    pub lasting: bool,
     /// The error; without one, what fails gives or takes no byte.
     pub fault: Option<ErrorKind>,
 }
@@ -34,8 +36,14 @@ impl Manner {
         bad_write: usize::MAX,
         bad_flush: false,
         bad_tell: usize::MAX,
+        lasting: true,
         fault: None,
     };
+
+    /// Whether the read or write of this number fails, where this is the first that does.
+    fn fails(self, count: usize, first: usize) -> bool {
+        count == first || (self.lasting && count > first)
+    }
 
     /// What fails gives, takes or does, instead of its work.
     fn failed(self) -> io::Result<usize>
@@ -95,7 +103,7 @@ impl<'a> Input<'a> {
 impl Read for Input<'_> {
     fn read(&mut self, buf: &mut [u8]) -> io::Result<usize> {
         self.reads = self.reads.saturating_add(1);
-        if self.reads >= self.manner.bad_read {
+        if self.manner.fails(self.reads, self.manner.bad_read) {
             return self.manner.failed();
         }
         self.go_on();
@@ -167,7 +175,7 @@ impl Output {
 impl Write for Output {
     fn write(&mut self, buf: &[u8]) -> io::Result<usize> {
         self.writes = self.writes.saturating_add(1);
-        if self.writes >= self.manner.bad_write {
+        if self.manner.fails(self.writes, self.manner.bad_write) {
             return self.manner.failed();
         }
         let count = buf.len().min(self.manner.most_written);

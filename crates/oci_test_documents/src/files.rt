@@ -1,11 +1,11 @@
-use super::super::check_text;
-use super::check_document;
+//! Image documents in files. What texts are read as is in the rows of `oci_test_golden`, and what else these documents do is run in
+//! `oci_test_vectors`.
+
+use crate::checks::{check, written};
 use oci_image::{ArtifactManifest, ImageConfiguration, ImageIndex, ImageManifest, OciLayout};
+use oci_test_harness::{Harness, HarnessOutOfMemory};
 use oci_text_base::Result;
-use std::alloc::Alloc;
 use std::fs;
-use std::process::Abort;
-use std::rt::Files;
 
 /// The texts of a document.
 struct Texts {
@@ -100,56 +100,61 @@ static IMAGE_CONFIGURATION: Texts = Texts {
 }"#,
 };
 
-/// What was written to a file is this text.
-fn check_file<R: Abort + Alloc + Files>(rt: &R, answer: Result<()>, path: &str, expected: &str) {
-    answer.expect(rt, path);
-    let text = fs::read_to_string(rt, path).expect(rt, path);
-    check_text(rt, text.as_str(), expected);
+/// The path of all documents.
+const PATH: &str = "document.json";
+
+/// Counts a call that wrote this text to the file.
+fn check_file(harness: &mut Harness<'_>, done: Result<()>, text: &str) {
+    let kept = match fs::read_to_string(harness.rt, PATH) {
+        Ok(found) => done.is_ok() && found.as_str() == text,
+        Err(_) => false,
+    };
+    harness.count(text, 0, kept);
 }
 
-/// What is written to a file, and read from it.
+/// Counts what is written to a file, and read from it.
 macro_rules! check_files {
-    ($rt:expr, $record:ident, $path:literal, $texts:expr) => {
-        let alloc = $rt.alloc();
-        let document = $record::from_reader(alloc, $texts.compact.as_bytes()).expect($rt, $path);
-        check_file($rt, document.to_file($rt, alloc, $path), $path, $texts.compact);
-        check_file($rt, document.to_file_pretty($rt, alloc, $path), $path, $texts.pretty);
-        check_document($rt, alloc, $record::from_file($rt, alloc, $path), $texts.compact);
-        fs::remove_file($rt, $path).expect($rt, $path);
+    ($harness:expr, $record:ident, $texts:expr) => {
+        let (rt, alloc) = ($harness.rt, $harness.rt.alloc());
+        match $record::from_reader(alloc, $texts.compact.as_bytes()) {
+            Ok(document) => {
+                check_file($harness, document.to_file(rt, alloc, PATH), $texts.compact);
+                check_file($harness, document.to_file_pretty(rt, alloc, PATH), $texts.pretty);
+            }
+            Err(_) => $harness.count(stringify!($record), 0, false),
+        }
+        let read = written(alloc, $record::from_file(rt, alloc, PATH));
+        check($harness, stringify!($record), &read, Ok($texts.compact));
     };
 }
 
-#[test]
-fn image_manifest_files(rt: HostRuntime) {
-    check_files!(&rt, ImageManifest, "image_manifest.json", &IMAGE_MANIFEST);
+fn manifest(harness: &mut Harness<'_>) {
+    check_files!(harness, ImageManifest, &IMAGE_MANIFEST);
 }
 
-#[test]
-fn image_index_files(rt: HostRuntime) {
-    check_files!(&rt, ImageIndex, "image_index.json", &IMAGE_INDEX);
+fn index(harness: &mut Harness<'_>) {
+    check_files!(harness, ImageIndex, &IMAGE_INDEX);
 }
 
-#[test]
-fn image_configuration_files(rt: HostRuntime) {
-    check_files!(
-        &rt,
-        ImageConfiguration,
-        "image_configuration.json",
-        &IMAGE_CONFIGURATION
-    );
+fn configuration(harness: &mut Harness<'_>) {
+    check_files!(harness, ImageConfiguration, &IMAGE_CONFIGURATION);
 }
 
-#[test]
-fn artifact_manifest_files(rt: HostRuntime) {
-    check_files!(
-        &rt,
-        ArtifactManifest,
-        "artifact_manifest.json",
-        &ARTIFACT_MANIFEST
-    );
+fn artifact(harness: &mut Harness<'_>) {
+    check_files!(harness, ArtifactManifest, &ARTIFACT_MANIFEST);
 }
 
-#[test]
-fn oci_layout_files(rt: HostRuntime) {
-    check_files!(&rt, OciLayout, "oci_layout.json", &OCI_LAYOUT);
+fn layout(harness: &mut Harness<'_>) {
+    check_files!(harness, OciLayout, &OCI_LAYOUT);
+}
+
+pub fn all(harness: &mut Harness<'_>) -> std::result::Result<(), HarnessOutOfMemory> {
+    manifest(harness);
+    index(harness);
+    configuration(harness);
+    artifact(harness);
+    layout(harness);
+    fs::remove_file(harness.rt, PATH)?;
+    harness.end("image documents", "calls on files");
+    Ok(())
 }

@@ -1,4 +1,4 @@
-use super::super::Answer;
+use crate::checks::Answer;
 use std::io::ErrorKind;
 
 const NO_JSON: Answer<'_> = Err(("Json", ""));
@@ -53,7 +53,7 @@ pub(super) static LISTS: [(&[u8], Answer<'_>); 32] = [
 ];
 
 /// How many bytes a reader gives at most, the read that fails, and how.
-pub(super) static FAILING_READERS: [(usize, u32, ErrorKind); 6] = [
+pub(super) static FAILING_READERS: [(usize, usize, ErrorKind); 6] = [
     (usize::MAX, 1, ErrorKind::PermissionDenied),
     (usize::MAX, 1, ErrorKind::Interrupted),
     (5, 2, ErrorKind::Interrupted),
@@ -111,19 +111,25 @@ pub(super) static REPLIES: [(&str, &str, &str); 3] = [
     ),
 ];
 
-/// A writer that fails: how many bytes it takes at most, the write that fails, whether a flush fails, how, and how many bytes
-/// were taken before.
-pub(super) static FAILING_WRITERS: [(usize, u32, bool, ErrorKind, usize); 8] = [
+/// A writer that fails: how many bytes it takes at most, the write that fails, if one does, whether a flush fails, how, and how many
+/// bytes were taken before.
+pub(super) static FAILING_WRITERS: [(usize, usize, bool, ErrorKind, usize); 8] = [
     (usize::MAX, 1, false, ErrorKind::Interrupted, 0),
     (1, 1, false, ErrorKind::BrokenPipe, 0),
     (1, 2, false, ErrorKind::Interrupted, 1),
     (3, 5, false, ErrorKind::BrokenPipe, 12),
     (4, 3, false, ErrorKind::Interrupted, 8),
     // a write that takes no byte
-    (0, 0, false, ErrorKind::WriteZero, 0),
+    (0, usize::MAX, false, ErrorKind::WriteZero, 0),
     // behind the whole text
-    (usize::MAX, 0, true, ErrorKind::Interrupted, usize::MAX),
-    (10, 0, true, ErrorKind::StorageFull, usize::MAX),
+    (
+        usize::MAX,
+        usize::MAX,
+        true,
+        ErrorKind::Interrupted,
+        usize::MAX,
+    ),
+    (10, usize::MAX, true, ErrorKind::StorageFull, usize::MAX),
 ];
 
 /// A text that code sets as the `detail` of an error, and what is written of the error: the value of that text, or nothing where

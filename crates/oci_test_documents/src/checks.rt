@@ -1,0 +1,65 @@
+//! How answers are compared, and texts made.
+
+use oci_json::to_string;
+use oci_json_model::OciRecord;
+use oci_test_harness::Harness;
+use oci_text_base::{OciSpecError, Result, SerDeError};
+use std::alloc::{AllocError, Global};
+
+/// A text that a call answers; or the kind of its refusal and what it names, of a document's the record and its member.
+pub type Answer<'a> = std::result::Result<&'a str, (&'a str, &'a str)>;
+
+fn refusal(error: &OciSpecError) -> (&str, &str) {
+    match error {
+        OciSpecError::Other(why) => ("Other", why.as_str()),
+        OciSpecError::Io(_) => ("Io", ""),
+        OciSpecError::SerDe(SerDeError::Json(_)) => ("Json", ""),
+        OciSpecError::SerDe(SerDeError::Schema(fault)) => (fault.owner, fault.member),
+        OciSpecError::Builder(fault) => ("Builder", fault.field_name()),
+        OciSpecError::Memory => ("Memory", ""),
+    }
+}
+
+/// Counts a call that answers what was expected.
+pub fn check(harness: &mut Harness<'_>, case: &str, found: &Result<String>, expected: Answer<'_>) {
+    let found = match found {
+        Ok(text) => Ok(text.as_str()),
+        Err(error) => Err(refusal(error)),
+    };
+    harness.count(case, 0, found == expected);
+}
+
+/// Counts a call that is refused as was expected.
+pub fn check_refused(
+    harness: &mut Harness<'_>,
+    case: &str,
+    found: &Result<()>,
+    expected: (&str, &str),
+) {
+    let kept = match found {
+        Ok(()) => false,
+        Err(error) => refusal(error) == expected,
+    };
+    harness.count(case, 0, kept);
+}
+
+/// The compact text of a document that was made.
+pub fn written<T: OciRecord>(alloc: Global, made: Result<T>) -> Result<String> {
+    to_string(&made?, alloc)
+}
+
+/// A text, so many times a part, and an end.
+pub fn repeated(
+    alloc: Global,
+    begin: &str,
+    part: &str,
+    count: usize,
+    end: &str,
+) -> std::result::Result<String, AllocError> {
+    let mut text = String::from_str(alloc, begin)?;
+    for _ in 0..count {
+        text.push_str(part)?;
+    }
+    text.push_str(end)?;
+    Ok(text)
+}
