@@ -1,4 +1,5 @@
 //! The rows of unknown members, and of names that stand twice.
+use crate::rows::{compare, parts};
 use anyhow::{Context, Result, bail};
 use oci_kinds::Kind;
 use oci_lint::{UnknownMember, repeated_names, suggestion, unknown_members};
@@ -8,16 +9,17 @@ use std::alloc::Global;
 
 /// Checks a row of unknown members.
 pub fn check_unknown<R: Print + AllocGlobal>(rt: &R, row: &str) -> Result<()> {
-    let (word, rest) = row.split_once('\n').context("a row has one line")?;
-    let (document, expected) = rest.split_once('\n').context("a row has two lines")?;
+    let (word, document, expected) = parts(row)?;
+    let found = unknown(word, document, rt.alloc())?;
+    compare(rt, "unknown", row, found.as_str(), expected)
+}
+
+/// The unknown members of the text of a document.
+fn unknown(word: &str, document: &str, alloc: Global) -> Result<String> {
     let kind = Kind::from_word(word).context("no kind of documents")?;
-    let value = Value::from_str(rt.alloc(), document)?;
-    let found = unknown_members(oci_records(), kind.schema(), &value, rt.alloc())?;
-    let listed = unknown_line(&found, rt.alloc())?;
-    if listed.as_str() != expected.trim() {
-        println!(rt; "unknown: {word} {document}\nfound    {listed}\nexpected {expected}")?;
-    }
-    Ok(())
+    let value = Value::from_str(alloc, document)?;
+    let found = unknown_members(oci_records(), kind.schema(), &value, alloc)?;
+    unknown_line(&found, alloc)
 }
 
 /// What is listed, as a row has it.
@@ -40,12 +42,17 @@ fn unknown_line(found: &Vec<UnknownMember>, alloc: Global) -> Result<String> {
 
 /// Checks a row of names that stand twice.
 pub fn check_twice<R: Print + AllocGlobal>(rt: &R, row: &str) -> Result<()> {
-    let (remark, rest) = row.split_once('\n').context("a row has one line")?;
-    let (text, expected) = rest.split_once('\n').context("a row has two lines")?;
-    let Ok(found) = repeated_names(text, rt.alloc()) else {
+    let (_, text, expected) = parts(row)?;
+    let found = twice(text, rt.alloc())?;
+    compare(rt, "twice", row, found.as_str(), expected)
+}
+
+/// The names that stand twice in a text.
+fn twice(text: &str, alloc: Global) -> Result<String> {
+    let Ok(found) = repeated_names(text, alloc) else {
         bail!("a text is not JSON");
     };
-    let mut line = String::new(rt.alloc());
+    let mut line = String::new(alloc);
     for it in &found {
         if !line.is_empty() {
             line.push_str("  ")?;
@@ -55,8 +62,5 @@ pub fn check_twice<R: Print + AllocGlobal>(rt: &R, row: &str) -> Result<()> {
     if line.is_empty() {
         line.push('-')?;
     }
-    if line.as_str() != expected.trim() {
-        println!(rt; "twice: {remark}\nfound    {line}\nexpected {expected}")?;
-    }
-    Ok(())
+    Ok(line)
 }

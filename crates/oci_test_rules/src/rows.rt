@@ -31,7 +31,27 @@ fn check_rows<R: Files + Print + AllocGlobal>(rt: &R, file: &str) -> Result<()> 
             count = count.saturating_add(1);
         }
     }
+    count_rows(rt, file, count)
+}
+
+/// Prints how many rows a file has.
+pub fn count_rows<R: Print>(rt: &R, file: &str, count: u64) -> Result<()> {
     println!(rt; "{file}: {count} rows")?;
+    Ok(())
+}
+
+/// The three parts of a row: its first line, its second, and what is expected.
+pub fn parts(row: &str) -> Result<(&str, &str, &str)> {
+    let (first, rest) = row.split_once('\n').context("a row has one line")?;
+    let (second, expected) = rest.split_once('\n').context("a row has two lines")?;
+    Ok((first, second, expected.trim()))
+}
+
+/// Prints a row of which something else is found than it expects.
+pub fn compare<R: Print>(rt: &R, file: &str, row: &str, found: &str, expected: &str) -> Result<()> {
+    if found != expected {
+        println!(rt; "{file}: {row}\nfound {found}")?;
+    }
     Ok(())
 }
 
@@ -46,15 +66,16 @@ fn check_row<R: Print + AllocGlobal>(rt: &R, file: &str, row: &str) -> Result<()
 
 /// Checks a row of a kind of documents.
 fn check_document<R: Print + AllocGlobal>(rt: &R, kind: &str, row: &str) -> Result<()> {
-    let (platform, rest) = row.split_once('\n').context("a row has one line")?;
-    let (document, expected) = rest.split_once('\n').context("a row has two lines")?;
-    let value = Value::from_str(rt.alloc(), document)?;
-    let found = broken_of(kind, platform_of(platform, &value)?, &value, rt.alloc())?;
-    let listed = line_of(&found, rt.alloc())?;
-    if listed.as_str() != expected.trim() {
-        println!(rt; "{kind}: of {platform} {document}\nfound    {listed}\nexpected {expected}")?;
-    }
-    Ok(())
+    let (platform, document, expected) = parts(row)?;
+    let found = listed(kind, platform, document, rt.alloc())?;
+    compare(rt, kind, row, found.as_str(), expected)
+}
+
+/// What breaks the rules in the text of a document.
+fn listed(kind: &str, platform: &str, document: &str, alloc: Global) -> Result<String> {
+    let value = Value::from_str(alloc, document)?;
+    let found = broken_of(kind, platform_of(platform, &value)?, &value, alloc)?;
+    line_of(&found, alloc)
 }
 
 /// What is listed, as a row has it.

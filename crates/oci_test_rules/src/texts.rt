@@ -1,7 +1,9 @@
 //! The rows of texts: which texts are of a grammar, and which are not.
-use anyhow::{Context, Result, bail};
+use crate::rows::{compare, count_rows};
+use anyhow::{Context, Result};
 use oci_rule_texts::Grammar;
 use serde_json::Value;
+use std::alloc::Global;
 use std::fs;
 use std::rt::Files;
 
@@ -66,27 +68,26 @@ pub fn texts<R: Files + Print + AllocGlobal>(rt: &R) -> Result<()> {
             count = count.saturating_add(1);
         }
     }
-    println!(rt; "texts: {count} rows")?;
-    Ok(())
+    count_rows(rt, "texts", count)
 }
 
 fn check_row<R: Print + AllocGlobal>(rt: &R, row: &str) -> Result<()> {
-    let (word, rest) = row.split_once('\t').context("a row has one cell")?;
-    let (verdict, rest) = rest.split_once('\t').context("a row has two cells")?;
-    let (text, _) = rest.split_once('\t').context("a row has three cells")?;
-    let grammar = grammar_of(word).context("no grammar")?;
-    let value = Value::from_str(rt.alloc(), text)?;
-    let text = value.as_str().context("no text")?;
-    if grammar.accepts(text) != is_yes(verdict)? {
-        println!(rt; "texts: {row}")?;
-    }
-    Ok(())
+    let (word, verdict, text) = cells(row).context("a row has three cells")?;
+    let found = verdict_of(word, text, rt.alloc())?;
+    compare(rt, "texts", row, found, verdict)
 }
 
-fn is_yes(verdict: &str) -> Result<bool> {
-    Ok(match verdict {
-        "yes" => true,
-        "no" => false,
-        _ => bail!("neither yes nor no"),
-    })
+fn cells(row: &str) -> Option<(&str, &str, &str)> {
+    let (word, rest) = row.split_once('\t')?;
+    let (verdict, rest) = rest.split_once('\t')?;
+    let (text, _) = rest.split_once('\t')?;
+    Some((word, verdict, text))
+}
+
+/// Whether a text, as JSON, is of a grammar.
+fn verdict_of(word: &str, text: &str, alloc: Global) -> Result<&'static str> {
+    let grammar = grammar_of(word).context("no grammar")?;
+    let value = Value::from_str(alloc, text)?;
+    let text = value.as_str().context("no text")?;
+    Ok(if grammar.accepts(text) { "yes" } else { "no" })
 }
