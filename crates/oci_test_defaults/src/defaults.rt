@@ -14,19 +14,21 @@ macro_rules! enums {
     };
 }
 
-/// Compares copies of the defaults of some records.
+/// Compares copies of the defaults of some records, and returns how many there are.
 macro_rules! records {
-    ($rt:expr, $rows:expr, $group:expr, $($from:ident $name:ident)*) => {{
+    ($rt:expr, $rows:expr, $($from:ident $name:ident)*) => {{
         $(
             document(
                 $rt,
                 $rows,
                 stringify!($name),
-                $from::$name::try_default($rt.alloc())?.clone($rt.alloc()),
+                match $from::$name::try_default($rt.alloc()) {
+                    Ok(made) => made.clone($rt.alloc()),
+                    Err(fault) => Err(fault),
+                },
             );
         )*
-        report_count($rt, $group, [$(stringify!($name)),*].len());
-        Ok(())
+        [$(stringify!($name)),*].len()
     }};
 }
 
@@ -43,14 +45,14 @@ pub fn all(rt: &HostRuntime) -> Result<()> {
     let rows = read(rt, "defaults")?;
     let rows = rows.as_str();
     enums(rt, rows);
-    image(rt, rows)?;
-    linux(rt, rows)?;
-    control_groups(rt, rows)?;
-    process(rt, rows)?;
-    platforms(rt, rows)?;
-    windows(rt, rows)?;
-    features(rt, rows)?;
-    containers(rt, rows)?;
+    image(rt, rows);
+    linux(rt, rows);
+    control_groups(rt, rows);
+    process(rt, rows);
+    platforms(rt, rows);
+    windows(rt, rows);
+    features(rt, rows);
+    containers(rt, rows);
     builders(rt, rows);
     calls(rt, rows);
     saved(rt, rows)
@@ -75,25 +77,31 @@ fn enums(rt: &HostRuntime, rows: &str) {
     );
 }
 
-fn image(rt: &HostRuntime, rows: &str) -> oci_spec::Result<()> {
-    records!(rt, rows, "image",
+fn image(rt: &HostRuntime, rows: &str) {
+    let count = records!(rt, rows,
         image ImageConfiguration
         image Config
         image RootFs
         image History
         image Platform
         image ImageIndex
-    )
+    );
+    report_count(rt, "image", count);
 }
 
-fn linux(rt: &HostRuntime, rows: &str) -> oci_spec::Result<()> {
-    records!(rt, rows, "linux",
+fn kernel_objects(rt: &HostRuntime, rows: &str) -> usize {
+    records!(rt, rows,
         runtime Linux
         runtime LinuxIdMapping
         runtime LinuxNetDevice
         runtime LinuxNamespace
         runtime LinuxDevice
         runtime LinuxSeccomp
+    )
+}
+
+fn kernel_rules(rt: &HostRuntime, rows: &str) -> usize {
+    records!(rt, rows,
         runtime LinuxSyscall
         runtime LinuxSeccompArg
         runtime LinuxIntelRdt
@@ -103,14 +111,24 @@ fn linux(rt: &HostRuntime, rows: &str) -> oci_spec::Result<()> {
     )
 }
 
-fn control_groups(rt: &HostRuntime, rows: &str) -> oci_spec::Result<()> {
-    records!(rt, rows, "control groups",
+fn linux(rt: &HostRuntime, rows: &str) {
+    let count = kernel_objects(rt, rows).saturating_add(kernel_rules(rt, rows));
+    report_count(rt, "linux", count);
+}
+
+fn limits(rt: &HostRuntime, rows: &str) -> usize {
+    records!(rt, rows,
         runtime LinuxDeviceCgroup
         runtime LinuxMemory
         runtime LinuxCpu
         runtime LinuxPids
         runtime LinuxWeightDevice
         runtime LinuxThrottleDevice
+    )
+}
+
+fn resources(rt: &HostRuntime, rows: &str) -> usize {
+    records!(rt, rows,
         runtime LinuxBlockIo
         runtime LinuxHugepageLimit
         runtime LinuxInterfacePriority
@@ -120,8 +138,13 @@ fn control_groups(rt: &HostRuntime, rows: &str) -> oci_spec::Result<()> {
     )
 }
 
-fn process(rt: &HostRuntime, rows: &str) -> oci_spec::Result<()> {
-    records!(rt, rows, "process",
+fn control_groups(rt: &HostRuntime, rows: &str) {
+    let count = limits(rt, rows).saturating_add(resources(rt, rows));
+    report_count(rt, "control groups", count);
+}
+
+fn process(rt: &HostRuntime, rows: &str) {
+    let count = records!(rt, rows,
         runtime Process
         runtime Box
         runtime PosixRlimit
@@ -130,15 +153,21 @@ fn process(rt: &HostRuntime, rows: &str) -> oci_spec::Result<()> {
         runtime LinuxIOPriority
         runtime Scheduler
         runtime ExecCPUAffinity
-    )
+    );
+    report_count(rt, "process", count);
 }
 
-fn platforms(rt: &HostRuntime, rows: &str) -> oci_spec::Result<()> {
-    records!(rt, rows, "platforms",
+fn solaris(rt: &HostRuntime, rows: &str) -> usize {
+    records!(rt, rows,
         runtime Solaris
         runtime SolarisAnet
         runtime SolarisCappedCPU
         runtime SolarisCappedMemory
+    )
+}
+
+fn machines(rt: &HostRuntime, rows: &str) -> usize {
+    records!(rt, rows,
         runtime VM
         runtime VMHypervisor
         runtime VMKernel
@@ -148,8 +177,13 @@ fn platforms(rt: &HostRuntime, rows: &str) -> oci_spec::Result<()> {
     )
 }
 
-fn windows(rt: &HostRuntime, rows: &str) -> oci_spec::Result<()> {
-    records!(rt, rows, "windows",
+fn platforms(rt: &HostRuntime, rows: &str) {
+    let count = solaris(rt, rows).saturating_add(machines(rt, rows));
+    report_count(rt, "platforms", count);
+}
+
+fn windows(rt: &HostRuntime, rows: &str) {
+    let count = records!(rt, rows,
         runtime Windows
         runtime WindowsDevice
         runtime WindowsResources
@@ -158,17 +192,23 @@ fn windows(rt: &HostRuntime, rows: &str) -> oci_spec::Result<()> {
         runtime WindowsStorageResources
         runtime WindowsHyperV
         runtime WindowsNetwork
-    )
+    );
+    report_count(rt, "windows", count);
 }
 
-fn features(rt: &HostRuntime, rows: &str) -> oci_spec::Result<()> {
-    records!(rt, rows, "features",
+fn feature_lists(rt: &HostRuntime, rows: &str) -> usize {
+    records!(rt, rows,
         runtime Features
         runtime LinuxFeature
         runtime Cgroup
         runtime Seccomp
         runtime Apparmor
         runtime Selinux
+    )
+}
+
+fn feature_flags(rt: &HostRuntime, rows: &str) -> usize {
+    records!(rt, rows,
         runtime IntelRdt
         runtime MemoryPolicy
         runtime MountExtensions
@@ -177,8 +217,13 @@ fn features(rt: &HostRuntime, rows: &str) -> oci_spec::Result<()> {
     )
 }
 
-fn containers(rt: &HostRuntime, rows: &str) -> oci_spec::Result<()> {
-    records!(rt, rows, "containers",
+fn features(rt: &HostRuntime, rows: &str) {
+    let count = feature_lists(rt, rows).saturating_add(feature_flags(rt, rows));
+    report_count(rt, "features", count);
+}
+
+fn containers(rt: &HostRuntime, rows: &str) {
+    let count = records!(rt, rows,
         runtime Hooks
         runtime Hook
         runtime Root
@@ -186,7 +231,8 @@ fn containers(rt: &HostRuntime, rows: &str) -> oci_spec::Result<()> {
         runtime Spec
         runtime State
         runtime ContainerProcessState
-    )
+    );
+    report_count(rt, "containers", count);
 }
 
 fn builders(rt: &HostRuntime, rows: &str) {
