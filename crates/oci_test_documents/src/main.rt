@@ -1,5 +1,6 @@
-//! Tests of texts, references and documents of all three specifications that are made in code, and of the engines that read and write
-//! them: of what no contract says. They print how many cases of each group they ran, and each case that broke its rule.
+//! The program `oci_test_documents`: tests of texts, references and documents of all three specifications that are made in code, and of
+//! the engines that read and write them: of what no contract says. It prints how many cases of each group it ran, and each case that
+//! broke its rule.
 #![tactic(auto)]
 
 mod checks;
@@ -15,10 +16,11 @@ mod references;
 mod runtime;
 mod scanner;
 
-use oci_test_harness::{Harness, HarnessOutOfMemory};
+use oci_test_harness::{Harness, HarnessOutOfMemory, exit};
+use std::process::ExitCode;
 
 /// All groups.
-pub fn run(rt: &HostRuntime) -> Result<(), HarnessOutOfMemory> {
+fn run(rt: &HostRuntime) -> Result<(), HarnessOutOfMemory> {
     let mut harness = Harness::new(rt)?;
     errors::all(&mut harness);
     distribution::all(&mut harness);
@@ -33,4 +35,8 @@ pub fn run(rt: &HostRuntime) -> Result<(), HarnessOutOfMemory> {
     runtime::all(&mut harness);
     harness.end_calls();
     Ok(())
+}
+
+fn main(rt: HostRuntime) -> ExitCode {
+    exit(&rt, run(&rt))
 }
