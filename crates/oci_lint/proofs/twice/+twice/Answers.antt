@@ -1,5 +1,5 @@
 use Rattle.std.proofs.Common.{map, string_bytes, ◌∙◌, arith}
-use Rattle.oci_lint.proofs.Repeats.{name_step, name_smaller}
+use Rattle.oci_lint.proofs.Repeats.{item_smaller, item_step, items_done, members_done, name_smaller, name_step}
 use Rattle.oci_lint.proofs.twice.+twice.Goals as goal
 
 pub add_members-loop-name-preserved : goal.add_members-loop-name-preserved
@@ -11,3 +11,19 @@ add_members-loop-name-preserved t c = record {
       c.in_ok-add_value.ensures c.in_ok-put.ensures;
   smaller = name_smaller c.args.members.now c.loop-name.name-index c.loop-name-item.result (omega arith) c.loop-name-item.is c.loop-name.invariant.smaller;
 }
+
+pub add_items-loop-index-preserved : goal.add_items-loop-index-preserved
+add_items-loop-index-preserved t c = record {
+  all =
+      item_step c.args.at.now (map string_bytes c.loop-index.found.items) (map string_bytes c.add_value.new.found.items) _ c.args.items.now c.loop-index.index c.index-items-index.result
+      c.as_str.result.now c.loop-index-test.true c.index-items-index.is c.loop-index.invariant.all (c.as_str.ensures.value ∙ c.in_ok-place.ensures) c.in_ok-add_value.ensures;
+  smaller = item_smaller c.args.items.now c.loop-index.index c.index-items-index.result c.loop-index-test.true c.index-items-index.is c.loop-index.invariant.smaller;
+}
+
+pub add_items-returns : goal.add_items-returns
+add_items-returns t c =
+    items_done c.args.at.now (map string_bytes c.loop-index.found.items) _ c.args.items.now c.loop-index.index c.loop-index-test.false c.loop-index.invariant.all
+
+pub add_members-returns : goal.add_members-returns
+add_members-returns t c =
+    members_done c.args.at.now (map string_bytes c.loop-name.found.items) _ _ c.args.members.now c.loop-name.name-index c.loop-name-test.false c.loop-name.invariant.all
