@@ -7,7 +7,7 @@ use Rattle.oci_content.specs.declared.verdict.Verdict.TheVariants as verdict
 use Rattle.oci_content.proofs.Verdicts.{one_verdict}
 use Rattle.oci_layout.specs.Documents.{IsFault, IsReadBy}
 use Rattle.oci_layout.specs.Kinds.{document_shape}
-use Rattle.oci_layout.specs.Looks.{fault_of, IsJudgedBy, IsVerified, IsVerifiedOrUnreadable, IsFound, IsShown, IsCut, Contents, Shows, Gives}
+use Rattle.oci_layout.specs.Looks.{fault_of, IsJudgedBy, IsVerified, IsVerifiedOrUnreadable, IsFound, IsTooLarge, IsShown, IsCut, Contents, Shows, Gives}
 use Rattle.oci_layout.specs.declared.kind.Kind.{Kind}
 use Rattle.oci_layout.specs.declared.store.Opened.TheVariants.{Content}
 use Rattle.oci_layout.specs.declared.claim.Claim.{Claim}
@@ -71,6 +71,11 @@ pub found_document : (limit : ℕ) (known : Option (List ℕ)) (claim : Claim) (
 found_document limit known claim (Err e) h = tt
 found_document limit None claim (Ok s) h = tt
 found_document limit (Some bytes) claim (Ok s) h = inl h
+
+pub found_large : (limit : ℕ) (known : Option (List ℕ)) (claim : Claim) (f : Option Fault) (claims : List Claim) → IsTooLarge limit claim f claims
+    → IfSome known (λ bytes. IsFound limit bytes claim f claims)
+found_large limit None claim f claims h = tt
+found_large limit (Some bytes) claim f claims h = inr h
 
 pub shown_ok : {B : Type 0} (remaining : B → Option (List ℕ)) (contents : Contents) (quick : Bool) (limit : ℕ) (claim : Claim) (blob : B) (size : Option ℕ)
     (r : Result Seen AllocError) → Gives remaining contents claim.digest (Content blob size)
