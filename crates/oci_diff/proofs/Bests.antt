@@ -4,7 +4,7 @@ use Rattle.std.proofs.Math.ListN.{get_or-append}
 use Rattle.std.proofs.Math.Seq.{get_or-append_seam}
 use Rattle.std.proofs.lemmas.Bool.{ne_eqb}
 use Rattle.std.proofs.lemmas.List.Elements.{Contains-get_or}
-use Rattle.std.specs.List.{All}
+use Rattle.std.specs.List.{All, slice_index}
 use Rattle.std.specs.Prelude.{◌↔◌, if◌then◌else◌}
 use native.Mathlib.Decide.{dec_lt}
 use Rattle.serde_json.specs.Data.{Data, Items}
@@ -16,7 +16,7 @@ use Rattle.serde_json.specs.declared.value.Value.{Value}
 use Rattle.oci_json_trees.specs.Alike.{is_same}
 use Rattle.oci_json_trees.specs.SameTrees.{same_if_equal}
 use Rattle.oci_diff.specs.Aligned.{AreAligned, AreSameAt, Lead, first_after, second_after}
-use Rattle.oci_diff.specs.Best.{sames, IsLongest, IsStepOf, are_alike, extra, gain_of, worth, best, score_at, HasRows}
+use Rattle.oci_diff.specs.Best.{sames, IsLongest, IsStepOf, are_alike, extra, gain_of, worth, best, score_at, IsRow, HasRows}
 use Rattle.oci_diff.specs.Same.{AreSame}
 use Rattle.oci_diff.specs.declared.aligned.Step.{Step}
 use Rattle.oci_diff.specs.declared.aligned.Step.TheVariants.{Same, Both, First, Second}
@@ -213,3 +213,17 @@ longest_of vs ws steps others i j few first second lead aligned reached =
 pub each_of : (vs ws : List Value) (steps : List Step) → AreAligned steps (items_view vs) (items_view ws) → (length vs ≤ 64 → length ws ≤ 64 → IsLongest steps (items_view vs) (items_view ws)) → All (IsStepOf (items_view vs) (items_view ws)) steps
 each_of vs ws steps aligned longest =
     λ k d h. (steps, aligned, λ few fewer. longest (subst (λ x. x ≤ 64) (items_len-items_view vs) few) (subst (λ x. x ≤ 64) (items_len-items_view ws) fewer), Contains-get_or steps k d h)
+
+-- one row more
+row_more : (f : ℕ → ℕ → ℕ) (n : ℕ) (rows : List (Vec ℕ Global)) (row : Vec ℕ Global)
+    → ((r c : ℕ) → r < length rows → c ≤ n → score_at rows r c ≡ f r c) → ((c : ℕ) → c ≤ n → slice_index row.items c ≡ f (length rows) c)
+    → (r c : ℕ) → r < length rows + 1 → c ≤ n → score_at (rows ++ row ∷ []) r c ≡ f r c
+row_more f n [] row has last zero c h k = last c k
+row_more f n [] row has last (suc r) c h k = absurd (omega arith)
+row_more f n (x ∷ xs) row has last zero c h k = has zero c (omega arith) k
+row_more f n (x ∷ xs) row has last (suc r) c h k = row_more (λ s. f (suc s)) n xs row (λ s d p q. has (suc s) d (omega arith) q) last r c (omega arith) k
+
+pub more_rows : (ds es : Items) (m n left : ℕ) (rows new : List (Vec ℕ Global)) (row : Vec ℕ Global) → new ≡ rows ++ row ∷ [] → length rows ≡ left
+    → HasRows ds es m n left rows → IsRow ds es m n left row.items → HasRows ds es m n (left + 1) new
+more_rows ds es m n left rows new row is many below last =
+    rw is (λ r c h k. row_more (best ds es m n) n rows row (λ s d p q. below s d (omega arith) q) (λ d q. rw many (last d q)) r c (omega arith) k)
