@@ -38,12 +38,35 @@ impl Reading {
         }
     }
 
-    /// The compact text of the document, or the place that refuses the text.
-    pub fn found<T: OciRecord>(self, alloc: Global, text: &str) -> Result<String> {
-        match self.read::<T>(alloc, text) {
-            Ok(document) => written(alloc, &document, text),
-            Err(fault) => refused(alloc, &fault),
-        }
+    /// The compact text of the document, and whether a copy, and what is read of both texts' bytes, is the same one.
+    pub fn found<T: OciRecord>(self, alloc: Global, text: &str) -> Found {
+        let document: T = self.read(alloc, text)?;
+        let compact = to_string(&document, alloc)?;
+        let again = from_slice(alloc, compact.as_bytes());
+        let same = is_same(&document, document.duplicate(alloc))
+            && is_same(&document, from_slice(alloc, text.as_bytes()))
+            && is_same(&document, again);
+        Ok((compact, same))
+    }
+}
+
+/// What is found of a text by a record's calls.
+pub type Found = oci_text_base::Result<(String, bool)>;
+
+/// Whether what was made is this document too.
+fn is_same<T: OciRecord>(document: &T, made: oci_text_base::Result<T>) -> bool {
+    match made {
+        Ok(other) => *document == other,
+        Err(_) => false,
+    }
+}
+
+/// The line of what is found: the compact text of the document, or the place that refuses the text.
+pub fn line_of(alloc: Global, found: &Found) -> Result<String> {
+    match found {
+        Ok((compact, true)) => Ok(format!(in alloc; "= {compact}")?),
+        Ok((compact, false)) => Ok(format!(in alloc; "another document is {compact}")?),
+        Err(fault) => refused(alloc, fault),
     }
 }
 
@@ -172,21 +195,4 @@ pub fn by_type(alloc: Global) -> Result<String> {
     normalize_pretty_as::<OciLayout, _, _>(alloc, normal.as_str().as_bytes(), &mut pretty)?;
     let (compact, pretty) = (text_of(alloc, &compact)?, text_of(alloc, &pretty)?);
     Ok(format!(in alloc; "{count} violation, {valid}, {normal}\n{compact}\n{pretty}")?)
-}
-
-/// The compact text of the document of a text.
-fn written<T: OciRecord>(alloc: Global, document: &T, text: &str) -> Result<String> {
-    let compact = to_string(document, alloc)?;
-    let copied = *document == document.duplicate(alloc)?;
-    if copied && is_of(alloc, document, text)? && is_of(alloc, document, compact.as_str())? {
-        Ok(format!(in alloc; "= {compact}")?)
-    } else {
-        Ok(format!(in alloc; "another document is {compact}")?)
-    }
-}
-
-/// Whether the bytes of a text are read as this document.
-fn is_of<T: OciRecord>(alloc: Global, document: &T, text: &str) -> Result<bool> {
-    let read: T = from_slice(alloc, text.as_bytes())?;
-    Ok(*document == read)
 }

@@ -2,29 +2,28 @@
 ghost use Rattle.oci_json_model.specs.WellFormed.{WellFormed};
 ghost use Rattle.oci_schema_types.specs.Shapes.{schema_shape};
 
-use crate::found::{Reading, by_bytes, by_schema, by_type};
+use crate::found::{Found, Reading, by_bytes, by_schema, by_type, line_of};
 use anyhow::{Context, Result};
 use oci_json_model::OciRecord;
 use oci_spec::schema::{HasSchema, Records, Schema, Workspace};
 use std::fs;
 use std::rt::Files;
 
-/// Checks the rows of a record, by its schema too, and prints each that differs, and how many there are.
+/// Checks the rows of a record, by its schema too, and prints each that differs, and how many there are. This and what it hands on a
+/// record's type is compiled once for each record, so it holds no more than the calls of the record.
 pub fn rows<T: HasSchema, R: Files + Print + AllocGlobal>(rt: &R, record: &str) {
-    if let Err(fault) = check_rows::<T, R>(rt, record) {
-        let _ = println!(rt; "{record}: {fault}");
-    }
-    if let Err(fault) = check_schema_of::<T, R>(rt, record) {
-        let _ = println!(rt; "{record}, by its schema: {fault}");
-    }
+    let (records, schema) = T::schema();
+    let by_record = check_rows::<T, R>(rt, record);
+    report(rt, record, "by the record", by_record);
+    let by_schema = check_schema(rt, record, records, schema);
+    report(rt, record, "by its schema", by_schema);
 }
 
-fn check_schema_of<T: HasSchema, R: Files + Print + AllocGlobal>(
-    rt: &R,
-    record: &str,
-) -> Result<()> {
-    let (records, schema) = T::schema();
-    check_schema(rt, record, records, schema)
+/// Prints what did not end as it should.
+fn report<R: Print>(rt: &R, record: &str, way: &str, outcome: Result<()>) {
+    if let Err(fault) = outcome {
+        let _ = println!(rt; "{record}, {way}: {fault}");
+    }
 }
 
 /// Prints what the calls by a record's type find; the rows make these calls by a record's schema.
@@ -49,6 +48,11 @@ fn check_rows<T: OciRecord, R: Files + Print + AllocGlobal>(rt: &R, record: &str
             count = count.saturating_add(1);
         }
     }
+    count_rows(rt, record, count)
+}
+
+/// Prints how many rows a record has.
+fn count_rows<R: Print>(rt: &R, record: &str, count: u64) -> Result<()> {
     println!(rt; "{record}: {count} rows")?;
     Ok(())
 }
@@ -58,12 +62,33 @@ fn check_row<T: OciRecord, R: Files + Print + AllocGlobal>(
     record: &str,
     row: &str,
 ) -> Result<()> {
-    let (text, expected) = row.rsplit_once('\n').context("a row has one line")?;
     for reading in Reading::ALL {
-        let found = reading.found::<T>(rt.alloc(), text)?;
-        if found.as_str() != expected {
-            println!(rt; "{record}: {reading:?} of {text}\nfound {found}")?;
-        }
+        let found = reading.found::<T>(rt.alloc(), text_of(row));
+        tell_reading(rt, record, reading, row, &found)?;
+    }
+    Ok(())
+}
+
+/// The text of a row, above its last line.
+fn text_of(row: &str) -> &str {
+    match row.rsplit_once('\n') {
+        Some((text, _)) => text,
+        None => "",
+    }
+}
+
+/// Prints what is found of a row's text by a way of reading, unless it is what the row expects.
+fn tell_reading<R: Print + AllocGlobal>(
+    rt: &R,
+    record: &str,
+    reading: Reading,
+    row: &str,
+    found: &Found,
+) -> Result<()> {
+    let (text, expected) = row.rsplit_once('\n').context("a row has one line")?;
+    let found = line_of(rt.alloc(), found)?;
+    if found.as_str() != expected {
+        println!(rt; "{record}: {reading:?} of {text}\nfound {found}")?;
     }
     Ok(())
 }
