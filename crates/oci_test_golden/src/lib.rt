@@ -8,10 +8,13 @@
 //!
 //! A text whose document is written as that of another one, as an empty list that is omitted, is no row. What begins with `#` is a
 //! remark and no row. A record more takes its file, a line of code below and a line of the program's `stdout`.
+//!
+//! [`tables`] has the golden tables: strings, numbers and constants.
 #![tactic(auto)]
 
 mod found;
 mod rows;
+pub mod tables;
 
 use rows::{check_type, rows};
 use std::rt::Files;

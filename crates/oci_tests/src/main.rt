@@ -40,7 +40,7 @@ static PARTS: [(&str, Part); 9] = [
 fn run(rt: &HostRuntime, part: Part) -> Result<(), HarnessOutOfMemory> {
     match part {
         Part::Golden => oci_test_golden::run(rt),
-        Part::Tables => oci_test_tables::run(rt),
+        Part::Tables => oci_test_golden::tables::run(rt),
         Part::Defaults => oci_test_defaults::run(rt),
         Part::Rules => oci_test_rules::run(rt),
         Part::Vectors => return oci_test_vectors::run_vectors(rt),

@@ -1,6 +1,6 @@
 //! Enums that have other texts too.
 
-use crate::closed::{FromText, made};
+use crate::tables::closed::{FromText, made};
 use anyhow::Result;
 use oci_spec::image::{DigestAlgorithm, MediaType, ToDockerV2S2};
 use oci_test_harness::rows::{ask, count, read, text_of};

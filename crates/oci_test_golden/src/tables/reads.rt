@@ -1,6 +1,6 @@
 //! The calls that read each enum from a text, and those that give a variant's number.
 
-use crate::closed::{FromText, Numbered};
+use crate::tables::closed::{FromText, Numbered};
 use oci_spec::distribution::ErrorCode;
 use oci_spec::image::{Arch, DigestAlgorithm, MediaType, Os};
 use oci_spec::runtime::{

@@ -1,9 +1,9 @@
 //! The enums, a line or two each.
 
-use crate::closed::{
+use crate::tables::closed::{
     Numbered, ask_number, closed, displayed, json, made, numbers, spelled, written,
 };
-use crate::extensible::{docker, lengths, texts};
+use crate::tables::extensible::{docker, lengths, texts};
 use anyhow::Result;
 use oci_json_model::ClosedName;
 use oci_process_names::capability;

@@ -5,8 +5,6 @@
 //! `header` and `kernel` from it. It prints how many rows of each kind it compared, and each row that is another one here. The tool
 //! writes these lines of the program's `stdout` too: the differences in them are those that `tables/differences` lists, each with its
 //! reason.
-#![tactic(auto)]
-
 mod closed;
 mod extensible;
 mod names;
