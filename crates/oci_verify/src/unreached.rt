@@ -9,19 +9,38 @@ pub fn unreached(
     listed: &Vec<Listed>,
     walk: &Walk,
 ) -> Result<Vec<Finding>, AllocError> {
-    let mut reached = BTreeSet::new(alloc);
-    for claim in &walk.claims {
-        drop(reached.insert(blob_path(alloc, &claim.digest)?)?);
-    }
+    let reached = reached_by(alloc, walk)?;
     let mut found = Vec::new(alloc);
     for one in listed {
         let path = one.path.as_str();
         if one.cut {
             let text = "cannot be listed to its end";
-            found.push(Finding::at(alloc, "unlisted", false, path, text)?)?;
+            add(alloc, "unlisted", false, path, text, &mut found)?;
         } else if !reached.contains(path) {
-            found.push(Finding::at(alloc, "not-reached", true, path, "not reached")?)?;
+            add(alloc, "not-reached", true, path, "not reached", &mut found)?;
         }
     }
     Ok(found)
+}
+
+/// The paths of the contents that a walk reached.
+fn reached_by(alloc: Global, walk: &Walk) -> Result<BTreeSet<String>, AllocError> {
+    let mut reached = BTreeSet::new(alloc);
+    for claim in &walk.claims {
+        drop(reached.insert(blob_path(alloc, &claim.digest)?)?);
+    }
+    Ok(reached)
+}
+
+/// Adds a finding or a note at a path.
+fn add(
+    alloc: Global,
+    kind: &'static str,
+    is_note: bool,
+    path: &str,
+    text: &str,
+    found: &mut Vec<Finding>,
+) -> Result<(), AllocError> {
+    found.push(Finding::at(alloc, kind, is_note, path, text)?)?;
+    Ok(())
 }
