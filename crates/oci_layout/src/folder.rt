@@ -77,20 +77,28 @@ fn list_folders<R: Files + AllocGlobal + Clone + Drop>(
 ) -> Result<(), AllocError> {
     let blobs = format!(in alloc; "{root}/blobs")?;
     let Ok(folders) = fs::read_dir(rt, blobs.as_str()) else {
-        listed.push(cut_at(alloc, "blobs")?)?;
-        return Ok(());
+        return add_cut(alloc, "blobs", listed);
     };
     for folder in folders {
         match folder {
-            Ok(folder) => {
-                let name = folder.file_name();
-                let path = format!(in alloc; "blobs/{name}")?;
-                list_folder(rt, alloc, root, path.as_str(), listed)?;
-            }
-            Err(_) => listed.push(cut_at(alloc, "blobs")?)?,
+            Ok(folder) => list_entry(rt, alloc, root, &folder, listed)?,
+            Err(_) => add_cut(alloc, "blobs", listed)?,
         }
     }
     Ok(())
+}
+
+/// Adds what lies in a folder of `blobs`.
+fn list_entry<R: Files + AllocGlobal + Clone + Drop>(
+    rt: &R,
+    alloc: Global,
+    root: &str,
+    folder: &fs::DirEntry<R, Global>,
+    listed: &mut Vec<Listed>,
+) -> Result<(), AllocError> {
+    let name = folder.file_name();
+    let path = format!(in alloc; "blobs/{name}")?;
+    list_folder(rt, alloc, root, path.as_str(), listed)
 }
 
 /// Adds what lies in one folder.
@@ -103,29 +111,42 @@ fn list_folder<R: Files + AllocGlobal + Clone + Drop>(
 ) -> Result<(), AllocError> {
     let whole = format!(in alloc; "{root}/{folder}")?;
     let Ok(files) = fs::read_dir(rt, whole.as_str()) else {
-        listed.push(cut_at(alloc, folder)?)?;
-        return Ok(());
+        return add_cut(alloc, folder, listed);
     };
     for file in files {
         match file {
-            Ok(file) => {
-                let name = file.file_name();
-                listed.push(Listed {
-                    path: format!(in alloc; "{folder}/{name}")?,
-                    size: fs::metadata(rt, file.path()).ok().map(|about| about.len()),
-                    cut: false,
-                })?;
-            }
-            Err(_) => listed.push(cut_at(alloc, folder)?)?,
+            Ok(file) => add_file(rt, alloc, folder, &file, listed)?,
+            Err(_) => add_cut(alloc, folder, listed)?,
         }
     }
     Ok(())
 }
 
-fn cut_at(alloc: Global, folder: &str) -> Result<Listed, AllocError> {
-    Ok(Listed {
+/// Adds a file of a folder.
+fn add_file<R: Files + AllocGlobal + Clone + Drop>(
+    rt: &R,
+    alloc: Global,
+    folder: &str,
+    file: &fs::DirEntry<R, Global>,
+    listed: &mut Vec<Listed>,
+) -> Result<(), AllocError> {
+    let name = file.file_name();
+    let path = format!(in alloc; "{folder}/{name}")?;
+    let size = fs::metadata(rt, file.path()).ok().map(|about| about.len());
+    listed.push(Listed {
+        path,
+        size,
+        cut: false,
+    })?;
+    Ok(())
+}
+
+/// Adds a folder that was not read to its end.
+fn add_cut(alloc: Global, folder: &str, listed: &mut Vec<Listed>) -> Result<(), AllocError> {
+    listed.push(Listed {
         path: String::from_str(alloc, folder)?,
         size: None,
         cut: true,
-    })
+    })?;
+    Ok(())
 }
