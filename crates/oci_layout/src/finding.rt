@@ -3,6 +3,7 @@ use crate::claim::{Claim, Fault, Role};
 use crate::path::blob_path;
 use crate::walk::{Detail, Walk};
 use oci_content::{Embedded, Verdict};
+use oci_schema_walks::Violation;
 use std::alloc::{AllocError, Global};
 
 /// Something that stands against a layout, or a note on it.
@@ -162,29 +163,57 @@ pub fn add_details(
     found: &mut Vec<Finding>,
 ) -> Result<(), AllocError> {
     for violation in &detail.violations {
-        let pointer = violation.pointer.as_str();
-        let expected = violation.expected;
-        found.push(Finding {
-            kind: "document",
-            is_note: false,
-            place: format!(in alloc; "{path}#{pointer}")?,
-            text: format!(in alloc; "{expected}")?,
-            claimed_by: claimed_by.clone()?,
-        })?;
+        found.push(of_violation(alloc, violation, path, claimed_by)?)?;
     }
     for held in &detail.held {
         if let Some(text) = held_text(held.embedded) {
             let pointer = pointer_of(alloc, held.role, held.at)?;
-            found.push(Finding {
-                kind: "embedded",
-                is_note: false,
-                place: format!(in alloc; "{path}#{pointer}/data")?,
-                text: String::from_str(alloc, text)?,
-                claimed_by: claimed_by.clone()?,
-            })?;
+            found.push(of_content(alloc, text, path, pointer.as_str(), claimed_by)?)?;
         }
     }
     Ok(())
+}
+
+/// A violation of a document's schema.
+fn of_violation(
+    alloc: Global,
+    violation: &Violation,
+    path: &str,
+    claimed_by: &Vec<String>,
+) -> Result<Finding, AllocError> {
+    let (pointer, expected) = (violation.pointer.as_str(), violation.expected);
+    let place = format!(in alloc; "{path}#{pointer}")?;
+    let text = format!(in alloc; "{expected}")?;
+    claimed("document", place, text, claimed_by)
+}
+
+/// What stands against a content that the descriptor at this pointer holds itself.
+fn of_content(
+    alloc: Global,
+    text: &str,
+    path: &str,
+    pointer: &str,
+    claimed_by: &Vec<String>,
+) -> Result<Finding, AllocError> {
+    let place = format!(in alloc; "{path}#{pointer}/data")?;
+    let text = String::from_str(alloc, text)?;
+    claimed("embedded", place, text, claimed_by)
+}
+
+/// What stands against a part of a document that is claimed by this path.
+fn claimed(
+    kind: &'static str,
+    place: String,
+    text: String,
+    claimed_by: &Vec<String>,
+) -> Result<Finding, AllocError> {
+    Ok(Finding {
+        kind,
+        is_note: false,
+        place,
+        text,
+        claimed_by: claimed_by.clone()?,
+    })
 }
 
 /// The text for a content that a descriptor holds itself, if something stands against it.
@@ -223,11 +252,7 @@ fn claims_to(alloc: Global, walk: &Walk, place: usize) -> Result<Vec<String>, Al
         let pointer = pointer_of(alloc, claim.role, mention.at)?;
         match mention.by {
             Some(by) => {
-                let document = match walk.claims.get(by) {
-                    Some(document) => blob_path(alloc, &document.digest)?,
-                    None => String::new(alloc),
-                };
-                path.push(format!(in alloc; "{document}#{pointer}")?)?;
+                path.push(place_in(alloc, walk, by, pointer.as_str())?)?;
                 at = by;
             }
             None => {
@@ -240,4 +265,13 @@ fn claims_to(alloc: Global, walk: &Walk, place: usize) -> Result<Vec<String>, Al
     path.push(String::from_str(alloc, "..")?)?;
     path.reverse();
     Ok(path)
+}
+
+/// The place of a pointer in the document of a claim.
+fn place_in(alloc: Global, walk: &Walk, at: usize, pointer: &str) -> Result<String, AllocError> {
+    let document = match walk.claims.get(at) {
+        Some(document) => blob_path(alloc, &document.digest)?,
+        None => String::new(alloc),
+    };
+    format!(in alloc; "{document}#{pointer}")
 }
