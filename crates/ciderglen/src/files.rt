@@ -55,11 +55,7 @@ impl Store for FileStore<'_> {
             }
         }
         let beside = beside(name, alloc)?;
-        let written = write_new(self.rt, beside.as_str(), bytes).and_then(|()| fs::rename(
-            self.rt,
-            beside.as_str(),
-            name,
-        ));
+        let written = write_by(self.rt, beside.as_str(), name, bytes);
         if written.is_err() {
             let _ = fs::remove_file(self.rt, beside.as_str());
         }
@@ -73,6 +69,12 @@ fn beside(name: &str, alloc: Global) -> io::Result<String> {
         Ok(beside) => Ok(beside),
         Err(error) => Err(io::Error::from(error)),
     }
+}
+
+/// Writes a file by renaming a new one.
+fn write_by(rt: &HostRuntime, beside: &str, name: &str, bytes: &[u8]) -> io::Result<()> {
+    write_new(rt, beside, bytes)?;
+    fs::rename(rt, beside, name)
 }
 
 /// Writes a new file, down to the disk. Fails if it is there already.

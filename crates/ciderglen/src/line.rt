@@ -16,7 +16,9 @@ use std::{env, io};
 pub fn words_of<R: env::Env + AllocGlobal>(rt: &R) -> io::Result<Vec<String>> {
     let mut words = Vec::new(rt.alloc());
     for word in env::args(rt)? {
-        words.push(word).map_err(AllocError::from)?;
+        if words.push(word).is_err() {
+            return Err(io::Error::from(AllocError));
+        }
     }
     Ok(words)
 }
@@ -204,8 +206,10 @@ fn style_in(given: &ArgMatches<'_>) -> Style {
 }
 
 fn algorithm_in(given: &ArgMatches<'_>) -> Algorithm {
-    let named = given.get_str("algorithm").and_then(Algorithm::from_name);
-    named.unwrap_or(Algorithm::Sha256)
+    match given.get_str("algorithm") {
+        Some(name) => Algorithm::from_name(name).unwrap_or(Algorithm::Sha256),
+        None => Algorithm::Sha256,
+    }
 }
 
 /// The texts or files under a name, or the name of standard input.
@@ -219,13 +223,19 @@ fn texts_in<'a>(
     match given.get_strs(name) {
         Some(texts) => {
             for text in texts {
-                kept.push(arena.try_alloc_str(text)?)?;
+                keep(text, arena, &mut kept)?;
             }
         }
-        None => kept.push(arena.try_alloc_str("-")?)?,
+        None => keep("-", arena, &mut kept)?,
     }
     let kept = arena.try_alloc_slice_copy(kept.as_slice())?;
     Ok(kept)
+}
+
+/// Adds a text that is kept in the arena.
+fn keep<'a>(text: &str, arena: &'a Bump, kept: &mut Vec<&'a str>) -> Result<(), AllocError> {
+    kept.push(arena.try_alloc_str(text)?)?;
+    Ok(())
 }
 
 /// The text or file under a name, if there is one.

@@ -24,27 +24,30 @@ use std::process::ExitCode;
 use watch::Started;
 
 fn main(rt: HostRuntime) -> ExitCode {
-    let alloc = rt.alloc();
-    let arena = Bump::new(alloc);
-    let words = match words_of(&rt) {
-        Ok(words) => words,
+    match words_of(&rt) {
+        Ok(words) => ExitCode::from(run_words(&rt, words.as_slice())),
         Err(fault) => {
             tell(&rt, "cannot read the arguments", &fault);
-            return ExitCode::from(2);
+            ExitCode::from(2)
         }
-    };
-    let matches = match matches_of(alloc, words.as_slice()) {
-        Ok(matches) => matches,
+    }
+}
+
+/// Runs what the words of the command line ask for, and returns the exit status.
+fn run_words(rt: &HostRuntime, words: &[String]) -> u8 {
+    match matches_of(rt.alloc(), words) {
+        Ok(matches) => {
+            let arena = Bump::new(rt.alloc());
+            perform(rt, &arena, &matches)
+        }
         Err(error) => {
-            let printed = error.print(&rt);
-            return ExitCode::from(if printed.is_ok() {
+            if error.print(rt).is_ok() {
                 status_of(&error)
             } else {
                 3
-            });
+            }
         }
-    };
-    ExitCode::from(perform(&rt, &arena, &matches))
+    }
 }
 
 /// Runs the command that the matches ask for, and returns the exit status.
@@ -104,14 +107,23 @@ fn policy_of<'a>(
     let Some(file) = file else {
         return Ok(&[]);
     };
-    let text = match fs::read_to_string(rt, file) {
-        Ok(text) => text,
+    match fs::read_to_string(rt, file) {
+        Ok(text) => policy_in(rt, file, text.as_str(), arena),
         Err(fault) => {
             tell(rt, file, &fault);
-            return Err(3);
+            Err(3)
         }
-    };
-    match Policy::from_toml(text.as_str(), arena, rt.alloc()) {
+    }
+}
+
+/// The rules of the policy in the text of a file.
+fn policy_in<'a>(
+    rt: &HostRuntime,
+    file: &str,
+    text: &str,
+    arena: &'a Bump,
+) -> Result<&'a [Rule<'a>], u8> {
+    match Policy::from_toml(text, arena, rt.alloc()) {
         Ok(policy) => Ok(policy.rules()),
         Err(PolicyError::Memory) => Err(out_of_memory(rt)),
         Err(error) => {
