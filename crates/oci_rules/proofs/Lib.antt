@@ -6,6 +6,7 @@ pub mod Extents
 pub mod Found
 pub mod Grammars
 pub mod Others
+pub mod PartsTold
 pub mod Sets
 pub mod Steps
 pub mod Telling

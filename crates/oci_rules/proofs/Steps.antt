@@ -21,7 +21,7 @@ drop_at (r ∷ rs) (suc i) x below =
     drop_at rs i x (omega arith) ∙ ap (λ k. slice_index_or rs i x ∷ drop k (r ∷ rs)) (sym e)
 
 -- the rest of a list, cut after its first element
-cut_at : {A : Type 0} (rs : List A) (i : ℕ) (x : A) → i < length rs → x ≡ slice_index_or rs i x → drop i rs ≡ x ∷ drop (i + 1) rs
+pub cut_at : {A : Type 0} (rs : List A) (i : ℕ) (x : A) → i < length rs → x ≡ slice_index_or rs i x → drop i rs ≡ x ∷ drop (i + 1) rs
 cut_at rs i x below is = drop_at rs i x below ∙ ap (λ z. z ∷ drop (i + 1) rs) (sym is)
 
 -- what one part adds, put before what is left
