@@ -24,7 +24,7 @@ pub fn rules_of_kind<B: RuleBooks>(
     Ok(text)
 }
 
-/// Adds the rules of a book whose names were not told before.
+/// Adds the rules of a book whose names are new.
 fn push_new_rules<'a>(
     text: &mut String,
     told: &mut Vec<&'a str>,

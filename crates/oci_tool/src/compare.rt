@@ -165,7 +165,7 @@ fn push_line(
     }
 }
 
-/// Adds the line of a value that stands on one side alone.
+/// Adds the line of a value that is on one side alone.
 fn push_one_line(
     lines: &mut Vec<u8>,
     mark: &str,
@@ -211,7 +211,7 @@ fn push_object(
     }
 }
 
-/// Adds the object of a value that stands on one side alone.
+/// Adds the object of a value that is on one side alone.
 fn push_one_object(
     lines: &mut Vec<u8>,
     change: &str,
