@@ -9,6 +9,7 @@ pub mod Given
 pub mod GivenSmaller
 pub mod Listed
 pub mod Listing
+pub mod ListedParts
 pub mod Moved
 pub mod NormalForms
 pub mod NormalMembers
@@ -18,5 +19,6 @@ pub mod Pointers
 pub mod Replacing
 pub mod Sizes
 pub mod Sound
+pub mod Steps
 pub mod Texts
 pub mod Ways

@@ -100,6 +100,12 @@ module _ (f : ℕ → Shape) (rs : Rows) (d : Data) (all : List Member) (i : ℕ
   moved_more later more e m rest =
       row_more rs d x.name.now (alias_of x.alias) (presence_of x.presence) (schema_shape f x.schema) (members_in f (drop (i + 1) all)) now made here later more e m rest
 
+  -- a member that is rejected
+  pub moved_refused : known_accepted f (slice_index_or all i w) (object now) ≡ false → rows_accept rs d ≡ false
+  moved_refused e =
+      here.accepted ∙ ap (λ b. b && rows_accept (members_in f (drop (i + 1) all)) d)
+      (either_same rs d x.name.now (alias_of x.alias) (presence_of x.presence) (schema_shape f x.schema) (members_in f (drop (i + 1) all)) now made here false e)
+
 pub past : {A : Type 0} (xs : List A) (i : ℕ) → length xs ≤ i → drop i xs ≡ []
 past [] zero l = refl
 past [] (suc i) l = refl

@@ -1,4 +1,5 @@
 use Rattle.std.proofs.Common.{◌≡◌, true, ◌∷◌, [], ◌++◌, ◌&&◌, option_map, string_cmp, sym, ap, ◌∙◌, subst, append_assoc, arith}
+use Rattle.std.proofs.lemmas.List.{append-nil}
 use Rattle.std.specs.List.Sorted.{IsStrictlySortedBy}
 use Rattle.std.specs.Map.{keys_of}
 use Rattle.std.specs.Vec.Iter.{into_iter_items}
@@ -7,14 +8,15 @@ use Rattle.serde_json.specs.View.{view, items_view, members_view}
 use Rattle.serde_json.proofs.Views.{Entry, view-Array, view-Object}
 use Rattle.oci_json_model.proofs.Lists.{exits}
 use Rattle.oci_schema_walks.specs.Allows.{each_allowed, each_member_allowed}
-use Rattle.oci_schema_walks.specs.Normalized.{accepts, normalized, each_normalized}
+use Rattle.oci_schema_walks.specs.Normalized.{accepts, normalized, each_normalized, each_member_normalized}
 use Rattle.oci_schema_types.specs.Shapes.{presence_of, part_shape, schema_shape, members_in}
 use Rattle.oci_schema_walks.proofs.Accepted.{of_member}
 use Rattle.oci_schema_walks.proofs.Given.{one_allowed, ends}
 use Rattle.oci_schema_walks.proofs.Parts.{none_left, items_more, items_all, members_more}
 use Rattle.oci_json_model.specs.Sizes.{items_size, members_size}
-use Rattle.oci_schema_walks.proofs.Moved.{moved_more, moved_all}
+use Rattle.oci_schema_walks.proofs.Moved.{moved_more, moved_refused, moved_all}
 use Rattle.oci_schema_walks.proofs.GivenSmaller.{given_smaller}
+use Rattle.oci_schema_walks.proofs.Steps.{well_left}
 use Rattle.oci_schema_walks.proofs.normal_value.+normalizes.Goals as goal
 
 pub normal_member-normal_value-requires : goal.normal_member-normal_value-requires
@@ -92,3 +94,33 @@ normal_members-returns-clause-ok g t c =
     let f = g.T.Records.shape_at c.args.records.now in
     let all = moved_all f (members_in f c.args.members.now) (object (members_view c.args.found.entries)) c.args.members.now c.loop-member.member-index _ _ c.loop-member-test.false c.loop-member.invariant.moved in
     (all.0, view-Object c.loop-member.made ∙ ap object all.1)
+
+pub normal_items-returns-in_err-normal_value-clause-err : goal.normal_items-returns-in_err-normal_value-clause-err
+normal_items-returns-in_err-normal_value-clause-err g t c =
+    let s = part_shape (g.T.Records.shape_at c.args.records.now) c.args.part.now in
+    let left = items_view (into_iter_items c.next.new.self) in
+    let is : into_iter_items c.into_iter-item-iterator.result ≡ c.args.items.items = c.into_iter-item-iterator.ensures.into_iter_gives.0 in
+    exits _ _ _ c.from_residual-in_err-normal_value.ensures.1 (λ h. ap (λ vs. each_allowed (accepts s) (items_view vs)) (sym is) ∙ c.loop-item.invariant.accepted
+    ∙ ap (λ vs. each_allowed (accepts s) (items_view vs)) c.in-Some.ensures.steps.0 ∙ ap (λ b. b && each_allowed (accepts s) left) (c.in_err-normal_value.ensures.err h))
+
+pub normal_map-returns-clause-ok : goal.normal_map-returns-clause-ok
+normal_map-returns-clause-ok g t c =
+    let i = c.loop-name.invariant in
+    let s = part_shape (g.T.Records.shape_at c.args.records.now) c.args.part.now in
+    let given = sym c.into_iter-name-iterator.ensures.into_iter_gives.0 in
+    let none : c.loop-name.name-iterator ≡ [] = c.in-None.ensures.steps.0 in
+    let all : c.args.members.entries ≡ i.0 = given ∙ i.1 ∙ ap (λ es. i.0 ++ es) none ∙ append-nil i.0 in (
+      ap (λ es. each_member_allowed (accepts s) (members_view es)) given ∙ i.2 ∙ ap (λ es. each_member_allowed (accepts s) (members_view es)) none,
+      view-Object c.loop-name.made ∙ ap object (i.3 ∙ ap (λ es. each_member_normalized (normalized s) (members_view es)) (sym all)),
+    )
+
+pub normal_members-move_member-requires : goal.normal_members-move_member-requires
+normal_members-move_member-requires g t c κs within = (
+  omega (arith, c.loop-member.invariant.smaller),
+  (within, (well_left (g.T.Records.shape_at c.args.records.now) c.args.members.now c.loop-member.member-index _ c.loop-member-test.true c.loop-member.invariant.moved.well).0),
+)
+
+pub normal_members-returns-in_err-move_member-clause-err : goal.normal_members-returns-in_err-move_member-clause-err
+normal_members-returns-in_err-move_member-clause-err g t c =
+    exits _ _ _ c.from_residual.ensures.1 (λ h. moved_refused (g.T.Records.shape_at c.args.records.now) _ _ c.args.members.now c.loop-member.member-index _ _ _
+    c.loop-member-test.true c.loop-member.invariant.moved (c.in_err-move_member.ensures.err h))
