@@ -22,10 +22,11 @@ enum Part {
     Calls,
     StringVectors,
     StringCalls,
+    Documents,
     Lanes,
 }
 
-static PARTS: [(&str, Part); 9] = [
+static PARTS: [(&str, Part); 10] = [
     ("golden", Part::Golden),
     ("tables", Part::Tables),
     ("defaults", Part::Defaults),
@@ -34,6 +35,7 @@ static PARTS: [(&str, Part); 9] = [
     ("calls", Part::Calls),
     ("string-vectors", Part::StringVectors),
     ("string-calls", Part::StringCalls),
+    ("documents", Part::Documents),
     ("lanes", Part::Lanes),
 ];
 
@@ -47,6 +49,7 @@ fn run(rt: &HostRuntime, part: Part) -> Result<(), HarnessOutOfMemory> {
         Part::Calls => return oci_test_vectors::run_calls(rt),
         Part::StringVectors => return oci_test_memory::run_vectors(rt),
         Part::StringCalls => return oci_test_memory::run_calls(rt),
+        Part::Documents => return oci_test_documents::run(rt),
         Part::Lanes => {
             let _ = oci_bench::run_lanes(rt, "lanes/documents");
         }

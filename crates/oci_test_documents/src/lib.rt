@@ -1,6 +1,5 @@
-//! The program `oci_test_documents`: tests of texts, references and documents of all three specifications that are made in code, and of
-//! the engines that read and write them: of what no contract says. It prints how many cases of each group it ran, and each case that
-//! broke its rule.
+//! Tests of texts, references and documents of all three specifications that are made in code, and of the engines that read and write
+//! them: of what no contract says. They print how many cases of each group they ran, and each case that broke its rule.
 #![tactic(auto)]
 
 mod checks;
@@ -16,11 +15,10 @@ mod references;
 mod runtime;
 mod scanner;
 
-use oci_test_harness::{Harness, HarnessOutOfMemory, exit};
-use std::process::ExitCode;
+use oci_test_harness::{Harness, HarnessOutOfMemory};
 
 /// All groups.
-fn run(rt: &HostRuntime) -> Result<(), HarnessOutOfMemory> {
+pub fn run(rt: &HostRuntime) -> Result<(), HarnessOutOfMemory> {
     let mut harness = Harness::new(rt)?;
     errors::all(&mut harness);
     distribution::all(&mut harness);
@@ -35,8 +33,4 @@ fn run(rt: &HostRuntime) -> Result<(), HarnessOutOfMemory> {
     runtime::all(&mut harness);
     harness.end_calls();
     Ok(())
-}
-
-fn main(rt: HostRuntime) -> ExitCode {
-    exit(&rt, run(&rt))
 }
