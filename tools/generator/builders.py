@@ -185,7 +185,7 @@ def plain_imports(r, text):
     if "plain." in text:
         out += "    ghost use Rattle.oci_json_model.specs.Plain as plain;\n"
     out += imported("oci_json_model.specs.Plain", used(["filled"], text), True)
-    out += imported("oci_process_names.specs.CapabilitySets", used(["set_plain"], text), True)
+    out += imported("oci_runtime_names.specs.CapabilitySets", used(["set_plain"], text), True)
     for path, words in r.book.words.items():
         out += imported(path, used(words, text), True)
     out += imported("oci_json_model.specs.Types", [t for t in used(PLAIN_TERMS, text) if t != "given"], True)

@@ -56,7 +56,7 @@ def law_imports(r, same, well):
     if any(m.type.kind == "Keys" for m in r.members):
         out += imported("oci_json_members.specs.Keys", ["same_keys"], True)
     if any(m.type.kind == "Caps" for m in r.members):
-        out += imported("oci_process_names.specs.CapabilitySets", ["same_sets"], True)
+        out += imported("oci_runtime_names.specs.CapabilitySets", ["same_sets"], True)
     for name in r.enums():
         out += imported(f"{r.book.names[name]}.specs.{name}", [f"{snake(name)}_same"], True)
     out += lemma_imports(r, well) + imported("oci_json_model.specs.Same", same_terms(same), True)

@@ -14,7 +14,7 @@ MODEL_CALLS = ["copy_optional", "optional", "optional_either", "required", "writ
                "required_owned", "optional_either_owned"]
 TAKES = ["taken"] + [f"taken_{n}" for n in range(5, 11)]
 # kinds of members that are in another crate than `oci_json_members`
-KIND_CRATES = {"Caps": "oci_process_names", "CpuTexts": "oci_process_names", "Detail": "oci_json_trees", "FreeValues": "oci_json_trees"}
+KIND_CRATES = {"Caps": "oci_runtime_names", "CpuTexts": "oci_runtime_names", "Detail": "oci_json_trees", "FreeValues": "oci_json_trees"}
 
 
 def model_calls(body):
@@ -30,7 +30,7 @@ def imports(r, body, schema):
     crates["oci_json_readers"] = used(READER_CALLS + READERS, body)
     crates["oci_json_trees"] = called_in(["equal_optional_values"], body)
     crates["oci_text"] = used(["Digest"], body) + used(["Arch", "ErrorCode", "MediaType", "Os"], held)
-    crates["oci_process_names"] = used(["Capability"], held)
+    crates["oci_runtime_names"] = used(["Capability"], held)
     for kind in used(sorted({m.type.kind for m in r.members if m.type.kind}), body):
         crates.setdefault(KIND_CRATES.get(kind, "oci_json_members"), []).append(kind)
     local = []

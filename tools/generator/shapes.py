@@ -48,7 +48,7 @@ def shape_spec(r):
     out = f"-- {r.about}\n" + imported("std.specs.Prelude", prelude) + name_imports(r, terms)
     shapes = ["Shape", "rows", "no_rows"] + used(SHAPE_WORDS, re.sub(r'codes "[^"]*"', "", rows))
     out += imported("oci_json_model.specs.Shape", shapes) + imported("oci_json_model.specs.Types", used(list(NUMBERS), rows))
-    out += imported("oci_process_names.specs.Capability", ["capability_table"] * any(m.type.kind == "Caps" for m in r.members))
+    out += imported("oci_runtime_names.specs.Capability", ["capability_table"] * any(m.type.kind == "Caps" for m in r.members))
     for name, _ in r.parts():
         out += imported(f"{SHAPES}.specs.{name}", [snake(name)] + used([f"default_{snake(name)}"], rows))
     return out + f"""

@@ -98,7 +98,7 @@ def kind_imports(r, plain, lends, equal):
     out = imported("oci_json_model.specs.Types", list(dict.fromkeys(used(PLAIN_TERMS, plain))))
     kinds = {m.type.kind for m in r.members}
     out += imported("oci_json_members.specs.Keys", ["keys_plain"] * ("Keys" in kinds))
-    out += imported("oci_process_names.specs.CapabilitySets", ["set_plain"] * ("Caps" in kinds))
+    out += imported("oci_runtime_names.specs.CapabilitySets", ["set_plain"] * ("Caps" in kinds))
     if equal:
         out += imported("oci_json_model.specs.Same", ["Agrees"] + same_terms(equal))
         out += imported("oci_json_trees.specs.FreeValues", ["free_values_plain", "free_eq"]) + imported("oci_json_trees.specs.SameFree", ["same_free"])

@@ -5,7 +5,7 @@ ghost use Rattle.std.specs.Prelude.{◌≡◌, IfOk, IfErr};
 use oci_json_members::write_nullable;
 use oci_json_model::{ObjectWriter, OciRecord, copy_optional, write_optional, write_required};
 use oci_json_readers::{Defaulted, Nullable, Optional, read5};
-use oci_linux_names::LinuxDeviceType;
+use oci_runtime_names::LinuxDeviceType;
 use oci_text_base::{OciSpecError, Result};
 use serde_json::Value;
 use std::alloc::Global;
@@ -183,7 +183,7 @@ impl LinuxDeviceCgroup {
 }
 
 impl OciRecord for LinuxDeviceCgroup {
-    ghost use Rattle.oci_linux_names.specs.LinuxDeviceType.{linux_device_type_same};
+    ghost use Rattle.oci_runtime_names.specs.LinuxDeviceType.{linux_device_type_same};
     ghost use Rattle.oci_json_members.specs.DefaultMembers.{default_truth};
     ghost use Rattle.oci_json_model.specs.Same.{same_document, same_more, same_last, same_given, same_perhaps, same_texts, same_integers, same_truths, same_variants};
     ghost use Rattle.oci_shapes.specs.LinuxDeviceCgroup.{linux_device_cgroup};

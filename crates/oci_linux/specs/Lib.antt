@@ -7,11 +7,11 @@ pub use Rattle.oci_cgroups.specs.LinuxResources
 pub use Rattle.oci_json_model.specs.Built
 pub use Rattle.oci_json_model.specs.Plain
 pub use Rattle.oci_json_model.specs.Types
-pub use Rattle.oci_linux_names.specs.LinuxDeviceType
-pub use Rattle.oci_linux_names.specs.LinuxNamespaceType
-pub use Rattle.oci_linux_names.specs.LinuxPersonalityDomain
-pub use Rattle.oci_linux_names.specs.LinuxSeccompAction
-pub use Rattle.oci_linux_names.specs.LinuxSeccompOperator
+pub use Rattle.oci_runtime_names.specs.LinuxDeviceType
+pub use Rattle.oci_runtime_names.specs.LinuxNamespaceType
+pub use Rattle.oci_runtime_names.specs.LinuxPersonalityDomain
+pub use Rattle.oci_runtime_names.specs.LinuxSeccompAction
+pub use Rattle.oci_runtime_names.specs.LinuxSeccompOperator
 pub use Rattle.oci_linux_namespaces.specs.LinuxDevice
 pub use Rattle.oci_linux_namespaces.specs.LinuxIdMapping
 pub use Rattle.oci_linux_namespaces.specs.LinuxNamespace

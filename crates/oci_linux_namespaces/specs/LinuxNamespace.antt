@@ -3,7 +3,7 @@
 use Rattle.std.specs.Prelude.{[], ◌∷◌}
 use Rattle.oci_json_model.specs.Plain as plain
 use Rattle.oci_json_model.specs.Plain.{Plain, document, slots, empty, filled}
-use Rattle.oci_linux_names.specs.LinuxNamespaceType.{linux_namespace_type_name, linux_namespace_type_default}
+use Rattle.oci_runtime_names.specs.LinuxNamespaceType.{linux_namespace_type_name, linux_namespace_type_default}
 use Rattle.oci_json_model.specs.Types.{given, perhaps, text_plain, variant_plain}
 use Rattle.oci_linux_namespaces.specs.declared.linux_namespace.LinuxNamespace.{LinuxNamespace}
 

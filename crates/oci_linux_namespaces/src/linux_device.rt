@@ -6,7 +6,7 @@ use oci_json_model::{
     ObjectWriter, OciMember, OciRecord, try_join2, write_optional, write_required,
 };
 use oci_json_readers::{Defaulted, Optional, Required, read3, read4};
-use oci_linux_names::LinuxDeviceType;
+use oci_runtime_names::LinuxDeviceType;
 use oci_text_base::{OciSpecError, Result};
 use serde_json::Value;
 use std::alloc::Global;
@@ -238,7 +238,7 @@ impl LinuxDevice {
 }
 
 impl OciRecord for LinuxDevice {
-    ghost use Rattle.oci_linux_names.specs.LinuxDeviceType.{linux_device_type_same};
+    ghost use Rattle.oci_runtime_names.specs.LinuxDeviceType.{linux_device_type_same};
     ghost use Rattle.oci_json_members.specs.DefaultMembers.{default_number, default_text};
     ghost use Rattle.oci_json_model.specs.Same.{same_document, same_more, same_last, same_given, same_perhaps, same_texts, same_numbers, same_integers, same_variants};
     ghost use Rattle.oci_shapes.specs.LinuxDevice.{linux_device};
@@ -320,7 +320,7 @@ impl LinuxDeviceBuilder {
     ghost use Rattle.std.specs.Prelude.{Some, unwrap_or, option_map, pos, []};
     ghost use Rattle.oci_json_model.specs.Plain as plain;
     ghost use Rattle.oci_json_model.specs.Types.{text_plain, integer_plain, variant_plain};
-    ghost use Rattle.oci_linux_names.specs.LinuxDeviceType.{linux_device_type_name, linux_device_type_default};
+    ghost use Rattle.oci_runtime_names.specs.LinuxDeviceType.{linux_device_type_name, linux_device_type_default};
 
     /// Sets `path`: the full path of the file in the container. REQUIRED; the empty string is read where it is absent, and the form is not
     /// checked here.

@@ -4,7 +4,7 @@ ghost use Rattle.std.specs.Prelude.{◌≡◌, IfOk, IfErr};
 
 use oci_json_model::{ObjectWriter, OciRecord, copy_optional, write_optional, write_required};
 use oci_json_readers::{Optional, Required, read2};
-use oci_linux_names::LinuxNamespaceType;
+use oci_runtime_names::LinuxNamespaceType;
 use oci_text_base::{OciSpecError, Result};
 use serde_json::Value;
 use std::alloc::Global;
@@ -81,7 +81,7 @@ impl LinuxNamespace {
 }
 
 impl OciRecord for LinuxNamespace {
-    ghost use Rattle.oci_linux_names.specs.LinuxNamespaceType.{linux_namespace_type_same};
+    ghost use Rattle.oci_runtime_names.specs.LinuxNamespaceType.{linux_namespace_type_same};
     ghost use Rattle.oci_json_model.specs.Same.{same_document, same_more, same_last, same_given, same_perhaps, same_texts, same_variants};
     ghost use Rattle.oci_shapes.specs.LinuxNamespace.{linux_namespace};
     ghost use Rattle.oci_linux_namespaces.specs.LinuxNamespace.{linux_namespace_plain};
@@ -127,7 +127,7 @@ impl LinuxNamespaceBuilder {
     ghost use Rattle.std.specs.Prelude.{Some, unwrap_or, option_map};
     ghost use Rattle.oci_json_model.specs.Plain as plain;
     ghost use Rattle.oci_json_model.specs.Types.{variant_plain};
-    ghost use Rattle.oci_linux_names.specs.LinuxNamespaceType.{linux_namespace_type_name, linux_namespace_type_default};
+    ghost use Rattle.oci_runtime_names.specs.LinuxNamespaceType.{linux_namespace_type_name, linux_namespace_type_default};
 
     /// Sets `typ`: the kind of namespace. REQUIRED.
     pub fn typ(mut self, typ: LinuxNamespaceType) -> Self

@@ -5,10 +5,10 @@ use Rattle.std.specs.Borrow.{Lends, MutBor, Fml}
 use Rattle.std.specs.declared.alloc.Global.{Global}
 use Rattle.oci_json_model.specs.Plain as plain
 use Rattle.oci_json_model.specs.Plain.{Plain, document, slots, empty, filled}
-use Rattle.oci_linux_names.specs.MemoryPolicyFlagType.{memory_policy_flag_type_name}
-use Rattle.oci_linux_names.specs.declared.memory_policy_flag_type.MemoryPolicyFlagType.{MemoryPolicyFlagType}
-use Rattle.oci_linux_names.specs.contracts.memory_policy_flag_type.MemoryPolicyFlagType as memory_policy_flag_type
-use Rattle.oci_linux_names.specs.MemoryPolicyModeType.{memory_policy_mode_type_name, memory_policy_mode_type_default}
+use Rattle.oci_runtime_names.specs.MemoryPolicyFlagType.{memory_policy_flag_type_name}
+use Rattle.oci_runtime_names.specs.declared.memory_policy_flag_type.MemoryPolicyFlagType.{MemoryPolicyFlagType}
+use Rattle.oci_runtime_names.specs.contracts.memory_policy_flag_type.MemoryPolicyFlagType as memory_policy_flag_type
+use Rattle.oci_runtime_names.specs.MemoryPolicyModeType.{memory_policy_mode_type_name, memory_policy_mode_type_default}
 use Rattle.oci_json_model.specs.Types.{given, perhaps, text_plain, variant_plain, list_plain}
 use Rattle.oci_json_model.specs.Lent.{option_row, list_row}
 use Rattle.oci_linux_seccomp.specs.declared.linux_memory_policy.LinuxMemoryPolicy.{LinuxMemoryPolicy}

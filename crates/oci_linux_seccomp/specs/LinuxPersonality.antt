@@ -3,7 +3,7 @@
 use Rattle.std.specs.Prelude.{[], ◌∷◌}
 use Rattle.oci_json_model.specs.Plain as plain
 use Rattle.oci_json_model.specs.Plain.{Plain, document, slots, empty, filled}
-use Rattle.oci_linux_names.specs.LinuxPersonalityDomain.{linux_personality_domain_name, linux_personality_domain_default}
+use Rattle.oci_runtime_names.specs.LinuxPersonalityDomain.{linux_personality_domain_name, linux_personality_domain_default}
 use Rattle.oci_json_model.specs.Types.{given, perhaps, text_plain, variant_plain, list_plain}
 use Rattle.oci_linux_seccomp.specs.declared.linux_personality.LinuxPersonality.{LinuxPersonality}
 

@@ -3,9 +3,9 @@
 use Rattle.std.specs.Prelude.{[], ◌∷◌}
 use Rattle.oci_json_model.specs.Plain as plain
 use Rattle.oci_json_model.specs.Plain.{Plain, document, slots, empty, filled}
-use Rattle.oci_linux_names.specs.LinuxSeccompAction.{linux_seccomp_action_name, linux_seccomp_action_default}
-use Rattle.oci_linux_names.specs.LinuxSeccompFilterFlag.{linux_seccomp_filter_flag_name}
-use Rattle.oci_linux_names.specs.SArch.{s_arch_name}
+use Rattle.oci_runtime_names.specs.LinuxSeccompAction.{linux_seccomp_action_name, linux_seccomp_action_default}
+use Rattle.oci_runtime_names.specs.LinuxSeccompFilterFlag.{linux_seccomp_filter_flag_name}
+use Rattle.oci_runtime_names.specs.SArch.{s_arch_name}
 use Rattle.oci_json_model.specs.Types.{given, perhaps, text_plain, number_plain, variant_plain, list_plain}
 use Rattle.oci_linux_seccomp.specs.LinuxSyscall.{linux_syscall_plain}
 use Rattle.oci_linux_seccomp.specs.declared.linux_seccomp.LinuxSeccomp.{LinuxSeccomp}

@@ -3,7 +3,7 @@
 use Rattle.std.specs.Prelude.{[], ◌∷◌, pos}
 use Rattle.oci_json_model.specs.Plain as plain
 use Rattle.oci_json_model.specs.Plain.{Plain, document, slots, empty, filled}
-use Rattle.oci_linux_names.specs.LinuxSeccompOperator.{linux_seccomp_operator_name, linux_seccomp_operator_default}
+use Rattle.oci_runtime_names.specs.LinuxSeccompOperator.{linux_seccomp_operator_name, linux_seccomp_operator_default}
 use Rattle.oci_json_model.specs.Types.{given, perhaps, number_plain, variant_plain}
 use Rattle.oci_linux_seccomp.specs.declared.linux_seccomp_arg.LinuxSeccompArg.{LinuxSeccompArg}
 

@@ -3,7 +3,7 @@
 use Rattle.std.specs.Prelude.{[], ◌∷◌}
 use Rattle.oci_json_model.specs.Plain as plain
 use Rattle.oci_json_model.specs.Plain.{Plain, document, slots, empty, filled}
-use Rattle.oci_linux_names.specs.LinuxSeccompAction.{linux_seccomp_action_name, linux_seccomp_action_default}
+use Rattle.oci_runtime_names.specs.LinuxSeccompAction.{linux_seccomp_action_name, linux_seccomp_action_default}
 use Rattle.oci_json_model.specs.Types.{given, perhaps, text_plain, number_plain, variant_plain, list_plain}
 use Rattle.oci_linux_seccomp.specs.LinuxSeccompArg.{linux_seccomp_arg_plain}
 use Rattle.oci_linux_seccomp.specs.declared.linux_syscall.LinuxSyscall.{LinuxSyscall}

@@ -6,7 +6,7 @@ use oci_json_model::{
     ObjectWriter, OciRecord, copy_optional, try_join2, write_optional, write_required,
 };
 use oci_json_readers::{Optional, Required, read3};
-use oci_linux_names::{MemoryPolicyFlagType, MemoryPolicyModeType};
+use oci_runtime_names::{MemoryPolicyFlagType, MemoryPolicyModeType};
 use oci_text_base::{OciSpecError, Result, UninitializedFieldError};
 use serde_json::Value;
 use std::alloc::Global;
@@ -109,8 +109,8 @@ impl LinuxMemoryPolicy {
 }
 
 impl OciRecord for LinuxMemoryPolicy {
-    ghost use Rattle.oci_linux_names.specs.MemoryPolicyFlagType.{memory_policy_flag_type_same};
-    ghost use Rattle.oci_linux_names.specs.MemoryPolicyModeType.{memory_policy_mode_type_same};
+    ghost use Rattle.oci_runtime_names.specs.MemoryPolicyFlagType.{memory_policy_flag_type_same};
+    ghost use Rattle.oci_runtime_names.specs.MemoryPolicyModeType.{memory_policy_mode_type_same};
     ghost use Rattle.oci_json_model.specs.Same.{same_document, same_more, same_last, same_given, same_perhaps, same_texts, same_lists, same_variants};
     ghost use Rattle.oci_shapes.specs.LinuxMemoryPolicy.{linux_memory_policy};
     ghost use Rattle.oci_linux_seccomp.specs.LinuxMemoryPolicy.{linux_memory_policy_plain};

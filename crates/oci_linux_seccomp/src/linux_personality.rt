@@ -4,7 +4,7 @@ ghost use Rattle.std.specs.Prelude.{◌≡◌, IfOk, IfErr};
 
 use oci_json_model::{ObjectWriter, OciRecord, copy_optional, write_optional, write_required};
 use oci_json_readers::{Optional, Required, read2};
-use oci_linux_names::LinuxPersonalityDomain;
+use oci_runtime_names::LinuxPersonalityDomain;
 use oci_text_base::{OciSpecError, Result};
 use serde_json::Value;
 use std::alloc::Global;
@@ -80,7 +80,7 @@ impl LinuxPersonality {
 }
 
 impl OciRecord for LinuxPersonality {
-    ghost use Rattle.oci_linux_names.specs.LinuxPersonalityDomain.{linux_personality_domain_same};
+    ghost use Rattle.oci_runtime_names.specs.LinuxPersonalityDomain.{linux_personality_domain_same};
     ghost use Rattle.oci_json_model.specs.Same.{same_document, same_more, same_last, same_given, same_perhaps, same_texts, same_lists, same_variants};
     ghost use Rattle.oci_shapes.specs.LinuxPersonality.{linux_personality};
     ghost use Rattle.oci_linux_seccomp.specs.LinuxPersonality.{linux_personality_plain};
@@ -128,7 +128,7 @@ impl LinuxPersonalityBuilder {
     ghost use Rattle.std.specs.Prelude.{Some, unwrap_or, option_map};
     ghost use Rattle.oci_json_model.specs.Plain as plain;
     ghost use Rattle.oci_json_model.specs.Types.{variant_plain};
-    ghost use Rattle.oci_linux_names.specs.LinuxPersonalityDomain.{linux_personality_domain_name, linux_personality_domain_default};
+    ghost use Rattle.oci_runtime_names.specs.LinuxPersonalityDomain.{linux_personality_domain_name, linux_personality_domain_default};
 
     /// Sets `domain`: the execution domain. REQUIRED.
     pub fn domain(mut self, domain: LinuxPersonalityDomain) -> Self

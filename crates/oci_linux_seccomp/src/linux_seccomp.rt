@@ -7,7 +7,7 @@ use oci_json_model::{
     ObjectWriter, OciRecord, copy_optional, try_join2, try_join5, write_optional, write_required,
 };
 use oci_json_readers::{Optional, Required, read3, read4};
-use oci_linux_names::{LinuxSeccompAction, LinuxSeccompFilterFlag, SArch};
+use oci_runtime_names::{LinuxSeccompAction, LinuxSeccompFilterFlag, SArch};
 use oci_text_base::{OciSpecError, Result};
 use serde_json::Value;
 use std::alloc::Global;
@@ -181,9 +181,9 @@ impl LinuxSeccomp {
 }
 
 impl OciRecord for LinuxSeccomp {
-    ghost use Rattle.oci_linux_names.specs.LinuxSeccompAction.{linux_seccomp_action_same};
-    ghost use Rattle.oci_linux_names.specs.LinuxSeccompFilterFlag.{linux_seccomp_filter_flag_same};
-    ghost use Rattle.oci_linux_names.specs.SArch.{s_arch_same};
+    ghost use Rattle.oci_runtime_names.specs.LinuxSeccompAction.{linux_seccomp_action_same};
+    ghost use Rattle.oci_runtime_names.specs.LinuxSeccompFilterFlag.{linux_seccomp_filter_flag_same};
+    ghost use Rattle.oci_runtime_names.specs.SArch.{s_arch_same};
     ghost use Rattle.oci_json_model.specs.Same.{same_document, same_more, same_last, same_given, same_perhaps, same_texts, same_lists, same_numbers, same_variants};
     ghost use Rattle.oci_shapes.specs.LinuxSeccomp.{linux_seccomp};
     ghost use Rattle.oci_linux_seccomp.specs.LinuxSeccomp.{linux_seccomp_plain};
@@ -286,7 +286,7 @@ impl LinuxSeccompBuilder {
     ghost use Rattle.std.specs.Prelude.{Some, unwrap_or, option_map};
     ghost use Rattle.oci_json_model.specs.Plain as plain;
     ghost use Rattle.oci_json_model.specs.Types.{variant_plain};
-    ghost use Rattle.oci_linux_names.specs.LinuxSeccompAction.{linux_seccomp_action_name, linux_seccomp_action_default};
+    ghost use Rattle.oci_runtime_names.specs.LinuxSeccompAction.{linux_seccomp_action_name, linux_seccomp_action_default};
 
     /// Sets `default_action`: what is done about a call that no rule is for. REQUIRED.
     pub fn default_action(mut self, default_action: LinuxSeccompAction) -> Self

@@ -4,7 +4,7 @@ ghost use Rattle.std.specs.Prelude.{◌≡◌, IfOk, IfErr};
 
 use oci_json_model::{ObjectWriter, OciRecord, write_optional, write_required};
 use oci_json_readers::{Optional, Required, read4};
-use oci_linux_names::LinuxSeccompOperator;
+use oci_runtime_names::LinuxSeccompOperator;
 use oci_text_base::{OciSpecError, Result};
 use serde_json::Value;
 use std::alloc::Global;
@@ -74,7 +74,7 @@ impl LinuxSeccompArg {
 }
 
 impl OciRecord for LinuxSeccompArg {
-    ghost use Rattle.oci_linux_names.specs.LinuxSeccompOperator.{linux_seccomp_operator_same};
+    ghost use Rattle.oci_runtime_names.specs.LinuxSeccompOperator.{linux_seccomp_operator_same};
     ghost use Rattle.oci_json_model.specs.Same.{same_document, same_more, same_last, same_given, same_perhaps, same_numbers, same_variants};
     ghost use Rattle.oci_shapes.specs.LinuxSeccompArg.{linux_seccomp_arg};
     ghost use Rattle.oci_linux_seccomp.specs.LinuxSeccompArg.{linux_seccomp_arg_plain};
@@ -137,7 +137,7 @@ impl LinuxSeccompArgBuilder {
     ghost use Rattle.std.specs.Prelude.{Some, unwrap_or, option_map, pos};
     ghost use Rattle.oci_json_model.specs.Plain as plain;
     ghost use Rattle.oci_json_model.specs.Types.{number_plain, variant_plain};
-    ghost use Rattle.oci_linux_names.specs.LinuxSeccompOperator.{linux_seccomp_operator_name, linux_seccomp_operator_default};
+    ghost use Rattle.oci_runtime_names.specs.LinuxSeccompOperator.{linux_seccomp_operator_name, linux_seccomp_operator_default};
 
     /// Sets `index`: the place of the argument, from 0 on. REQUIRED; Linux has arguments 0 to 5, which is not checked here.
     pub fn index(mut self, index: usize) -> Self

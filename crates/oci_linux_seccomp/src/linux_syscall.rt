@@ -7,7 +7,7 @@ use oci_json_model::{
     ObjectWriter, OciMember, OciRecord, copy_optional, try_join2, write_optional, write_required,
 };
 use oci_json_readers::{Optional, Required, read4};
-use oci_linux_names::LinuxSeccompAction;
+use oci_runtime_names::LinuxSeccompAction;
 use oci_text_base::{OciSpecError, Result};
 use serde_json::Value;
 use std::alloc::Global;
@@ -125,7 +125,7 @@ impl LinuxSyscall {
 }
 
 impl OciRecord for LinuxSyscall {
-    ghost use Rattle.oci_linux_names.specs.LinuxSeccompAction.{linux_seccomp_action_same};
+    ghost use Rattle.oci_runtime_names.specs.LinuxSeccompAction.{linux_seccomp_action_same};
     ghost use Rattle.oci_json_model.specs.Same.{same_document, same_more, same_last, same_given, same_perhaps, same_texts, same_lists, same_numbers, same_variants};
     ghost use Rattle.oci_shapes.specs.LinuxSyscall.{linux_syscall};
     ghost use Rattle.oci_linux_seccomp.specs.LinuxSyscall.{linux_syscall_plain};
@@ -195,7 +195,7 @@ impl LinuxSyscallBuilder {
     ghost use Rattle.std.specs.Prelude.{Some, unwrap_or, option_map};
     ghost use Rattle.oci_json_model.specs.Plain as plain;
     ghost use Rattle.oci_json_model.specs.Types.{text_plain, variant_plain, list_plain};
-    ghost use Rattle.oci_linux_names.specs.LinuxSeccompAction.{linux_seccomp_action_name, linux_seccomp_action_default};
+    ghost use Rattle.oci_runtime_names.specs.LinuxSeccompAction.{linux_seccomp_action_name, linux_seccomp_action_default};
 
     /// Sets `names`: the names of the calls that the rule is for. REQUIRED; it MUST have at least one entry, which is not checked here.
     pub fn names(mut self, names: Vec<String>) -> Self

@@ -3,8 +3,8 @@
 use Rattle.std.specs.Prelude.{[], ◌∷◌}
 use Rattle.oci_json_model.specs.Plain.{Plain, document, slots, filled}
 use Rattle.oci_json_model.specs.Types.{perhaps}
-use Rattle.oci_process_names.specs.CapabilitySets.{set_plain}
-use Rattle.oci_process_names.specs.CapabilitySets.{default_set}
+use Rattle.oci_runtime_names.specs.CapabilitySets.{set_plain}
+use Rattle.oci_runtime_names.specs.CapabilitySets.{default_set}
 use Rattle.oci_process.specs.declared.linux_capabilities.LinuxCapabilities.{LinuxCapabilities}
 
 -- the content of a document

@@ -3,7 +3,7 @@
 use Rattle.std.specs.Prelude.{[], ◌∷◌, pos}
 use Rattle.oci_json_model.specs.Plain as plain
 use Rattle.oci_json_model.specs.Plain.{Plain, document, slots, filled}
-use Rattle.oci_process_names.specs.IOPriorityClass.{io_priority_class_name, io_priority_class_default}
+use Rattle.oci_runtime_names.specs.IOPriorityClass.{io_priority_class_name, io_priority_class_default}
 use Rattle.oci_json_model.specs.Types.{given, integer_plain, variant_plain}
 use Rattle.oci_process.specs.declared.linux_io_priority.LinuxIOPriority.{LinuxIOPriority}
 

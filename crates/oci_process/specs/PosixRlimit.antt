@@ -3,7 +3,7 @@
 use Rattle.std.specs.Prelude.{[], ◌∷◌, pos}
 use Rattle.oci_json_model.specs.Plain as plain
 use Rattle.oci_json_model.specs.Plain.{Plain, document, slots, filled}
-use Rattle.oci_process_names.specs.PosixRlimitType.{posix_rlimit_type_name, posix_rlimit_type_default}
+use Rattle.oci_runtime_names.specs.PosixRlimitType.{posix_rlimit_type_name, posix_rlimit_type_default}
 use Rattle.oci_json_model.specs.Types.{given, number_plain, variant_plain}
 use Rattle.oci_process.specs.declared.posix_rlimit.PosixRlimit.{PosixRlimit}
 

@@ -3,8 +3,8 @@
 use Rattle.std.specs.Prelude.{[], ◌∷◌}
 use Rattle.oci_json_model.specs.Plain as plain
 use Rattle.oci_json_model.specs.Plain.{Plain, document, slots, empty, filled}
-use Rattle.oci_process_names.specs.LinuxSchedulerFlag.{linux_scheduler_flag_name}
-use Rattle.oci_process_names.specs.LinuxSchedulerPolicy.{linux_scheduler_policy_name, linux_scheduler_policy_default}
+use Rattle.oci_runtime_names.specs.LinuxSchedulerFlag.{linux_scheduler_flag_name}
+use Rattle.oci_runtime_names.specs.LinuxSchedulerPolicy.{linux_scheduler_policy_name, linux_scheduler_policy_default}
 use Rattle.oci_json_model.specs.Types.{given, perhaps, number_plain, integer_plain, variant_plain, list_plain}
 use Rattle.oci_process.specs.declared.scheduler.Scheduler.{Scheduler}
 

@@ -7,7 +7,7 @@ mod build;
 use oci_json_members::{copy_optional_as, write_optional_as};
 use oci_json_model::{ObjectWriter, OciRecord, try_join2};
 use oci_json_readers::{As, read2};
-use oci_process_names::CpuTexts;
+use oci_runtime_names::CpuTexts;
 use oci_text_base::{OciSpecError, Result};
 use serde_json::Value;
 use std::alloc::Global;

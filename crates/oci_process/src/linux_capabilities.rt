@@ -5,7 +5,7 @@ ghost use Rattle.std.specs.Prelude.{◌≡◌, IfOk, IfErr};
 use oci_json_members::{copy_optional_as, write_optional_as};
 use oci_json_model::{ObjectWriter, OciRecord, try_join5};
 use oci_json_readers::{As, read5};
-use oci_process_names::{Capability, Caps, default_capabilities};
+use oci_runtime_names::{Capability, Caps, default_capabilities};
 use oci_text_base::{OciSpecError, Result};
 use serde_json::Value;
 use std::alloc::Global;
@@ -149,7 +149,7 @@ impl LinuxCapabilities {
 }
 
 impl OciRecord for LinuxCapabilities {
-    ghost use Rattle.oci_process_names.specs.CapabilitySets.{same_sets};
+    ghost use Rattle.oci_runtime_names.specs.CapabilitySets.{same_sets};
     ghost use Rattle.oci_json_model.specs.Same.{same_document, same_more, same_last, same_perhaps};
     ghost use Rattle.oci_shapes.specs.LinuxCapabilities.{linux_capabilities};
     ghost use Rattle.oci_process.specs.LinuxCapabilities.{linux_capabilities_plain};
@@ -264,8 +264,8 @@ pub struct LinuxCapabilitiesBuilder {
 impl LinuxCapabilitiesBuilder {
     ghost use Rattle.std.specs.Prelude.{Some, unwrap_or, option_map};
     ghost use Rattle.oci_json_model.specs.Plain.{filled};
-    ghost use Rattle.oci_process_names.specs.CapabilitySets.{set_plain};
-    ghost use Rattle.oci_process_names.specs.CapabilitySets.{default_set};
+    ghost use Rattle.oci_runtime_names.specs.CapabilitySets.{set_plain};
+    ghost use Rattle.oci_runtime_names.specs.CapabilitySets.{default_set};
     ghost use Rattle.oci_json_model.specs.Types.{perhaps};
 
     /// Sets `bounding`: the bounding capabilities that are kept: the most that starting a program can give the process.

@@ -4,7 +4,7 @@ ghost use Rattle.std.specs.Prelude.{◌≡◌, IfOk, IfErr};
 
 use oci_json_model::{ObjectWriter, OciRecord, write_required};
 use oci_json_readers::{Defaulted, read2};
-use oci_process_names::IOPriorityClass;
+use oci_runtime_names::IOPriorityClass;
 use oci_text_base::{OciSpecError, Result};
 use serde_json::Value;
 use std::alloc::Global;
@@ -57,7 +57,7 @@ impl LinuxIOPriority {
 }
 
 impl OciRecord for LinuxIOPriority {
-    ghost use Rattle.oci_process_names.specs.IOPriorityClass.{io_priority_class_same};
+    ghost use Rattle.oci_runtime_names.specs.IOPriorityClass.{io_priority_class_same};
     ghost use Rattle.oci_json_members.specs.DefaultMembers.{default_name, default_number};
     ghost use Rattle.oci_json_model.specs.Same.{same_document, same_more, same_last, same_given, same_integers, same_variants};
     ghost use Rattle.oci_shapes.specs.LinuxIOPriority.{linux_io_priority};
@@ -103,7 +103,7 @@ impl LinuxIOPriorityBuilder {
     ghost use Rattle.std.specs.Prelude.{Some, unwrap_or, option_map, pos};
     ghost use Rattle.oci_json_model.specs.Plain as plain;
     ghost use Rattle.oci_json_model.specs.Types.{integer_plain, variant_plain};
-    ghost use Rattle.oci_process_names.specs.IOPriorityClass.{io_priority_class_name, io_priority_class_default};
+    ghost use Rattle.oci_runtime_names.specs.IOPriorityClass.{io_priority_class_name, io_priority_class_default};
 
     /// Sets `class`: the I/O scheduling class, which counts before the priority. REQUIRED; absent, it is read as `IOPRIO_CLASS_BE`.
     pub fn class(mut self, class: IOPriorityClass) -> Self

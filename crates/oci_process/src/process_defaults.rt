@@ -5,7 +5,7 @@ ghost use Rattle.oci_process.specs.PosixRlimit.{posix_rlimit_plain};
 ghost use Rattle.oci_process.specs.ProcessDefaults.{default_args, default_cwd, default_env, default_rlimits};
 
 use crate::{PosixRlimit, PosixRlimitBuilder};
-use oci_process_names::PosixRlimitType;
+use oci_runtime_names::PosixRlimitType;
 use oci_text_base::{OciSpecError, Result};
 use std::alloc::Global;
 

@@ -6,7 +6,7 @@ use oci_json_model::{
     ObjectWriter, OciRecord, copy_optional, try_join2, write_optional, write_required,
 };
 use oci_json_readers::{Optional, Required, read3, read4};
-use oci_process_names::{LinuxSchedulerFlag, LinuxSchedulerPolicy};
+use oci_runtime_names::{LinuxSchedulerFlag, LinuxSchedulerPolicy};
 use oci_text_base::{OciSpecError, Result};
 use serde_json::Value;
 use std::alloc::Global;
@@ -180,8 +180,8 @@ impl Scheduler {
 }
 
 impl OciRecord for Scheduler {
-    ghost use Rattle.oci_process_names.specs.LinuxSchedulerFlag.{linux_scheduler_flag_same};
-    ghost use Rattle.oci_process_names.specs.LinuxSchedulerPolicy.{linux_scheduler_policy_same};
+    ghost use Rattle.oci_runtime_names.specs.LinuxSchedulerFlag.{linux_scheduler_flag_same};
+    ghost use Rattle.oci_runtime_names.specs.LinuxSchedulerPolicy.{linux_scheduler_policy_same};
     ghost use Rattle.oci_json_model.specs.Same.{same_document, same_more, same_last, same_given, same_perhaps, same_lists, same_numbers, same_integers, same_variants};
     ghost use Rattle.oci_shapes.specs.Scheduler.{scheduler};
     ghost use Rattle.oci_process.specs.Scheduler.{scheduler_plain};
@@ -262,7 +262,7 @@ impl SchedulerBuilder {
     ghost use Rattle.std.specs.Prelude.{Some, unwrap_or, option_map};
     ghost use Rattle.oci_json_model.specs.Plain as plain;
     ghost use Rattle.oci_json_model.specs.Types.{variant_plain};
-    ghost use Rattle.oci_process_names.specs.LinuxSchedulerPolicy.{linux_scheduler_policy_name, linux_scheduler_policy_default};
+    ghost use Rattle.oci_runtime_names.specs.LinuxSchedulerPolicy.{linux_scheduler_policy_name, linux_scheduler_policy_default};
 
     /// Sets `policy`: the scheduling policy, by its name in sched(7).
     pub fn policy(mut self, policy: LinuxSchedulerPolicy) -> Self

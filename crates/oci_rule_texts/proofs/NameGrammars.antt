@@ -7,8 +7,8 @@ use Rattle.std.specs.List.{fold}
 use Rattle.std.proofs.lemmas.Bool.Decides.{Decides-and, Decides-or, Decides-like}
 use Rattle.std.proofs.lemmas.Slice.Eq.{bytes_eq-Decides}
 use Rattle.std.proofs.Math.Seq.{take-append_seam}
-use Rattle.oci_process_names.specs.CpuScan.{is_cpu_text}
-use Rattle.oci_process_names.proofs.CpuLists.{cpu_list_decides}
+use Rattle.oci_runtime_names.specs.CpuScan.{is_cpu_text}
+use Rattle.oci_runtime_names.proofs.CpuLists.{cpu_list_decides}
 use Rattle.oci_reference_scan.proofs.Found.{held, held_reads}
 use Rattle.oci_reference_scan.proofs.Readings.{reading_once}
 use Rattle.oci_reference_scan.specs.Pieces.{IsPieces}

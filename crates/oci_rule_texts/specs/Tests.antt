@@ -1,7 +1,7 @@
 -- The tests of the grammars. That each decides its grammar is proved (`proofs/Grammars.antt`, `is_of_decides`), and the grammars alone stand in public contracts.
 use Rattle.std.specs.Prelude.{ℕ, Bool, not, List, codes, is_none, is_some}
 use Rattle.std.specs.List.{fold, list_all}
-use Rattle.oci_process_names.specs.CpuScan.{is_cpu_text}
+use Rattle.oci_runtime_names.specs.CpuScan.{is_cpu_text}
 use Rattle.oci_reference_scan.specs.Scanner.{start, step, found}
 use Rattle.oci_text_base.specs.Digest.{digest_refusal}
 use Rattle.oci_rule_texts.specs.Classes.{is_not_nul, is_not_line_feed}

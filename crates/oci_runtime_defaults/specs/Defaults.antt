@@ -2,9 +2,9 @@
 use Rattle.std.specs.Prelude.{ℕ, List, [], ◌∷◌, map, codes}
 use Rattle.oci_json_model.specs.Plain as plain
 use Rattle.oci_json_model.specs.Plain.{Plain, document, slots, empty, filled, plains}
-use Rattle.oci_linux_names.specs.LinuxNamespaceType.{linux_namespace_type_name}
-use Rattle.oci_linux_names.specs.declared.linux_namespace_type.LinuxNamespaceType.{LinuxNamespaceType}
-use Rattle.oci_linux_names.specs.declared.linux_namespace_type.LinuxNamespaceType.TheVariants.{Mount, Cgroup, Uts, Ipc, User, Pid, Network}
+use Rattle.oci_runtime_names.specs.LinuxNamespaceType.{linux_namespace_type_name}
+use Rattle.oci_runtime_names.specs.declared.linux_namespace_type.LinuxNamespaceType.{LinuxNamespaceType}
+use Rattle.oci_runtime_names.specs.declared.linux_namespace_type.LinuxNamespaceType.TheVariants.{Mount, Cgroup, Uts, Ipc, User, Pid, Network}
 
 -- a new namespace of a type: it has no path
 abbrev pub new_namespace : LinuxNamespaceType → Plain

@@ -2,7 +2,7 @@
 use Rattle.std.specs.Prelude.{[], ◌∷◌, true, codes}
 use Rattle.oci_json_model.specs.Plain as plain
 use Rattle.oci_json_model.specs.Plain.{Plain, document, slots, filled}
-use Rattle.oci_linux_names.specs.LinuxDeviceType.{linux_device_type_name}
+use Rattle.oci_runtime_names.specs.LinuxDeviceType.{linux_device_type_name}
 use Rattle.oci_linux_namespaces.specs.declared.linux_device.LinuxDevice.{LinuxDevice}
 
 -- it allows the device of this type and of these numbers to be read, written and made

@@ -15,8 +15,8 @@ use Rattle.oci_json_model.specs.Shape.{Shape, text, named, open_name, digest_tex
 use Rattle.oci_json_model.specs.Value.{capability_texts}
 use Rattle.oci_json_tape.specs.Elements.{BeginsWithData}
 pub use Rattle.oci_json_tape.specs.Values.{IfDone}
-use Rattle.oci_process_names.specs.Capability.{capability_table}
-use Rattle.oci_process_names.specs.CpuScan.{is_cpu_text}
+use Rattle.oci_runtime_names.specs.Capability.{capability_table}
+use Rattle.oci_runtime_names.specs.CpuScan.{is_cpu_text}
 use Rattle.oci_schema_walks.specs.Allows.{is_digest_text, is_in_range}
 use Rattle.oci_schema_walks.specs.Normalized.{accepts, normalized}
 

@@ -9,7 +9,7 @@ use crate::scalar::write_scalar;
 use json::Element;
 use oci_json_model::JsonName;
 use oci_json_tape::{CompactWriter, items, next_item, text};
-use oci_process_names::capability::ALL;
+use oci_runtime_names::capability::ALL;
 use oci_schema_types::Scalar;
 use std::alloc::AllocError;
 

@@ -4,7 +4,7 @@ ghost use Rattle.serde_json.specs.Data.{string, boolean as boolean_data, number 
 ghost use Rattle.serde_json.specs.Find.{of_integer};
 ghost use Rattle.oci_json_model.specs.Shape.{text as text_shape};
 ghost use Rattle.oci_text_base.specs.Names.{is_listed};
-ghost use Rattle.oci_process_names.specs.CpuScan.{is_cpu_text};
+ghost use Rattle.oci_runtime_names.specs.CpuScan.{is_cpu_text};
 ghost use Rattle.oci_schema_types.specs.Shapes.{scalar_shape, names_of};
 ghost use Rattle.oci_schema_walks.specs.Allows.{is_digest_text, is_in_range};
 ghost use Rattle.oci_json_tape.specs.Numbers.{num_of};
@@ -12,7 +12,7 @@ ghost use Rattle.oci_schema_bytes.specs.Walks.{IfDone, WritesTree, WritesNormal,
 
 use json::Element;
 use oci_json_tape::{CompactWriter, Number, boolean, number, text};
-use oci_process_names::is_cpu_list;
+use oci_runtime_names::is_cpu_list;
 use oci_schema_types::Scalar;
 use oci_text::is_digest;
 use std::alloc::AllocError;

@@ -2,7 +2,7 @@
 ghost use Rattle.std.specs.Prelude.{IsTrue};
 ghost use Rattle.serde_json.specs.Data.{Data, Members};
 ghost use Rattle.oci_json_model.specs.Shape.{cap_set, list, map};
-ghost use Rattle.oci_process_names.specs.Capability.{capability_table};
+ghost use Rattle.oci_runtime_names.specs.Capability.{capability_table};
 ghost use Rattle.oci_schema_types.specs.Shapes.{part_shape, schema_shape};
 ghost use Rattle.oci_schema_bytes.specs.Fields.{FieldMeans, EachField, FieldIsAccepted, AreAccepted};
 ghost use Rattle.oci_schema_bytes.specs.Objects.{fields_in};

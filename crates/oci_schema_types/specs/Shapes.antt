@@ -1,7 +1,7 @@
 -- The shape that a schema stands for.
 use Rattle.std.specs.Prelude.{ℕ, zero, suc, List, [], ◌∷◌, map, Option, Some, None}
 use Rattle.std.specs.Borrow.{Bor}
-use Rattle.oci_process_names.specs.Capability.{capability_table}
+use Rattle.oci_runtime_names.specs.Capability.{capability_table}
 use Rattle.oci_text.specs.Arch.{arches}
 use Rattle.oci_text.specs.MediaType.{media_types}
 use Rattle.oci_text.specs.Os.{oses}

@@ -11,8 +11,8 @@ use Rattle.oci_json_model.specs.Plain.{Plain, Plains, no_plains, Entries, no_ent
 use Rattle.oci_json_model.specs.Shape as shape
 use Rattle.oci_json_model.specs.Shape.{Presence, required, defaulted, optional, nullable, unless_empty, Shape, text, truth, whole, named, open_name, digest_text, cpu_text, cap_set, list, key_set, detail, free_map, rows, Rows, no_rows, row}
 use Rattle.oci_json_model.specs.Means.{Means, MeansRows, MeansEither, MeansMember, EachMeans, EachEntryMeans, IsThere, IsThereOr, is_object, get_second, unless_null, as_whole, opened, member_names, free_values, AreObjects, IsCapability, AreCapabilities, SomeIs, IsSetOf}
-use Rattle.oci_process_names.specs.CpuScan.{is_cpu_text}
-use Rattle.oci_process_names.proofs.CpuLists.{cpu_list_decides}
+use Rattle.oci_runtime_names.specs.CpuScan.{is_cpu_text}
+use Rattle.oci_runtime_names.proofs.CpuLists.{cpu_list_decides}
 use Rattle.oci_schema_walks.specs.Allows.{allows, rows_allow, each_allowed, items_allowed, each_member_allowed, members_allowed, text_allowed, names_capability, is_in_range, are_free, member_allowed, either_allowed, is_digest_text, is_spelled, is_capability, item_is, some_is, set_in}
 use Rattle.oci_schema_walks.proofs.Texts.{digest_decides, capability_decides, spelled_decides}
 

@@ -9,8 +9,8 @@ use Rattle.oci_text_base.specs.CpuList.{IsCpuList}
 use Rattle.oci_text_base.specs.Digest.{IsDigestText, digest_refusal}
 use Rattle.oci_text_base.specs.Names.{is_listed}
 use Rattle.oci_text.proofs.Refusals.{digest_refused}
-use Rattle.oci_process_names.specs.CpuScan.{is_cpu_text}
-use Rattle.oci_process_names.proofs.CpuLists.{cpu_list_decides}
+use Rattle.oci_runtime_names.specs.CpuScan.{is_cpu_text}
+use Rattle.oci_runtime_names.proofs.CpuLists.{cpu_list_decides}
 use Rattle.oci_schema_walks.specs.Allows.{is_digest_text, any_up_to, is_spelled, is_capability}
 
 -- two computations that decide one thing are one

@@ -11,7 +11,7 @@ use Rattle.oci_text_base.specs.Names.{is_listed}
 use Rattle.oci_json_model.specs.Means.{as_whole, is_object, get_second}
 use Rattle.oci_json_model.specs.Shape.{Presence, required, defaulted, optional, nullable, unless_empty, Shape, text, truth, whole, named, open_name, digest_text, cpu_text, cap_set, list, key_set, detail, free_map, rows, Rows, no_rows, row}
 use Rattle.oci_json_model.specs.Shape as shape
-use Rattle.oci_process_names.specs.CpuScan.{is_cpu_text}
+use Rattle.oci_runtime_names.specs.CpuScan.{is_cpu_text}
 use Rattle.oci_schema_types.specs.Shapes.{schema_shape, presence_of, alias_of}
 use Rattle.oci_schema_types.specs.declared.record.Member.{Member}
 

@@ -2,15 +2,15 @@
 ghost use Rattle.std.specs.Prelude.{◌≡◌};
 ghost use Rattle.serde_json.specs.View.{view, items_view, members_view};
 ghost use Rattle.oci_text_base.specs.Names.{is_listed};
-ghost use Rattle.oci_process_names.specs.Capability.{capability_table};
+ghost use Rattle.oci_runtime_names.specs.Capability.{capability_table};
 ghost use Rattle.oci_json_model.specs.Means.{as_whole, is_object};
-ghost use Rattle.oci_process_names.specs.CpuScan.{is_cpu_text};
+ghost use Rattle.oci_runtime_names.specs.CpuScan.{is_cpu_text};
 ghost use Rattle.oci_schema_walks.specs.Allows.{allows, is_capability as is_of_table, is_digest_text, names_capability, each_allowed, each_member_allowed};
 ghost use Rattle.oci_schema_types.specs.Shapes.{scalar_shape, names_of};
 
 use oci_json_model::JsonName;
 use oci_json_trees::number::{has_other_numbers, members_have_other_numbers};
-use oci_process_names::{Capability, is_cpu_list};
+use oci_runtime_names::{Capability, is_cpu_list};
 use oci_schema_types::Scalar;
 use oci_text::is_digest;
 use serde_json::{Map, Value};

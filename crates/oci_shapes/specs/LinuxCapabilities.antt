@@ -2,7 +2,7 @@
 -- The five sets of capabilities of a process (runtime specification, "Configuration", "Linux Process", `capabilities`).
 use Rattle.std.specs.Prelude.{codes}
 use Rattle.oci_json_model.specs.Shape.{Shape, rows, no_rows, listed, optional, cap_set}
-use Rattle.oci_process_names.specs.Capability.{capability_table}
+use Rattle.oci_runtime_names.specs.Capability.{capability_table}
 
 -- the members, in the order in which they are checked
 abbrev pub linux_capabilities : Shape

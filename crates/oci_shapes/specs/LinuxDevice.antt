@@ -2,7 +2,7 @@
 -- A device file that a container has (runtime specification, "Linux Container Configuration", "Devices").
 use Rattle.std.specs.Prelude.{[], codes, pos}
 use Rattle.oci_json_model.specs.Plain as plain
-use Rattle.oci_linux_names.specs.LinuxDeviceType.{linux_device_type_table}
+use Rattle.oci_runtime_names.specs.LinuxDeviceType.{linux_device_type_table}
 use Rattle.oci_json_model.specs.Shape.{Shape, rows, no_rows, listed, required, optional, defaulted, text, named}
 use Rattle.oci_json_model.specs.Types.{u32, i64}
 

@@ -2,7 +2,7 @@
 -- A rule for which devices a container may use, and how (runtime specification, "Linux Container Configuration", "Allowed Device list").
 use Rattle.std.specs.Prelude.{codes, false}
 use Rattle.oci_json_model.specs.Plain as plain
-use Rattle.oci_linux_names.specs.LinuxDeviceType.{linux_device_type_table}
+use Rattle.oci_runtime_names.specs.LinuxDeviceType.{linux_device_type_table}
 use Rattle.oci_json_model.specs.Shape.{Shape, rows, no_rows, listed, optional, defaulted, nullable, text, truth, named}
 use Rattle.oci_json_model.specs.Types.{i64}
 

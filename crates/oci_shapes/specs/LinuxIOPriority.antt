@@ -2,7 +2,7 @@
 -- How soon a process's input and output is served (runtime specification, "Configuration", "Linux Process", `ioPriority`).
 use Rattle.std.specs.Prelude.{codes, pos}
 use Rattle.oci_json_model.specs.Plain as plain
-use Rattle.oci_process_names.specs.IOPriorityClass.{io_priority_class_table, io_priority_class_name, io_priority_class_default}
+use Rattle.oci_runtime_names.specs.IOPriorityClass.{io_priority_class_table, io_priority_class_name, io_priority_class_default}
 use Rattle.oci_json_model.specs.Shape.{Shape, rows, no_rows, listed, defaulted, named}
 use Rattle.oci_json_model.specs.Types.{i64}
 

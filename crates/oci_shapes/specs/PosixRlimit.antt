@@ -2,7 +2,7 @@
 -- A limit on what a process may use (runtime specification, "Configuration", "POSIX process", `rlimits`).
 use Rattle.std.specs.Prelude.{codes, pos}
 use Rattle.oci_json_model.specs.Plain as plain
-use Rattle.oci_process_names.specs.PosixRlimitType.{posix_rlimit_type_table}
+use Rattle.oci_runtime_names.specs.PosixRlimitType.{posix_rlimit_type_table}
 use Rattle.oci_json_model.specs.Shape.{Shape, rows, no_rows, listed, required, defaulted, named}
 use Rattle.oci_json_model.specs.Types.{u64}
 

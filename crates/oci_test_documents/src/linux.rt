@@ -6,7 +6,7 @@ use oci_cgroups::{
     LinuxInterfacePriorityBuilder,
 };
 use oci_linux::{LinuxDeviceBuilder, cgroup_of};
-use oci_linux_names::LinuxDeviceType;
+use oci_runtime_names::LinuxDeviceType;
 use oci_test_harness::Harness;
 use oci_text_base::Result;
 use std::alloc::Global;

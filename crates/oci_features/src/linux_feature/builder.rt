@@ -11,7 +11,7 @@ use crate::mount_extensions::MountExtensions;
 use crate::net_devices::NetDevices;
 use crate::seccomp::Seccomp;
 use crate::selinux::Selinux;
-use oci_linux_names::LinuxNamespaceType;
+use oci_runtime_names::LinuxNamespaceType;
 use oci_text_base::{OciSpecError, Result};
 use std::alloc::Global;
 

@@ -6,7 +6,7 @@ use crate::tables::closed::{
 use crate::tables::extensible::{docker, lengths, texts};
 use anyhow::Result;
 use oci_json_model::ClosedName;
-use oci_process_names::capability;
+use oci_runtime_names::capability;
 use oci_spec::distribution::{ErrorCode, ParseError};
 use oci_spec::image::{Arch, DigestAlgorithm, MediaType, Os};
 use oci_spec::runtime::{

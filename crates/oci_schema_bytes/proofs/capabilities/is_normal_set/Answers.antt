@@ -1,7 +1,7 @@
 use Rattle.std.proofs.Common.{[], Some, ap, ◌∙◌, subst, drop_of_length-le}
 use Rattle.serde_json.specs.Data.{string}
-use Rattle.oci_process_names.specs.Capability.{all_capability}
-use Rattle.oci_process_names.specs.declared.capability.Capability.TheVariants.{AuditControl}
+use Rattle.oci_runtime_names.specs.Capability.{all_capability}
+use Rattle.oci_runtime_names.specs.declared.capability.Capability.TheVariants.{AuditControl}
 use Rattle.oci_schema_bytes.proofs.NormalSets.{SetSoFar, set_begins, with_at, without_at, set_ends}
 use Rattle.oci_schema_bytes.proofs.capabilities.is_normal_set.Goals as goal
 use Rattle.oci_schema_bytes.proofs.capabilities.is_normal_set.Goals.{then-is_string, else-is_string}

@@ -1,6 +1,6 @@
 use Rattle.serde_json.specs.View.{view}
-use Rattle.oci_process_names.specs.Capability.{capability_table}
-use Rattle.oci_process_names.specs.CapabilitySets.{set_plain}
+use Rattle.oci_runtime_names.specs.Capability.{capability_table}
+use Rattle.oci_runtime_names.specs.CapabilitySets.{set_plain}
 use Rattle.oci_json_model.specs.Shape.{cap_set}
 use Rattle.oci_json_model.proofs.Lists.{exits}
 use Rattle.oci_schema_walks.proofs.Parts.{not_allowed, written_told}
