@@ -14,7 +14,7 @@ MODEL_CALLS = ["copy_optional", "optional", "optional_either", "required", "writ
                "required_owned", "optional_either_owned"]
 TAKES = ["taken"] + [f"taken_{n}" for n in range(5, 11)]
 # kinds of members that are in another crate than `oci_json_members`
-KIND_CRATES = {"Caps": "oci_runtime_names", "CpuTexts": "oci_runtime_names", "Detail": "oci_json_trees", "FreeValues": "oci_json_trees"}
+KIND_CRATES = {"Caps": "oci_runtime_names", "CpuTexts": "oci_runtime_names", "Detail": "oci_json_readers", "FreeValues": "oci_json_readers"}
 
 
 def model_calls(body):
@@ -27,8 +27,7 @@ def imports(r, body, schema):
     held = " ".join(m.type.rust for m in r.members)
     crates = {"oci_json_model": schema, "oci_text_base": used(["OciSpecError", "Result", "UninitializedFieldError"], body)}
     crates["oci_json_members"] = used(KIND_CALLS, body) + called_in(MEMBER_CALLS, body)
-    crates["oci_json_readers"] = used(READER_CALLS + READERS, body)
-    crates["oci_json_trees"] = called_in(["equal_optional_values"], body)
+    crates["oci_json_readers"] = used(READER_CALLS + READERS, body) + called_in(["equal_optional_values"], body)
     crates["oci_text"] = used(["Digest"], body) + used(["Arch", "ErrorCode", "MediaType", "Os"], held)
     crates["oci_runtime_names"] = used(["Capability"], held)
     for kind in used(sorted({m.type.kind for m in r.members if m.type.kind}), body):

@@ -101,7 +101,7 @@ def kind_imports(r, plain, lends, equal):
     out += imported("oci_runtime_names.specs.CapabilitySets", ["set_plain"] * ("Caps" in kinds))
     if equal:
         out += imported("oci_json_model.specs.Same", ["Agrees"] + same_terms(equal))
-        out += imported("oci_json_trees.specs.FreeValues", ["free_values_plain", "free_eq"]) + imported("oci_json_trees.specs.SameFree", ["same_free"])
+        out += imported("oci_json_readers.specs.FreeValues", ["free_values_plain", "free_eq"]) + imported("oci_json_readers.specs.SameFree", ["same_free"])
     out += imported("oci_json_model.specs.Lent", used(["text_row", "option_row", "list_row", "map_row"], lends))
     return out + "use Rattle.std.specs.Borrow as borrow\n" * ("borrow." in lends)
 

@@ -6,8 +6,7 @@ use oci_json_members::{copy_optional_as, write_optional_as};
 use oci_json_model::{
     ObjectWriter, OciMember, OciRecord, copy_optional, try_join3, write_optional, write_required,
 };
-use oci_json_readers::{As, Optional, Required, read3};
-use oci_json_trees::Detail;
+use oci_json_readers::{As, Detail, Optional, Required, read3};
 use oci_text::ErrorCode;
 use oci_text_base::{OciSpecError, Result, UninitializedFieldError};
 use serde_json::Value;

@@ -10,7 +10,7 @@ use Rattle.oci_json_model.specs.Shape.{Presence, required, defaulted, optional, 
 use Rattle.oci_json_model.specs.Fits.{FitsOpen, Fits, FitsRows}
 use Rattle.oci_json_model.specs.Means.{opened, IsSetOf, member_names, free_values, get_second, Means, MeansRows}
 use Rattle.oci_json_model.specs.WellFormed.{WellFormed, AreWellFormed, MemberIsWellFormed}
-use Rattle.oci_json_trees.proofs.Erasing.{erased_free_values}
+use Rattle.oci_json_readers.proofs.Erasing.{erased_free_values}
 use Rattle.oci_json.proofs.Meanings.{MayBe, may_be, allowed, of_member, any_items, any_members, IsAny, IfDefault, each_meant, each_entry_meant, either_meant, got_of, second_of}
 
 -- by whether the text is listed

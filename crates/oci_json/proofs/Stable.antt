@@ -16,7 +16,7 @@ use Rattle.oci_json_model.specs.Norm.{norm, norm_open, norm_free, each_plain, ea
 use Rattle.oci_json_model.specs.Writable.{Writable, AreWritable}
 use Rattle.oci_json_model.specs.WellFormed.{WellFormed, AreWellFormed, MemberIsWellFormed}
 use Rattle.oci_json.specs.Details.{EachDetailOf, HasNoNullDetail}
-use Rattle.oci_json_trees.proofs.Erasing.{unless_null_as_it_was}
+use Rattle.oci_json_readers.proofs.Erasing.{unless_null_as_it_was}
 use Rattle.oci_json.proofs.Meanings.{MayBe, may_be}
 use Rattle.oci_json.proofs.MeaningFits.{open_fits}
 use Rattle.oci_json.proofs.ReadsBack.{never_null}

@@ -22,6 +22,6 @@ pub use Rattle.oci_json_model.specs.Value
 pub use Rattle.oci_json_model.specs.WellFormed
 pub use Rattle.oci_json_model.specs.Writable
 pub use Rattle.oci_json_readers.specs.Listed
-pub use Rattle.oci_json_trees.specs.Alike
-pub use Rattle.oci_json_trees.specs.FreeValues
+pub use Rattle.oci_json_readers.specs.Alike
+pub use Rattle.oci_json_readers.specs.FreeValues
 pub use Rattle.oci_text_base.specs.Refused as Faults

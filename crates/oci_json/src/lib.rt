@@ -22,4 +22,4 @@ pub use oci_json_readers::{
     As, Defaulted, MemberReader, Nullable, Optional, Required, UnlessEmpty, optional_as_owned,
     read1, read2, read3, read4, read5,
 };
-pub use oci_json_trees::{Detail, FreeValues, equal_optional_values, equal_trees, equal_values};
+pub use oci_json_readers::{Detail, FreeValues, equal_optional_values, equal_trees, equal_values};

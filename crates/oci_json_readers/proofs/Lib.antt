@@ -1,1 +1,4 @@
+pub mod Erasing
+pub mod FreeMaps
 pub mod Presences
+pub mod RefusedDetails

@@ -10,8 +10,7 @@ use oci_json_members::{copy_optional_as, write_optional_as};
 use oci_json_model::{
     ObjectWriter, OciRecord, copy_optional, try_join2, try_join5, write_optional,
 };
-use oci_json_readers::{As, Optional, read4};
-use oci_json_trees::{FreeValues, equal_optional_values};
+use oci_json_readers::{As, FreeValues, Optional, equal_optional_values, read4};
 use oci_text_base::{OciSpecError, Result};
 use serde_json::Value;
 use std::alloc::Global;
@@ -34,7 +33,7 @@ pub struct Windows {
 
 impl PartialEq for Windows {
     ghost use Rattle.std.specs.Cmp.{partial_equiv_from_equiv};
-    ghost use Rattle.oci_json_trees.specs.SameFree.{agrees_equiv};
+    ghost use Rattle.oci_json_readers.specs.SameFree.{agrees_equiv};
     ghost use Rattle.oci_platforms_windows.specs.Windows.{windows_eq, windows_same};
 
     ghost eq = { windows_eq };
@@ -56,7 +55,7 @@ impl PartialEq for Windows {
 }
 
 impl Eq for Windows {
-    ghost use Rattle.oci_json_trees.specs.SameFree.{agrees_equiv};
+    ghost use Rattle.oci_json_readers.specs.SameFree.{agrees_equiv};
     ghost use Rattle.oci_platforms_windows.specs.Windows.{windows_same};
 
     ghost laws = { agrees_equiv windows_same };

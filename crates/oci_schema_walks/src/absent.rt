@@ -15,7 +15,7 @@ ghost use Rattle.oci_schema_walks.specs.Normalized.{IsSound, accepts, normalized
 use crate::member::{put_member, written, written_for_none};
 use oci_json_members::OciKind;
 use oci_json_model::fault::refused;
-use oci_json_trees::Detail;
+use oci_json_readers::Detail;
 use oci_schema_types::{DefaultValue, Member, Part, Presence, Records, Scalar, Schema};
 use oci_text_base::Result;
 use serde_json::{Map, Number, Value};

@@ -14,7 +14,7 @@ use crate::kept::has_no_items;
 use crate::scalar::scalar_allows;
 use oci_json_members::{Keys, OciKind};
 use oci_json_model::fault::refused;
-use oci_json_trees::Detail;
+use oci_json_readers::Detail;
 use oci_runtime_names::Caps;
 use oci_schema_types::Scalar;
 use oci_text_base::Result;

@@ -9,7 +9,7 @@ ghost use Rattle.oci_schema_walks.specs.Allows.{allows, is_capability as is_of_t
 ghost use Rattle.oci_schema_types.specs.Shapes.{scalar_shape, names_of};
 
 use oci_json_model::JsonName;
-use oci_json_trees::number::{has_other_numbers, members_have_other_numbers};
+use oci_json_readers::number::{has_other_numbers, members_have_other_numbers};
 use oci_runtime_names::{Capability, is_cpu_list};
 use oci_schema_types::Scalar;
 use oci_text::is_digest;

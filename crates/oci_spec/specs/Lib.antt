@@ -18,7 +18,7 @@ pub use Rattle.oci_distribution.specs.RepositoryList
 pub use Rattle.oci_distribution.specs.RepositoryListBuilder
 pub use Rattle.oci_distribution.specs.TagList
 pub use Rattle.oci_distribution.specs.TagListBuilder
-pub use Rattle.oci_explain.specs.Explained
+pub use Rattle.oci_text.specs.Explained
 pub use Rattle.oci_features.specs.Apparmor
 pub use Rattle.oci_features.specs.Cgroup
 pub use Rattle.oci_features.specs.Features

@@ -1,7 +1,7 @@
 //! The printed texts of errors, and what is explained of them.
 
 use crate::distribution::reply;
-use oci_explain::explain;
+use oci_text::explain;
 use oci_reference_scan::ParseError;
 use oci_test_harness::Harness;
 use oci_text_base::{

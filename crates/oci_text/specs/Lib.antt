@@ -3,6 +3,7 @@ pub mod Arch
 pub mod CutDigests
 pub mod DigestInside
 pub mod ErrorCode
+pub mod Explained
 pub mod Faults
 pub mod MediaType
 pub mod Os

@@ -1,3 +1,0 @@
-pub mod Erasing
-pub mod FreeMaps
-pub mod RefusedDetails
