@@ -5,12 +5,12 @@ mod defaults;
 pub mod linux;
 
 pub use linux::{Linux, LinuxBuilder};
-pub use oci_linux_namespaces::{
+pub use oci_linux_records::{
     LinuxDevice, LinuxDeviceBuilder, LinuxIdMapping, LinuxIdMappingBuilder, LinuxNamespace,
     LinuxNamespaceBuilder, LinuxNetDevice, LinuxNetDeviceBuilder, LinuxTimeOffset,
     LinuxTimeOffsetBuilder,
 };
-pub use oci_linux_seccomp::{
+pub use oci_linux_records::{
     LinuxIntelRdt, LinuxIntelRdtBuilder, LinuxMemoryPolicy, LinuxMemoryPolicyBuilder,
     LinuxPersonality, LinuxPersonalityBuilder, LinuxSeccomp, LinuxSeccompArg,
     LinuxSeccompArgBuilder, LinuxSeccompBuilder, LinuxSyscall, LinuxSyscallBuilder,

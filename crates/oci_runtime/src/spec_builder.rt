@@ -4,7 +4,7 @@ ghost use Rattle.std.specs.Prelude.{◌≡◌, IfOk, IfErr};
 
 use oci_json_model::{try_join2, try_join3};
 use oci_linux::Linux;
-use oci_linux_namespaces::LinuxIdMapping;
+use oci_linux_records::LinuxIdMapping;
 use oci_platforms::{Solaris, VM, ZOS};
 use oci_platforms_windows::Windows;
 use oci_process::Process;

@@ -2,11 +2,11 @@
 //! Configuration", "Namespaces", "Masked Paths", "Readonly Paths").
 ghost use Rattle.std.specs.Prelude.{◌≡◌, IfOk, IfErr};
 ghost use Rattle.oci_json_model.specs.Types.{list_plain, text_plain};
-ghost use Rattle.oci_linux_namespaces.specs.LinuxNamespace.{linux_namespace_plain};
+ghost use Rattle.oci_linux_records.specs.LinuxNamespace.{linux_namespace_plain};
 ghost use Rattle.oci_runtime_defaults.specs.Defaults.{default_masked_paths, default_namespaces, default_readonly_paths, new_namespace, new_namespaces, rootless_namespaces};
 
 use oci_runtime_names::LinuxNamespaceType;
-use oci_linux_namespaces::{LinuxNamespace, LinuxNamespaceBuilder, texts_of};
+use oci_linux_records::{LinuxNamespace, LinuxNamespaceBuilder, texts_of};
 use oci_text_base::{OciSpecError, Result};
 use std::alloc::Global;
 

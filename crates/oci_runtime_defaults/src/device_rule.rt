@@ -4,7 +4,7 @@ ghost use Rattle.oci_cgroups.specs.LinuxDeviceCgroup.{linux_device_cgroup_plain}
 ghost use Rattle.oci_runtime_defaults.specs.DeviceRule.{device_rule};
 
 use oci_cgroups::{LinuxDeviceCgroup, LinuxDeviceCgroupBuilder};
-use oci_linux_namespaces::LinuxDevice;
+use oci_linux_records::LinuxDevice;
 use oci_text_base::{OciSpecError, Result};
 use std::alloc::Global;
 

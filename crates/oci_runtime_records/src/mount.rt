@@ -10,7 +10,7 @@ use oci_json_model::{
     write_required,
 };
 use oci_json_readers::{Optional, Required, read3};
-use oci_linux_namespaces::LinuxIdMapping;
+use oci_linux_records::LinuxIdMapping;
 use oci_text_base::{OciSpecError, Result};
 use serde_json::Value;
 use std::alloc::Global;
@@ -222,7 +222,7 @@ impl OciRecord for Mount {
     ghost use Rattle.oci_json_model.specs.Same.{same_document, same_more, same_last, same_given, same_perhaps, same_texts, same_lists};
     ghost use Rattle.oci_shapes.specs.Mount.{mount};
     ghost use Rattle.oci_runtime_records.specs.Mount.{mount_plain};
-    ghost use Rattle.oci_linux_namespaces.specs.contracts.linux_id_mapping.LinuxIdMappingOciRecord.TheImpl.Laws.{same-law as linux_id_mapping_same};
+    ghost use Rattle.oci_linux_records.specs.contracts.linux_id_mapping.LinuxIdMappingOciRecord.TheImpl.Laws.{same-law as linux_id_mapping_same};
 
     ghost shape = { mount };
 

@@ -35,9 +35,9 @@ use Rattle.oci_platforms.specs.contracts.vm.VM as vm
 use Rattle.oci_platforms.specs.ZOS.{zos_plain}
 use Rattle.oci_platforms.specs.declared.zos.ZOS.{ZOS}
 use Rattle.oci_platforms.specs.contracts.zos.ZOS as zos
-use Rattle.oci_linux_namespaces.specs.LinuxIdMapping.{linux_id_mapping_plain}
-use Rattle.oci_linux_namespaces.specs.declared.linux_id_mapping.LinuxIdMapping.{LinuxIdMapping}
-use Rattle.oci_linux_namespaces.specs.contracts.linux_id_mapping.LinuxIdMapping as linux_id_mapping
+use Rattle.oci_linux_records.specs.LinuxIdMapping.{linux_id_mapping_plain}
+use Rattle.oci_linux_records.specs.declared.linux_id_mapping.LinuxIdMapping.{LinuxIdMapping}
+use Rattle.oci_linux_records.specs.contracts.linux_id_mapping.LinuxIdMapping as linux_id_mapping
 use Rattle.oci_runtime_records.specs.DefaultMounts.{default_mounts}
 use Rattle.oci_runtime_spec.specs.declared.spec.Spec.{Spec}
 use Rattle.oci_runtime_spec.specs.contracts.spec.Spec.{the_row}

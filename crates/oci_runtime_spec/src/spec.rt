@@ -13,7 +13,7 @@ use oci_json_model::{
 };
 use oci_json_readers::{Defaulted, Optional, read5};
 use oci_linux::Linux;
-use oci_linux_namespaces::LinuxIdMapping;
+use oci_linux_records::LinuxIdMapping;
 use oci_platforms::{Solaris, VM, ZOS};
 use oci_platforms_windows::Windows;
 use oci_process::Process;
@@ -169,7 +169,7 @@ impl OciRecord for Spec {
     ghost use Rattle.oci_platforms_windows.specs.contracts.windows.WindowsOciRecord.TheImpl.Laws.{same-law as windows_same};
     ghost use Rattle.oci_platforms.specs.contracts.vm.VMOciRecord.TheImpl.Laws.{same-law as vm_same};
     ghost use Rattle.oci_platforms.specs.contracts.zos.ZOSOciRecord.TheImpl.Laws.{same-law as zos_same};
-    ghost use Rattle.oci_linux_namespaces.specs.contracts.linux_id_mapping.LinuxIdMappingOciRecord.TheImpl.Laws.{same-law as linux_id_mapping_same};
+    ghost use Rattle.oci_linux_records.specs.contracts.linux_id_mapping.LinuxIdMappingOciRecord.TheImpl.Laws.{same-law as linux_id_mapping_same};
 
     ghost shape = { spec };
 

@@ -27,13 +27,11 @@ use crate::image_manifest::{
 };
 use crate::image_platform::platform_record;
 use crate::linux::linux_record;
-use crate::linux_namespaces::{
-    linux_device_record, linux_id_mapping_record, linux_namespace_record, linux_net_device_record,
+use crate::linux_records::{
+    linux_device_record, linux_id_mapping_record, linux_intel_rdt_record,
+    linux_memory_policy_record, linux_namespace_record, linux_net_device_record,
+    linux_personality_record, linux_seccomp_arg_record, linux_seccomp_record, linux_syscall_record,
     linux_time_offset_record,
-};
-use crate::linux_seccomp::{
-    linux_intel_rdt_record, linux_memory_policy_record, linux_personality_record,
-    linux_seccomp_arg_record, linux_seccomp_record, linux_syscall_record,
 };
 use crate::platforms::{
     solaris_anet_record, solaris_capped_cpu_record, solaris_capped_memory_record, solaris_record,

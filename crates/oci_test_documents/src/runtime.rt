@@ -1,7 +1,7 @@
 //! Mounts with mappings, and a root whose path is made canonical.
 
 use crate::checks::{Answer, check, written};
-use oci_linux_namespaces::{LinuxIdMapping, LinuxIdMappingBuilder};
+use oci_linux_records::{LinuxIdMapping, LinuxIdMappingBuilder};
 use oci_runtime_records::{Mount, MountBuilder, Root};
 use oci_runtime_root::canonicalize;
 use oci_test_harness::Harness;

@@ -6,10 +6,10 @@ use crate::defaults::resources_without_rules;
 use crate::linux::Linux;
 use oci_cgroups::LinuxResources;
 use oci_json_model::try_join4;
-use oci_linux_namespaces::{
-    LinuxDevice, LinuxIdMapping, LinuxNamespace, LinuxNetDevice, LinuxTimeOffset,
+use oci_linux_records::{
+    LinuxDevice, LinuxIdMapping, LinuxIntelRdt, LinuxMemoryPolicy, LinuxNamespace, LinuxNetDevice,
+    LinuxPersonality, LinuxSeccomp, LinuxTimeOffset,
 };
-use oci_linux_seccomp::{LinuxIntelRdt, LinuxMemoryPolicy, LinuxPersonality, LinuxSeccomp};
 use oci_runtime_defaults::{
     get_default_maskedpaths, get_default_namespaces, get_default_readonly_paths,
 };
@@ -46,7 +46,7 @@ impl LinuxBuilder {
     ghost use Rattle.oci_linux.specs.DefaultResources.{default_resources};
     ghost use Rattle.oci_json_model.specs.Types.{perhaps, text_plain, list_plain};
     ghost use Rattle.oci_cgroups.specs.LinuxResources.{linux_resources_plain};
-    ghost use Rattle.oci_linux_namespaces.specs.LinuxNamespace.{linux_namespace_plain};
+    ghost use Rattle.oci_linux_records.specs.LinuxNamespace.{linux_namespace_plain};
 
     /// Sets `net_devices`: the network devices of the host that are moved into the container, by their names on the host.
     pub fn net_devices(mut self, net_devices: BTreeMap<String, LinuxNetDevice>) -> Self

@@ -4,10 +4,10 @@ ghost use Rattle.std.specs.Prelude.{◌≡◌};
 
 use super::Linux;
 use oci_cgroups::LinuxResources;
-use oci_linux_namespaces::{
-    LinuxDevice, LinuxIdMapping, LinuxNamespace, LinuxNetDevice, LinuxTimeOffset,
+use oci_linux_records::{
+    LinuxDevice, LinuxIdMapping, LinuxIntelRdt, LinuxMemoryPolicy, LinuxNamespace, LinuxNetDevice,
+    LinuxPersonality, LinuxSeccomp, LinuxTimeOffset,
 };
-use oci_linux_seccomp::{LinuxIntelRdt, LinuxMemoryPolicy, LinuxPersonality, LinuxSeccomp};
 use std::collections::BTreeMap;
 
 impl Linux {

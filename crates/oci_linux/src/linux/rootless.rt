@@ -3,11 +3,11 @@ ghost use Rattle.std.specs.Prelude.{◌≡◌, IfOk, IfErr};
 ghost use Rattle.oci_json_model.specs.Types.{list_plain};
 ghost use Rattle.oci_linux.specs.Linux.{linux_plain};
 ghost use Rattle.oci_linux.specs.Rootless.{mapping_of, rootless_linux};
-ghost use Rattle.oci_linux_namespaces.specs.LinuxIdMapping.{linux_id_mapping_plain};
+ghost use Rattle.oci_linux_records.specs.LinuxIdMapping.{linux_id_mapping_plain};
 
 use super::Linux;
 use oci_json_model::try_join5;
-use oci_linux_namespaces::{LinuxIdMapping, LinuxIdMappingBuilder};
+use oci_linux_records::{LinuxIdMapping, LinuxIdMappingBuilder};
 use oci_runtime_defaults::{
     get_default_maskedpaths, get_default_readonly_paths, get_rootless_namespaces,
 };

@@ -6,7 +6,7 @@ ghost use Rattle.oci_json_model.specs.Types.{text_plain};
 ghost use Rattle.oci_runtime_records.specs.MountBuilder.{mount_refusal, has_items};
 
 use super::{Mount, MountBuilder};
-use oci_linux_namespaces::LinuxIdMapping;
+use oci_linux_records::LinuxIdMapping;
 use oci_text_base::{OciSpecError, Result};
 use std::alloc::Global;
 

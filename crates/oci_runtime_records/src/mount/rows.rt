@@ -7,7 +7,7 @@ ghost use Rattle.oci_runtime_records.specs.DefaultMounts.{mount_of_row, options_
 
 use super::Mount;
 use crate::defaults::MountRow;
-use oci_linux_namespaces::texts_of;
+use oci_linux_records::texts_of;
 use oci_text_base::{OciSpecError, Result};
 use std::alloc::Global;
 

@@ -4,7 +4,7 @@ ghost use Rattle.std.specs.Prelude.{◌≡◌};
 
 use super::Spec;
 use oci_linux::Linux;
-use oci_linux_namespaces::LinuxIdMapping;
+use oci_linux_records::LinuxIdMapping;
 use oci_platforms::{Solaris, VM, ZOS};
 use oci_platforms_windows::Windows;
 use oci_process::Process;

@@ -7,11 +7,9 @@ use oci_cgroups::{
 };
 use oci_cgroups_rdma::LinuxRdma;
 use oci_linux::Linux;
-use oci_linux_namespaces::{
-    LinuxDevice, LinuxIdMapping, LinuxNamespace, LinuxNetDevice, LinuxTimeOffset,
-};
-use oci_linux_seccomp::{
-    LinuxIntelRdt, LinuxMemoryPolicy, LinuxPersonality, LinuxSeccomp, LinuxSeccompArg, LinuxSyscall,
+use oci_linux_records::{
+    LinuxDevice, LinuxIdMapping, LinuxIntelRdt, LinuxMemoryPolicy, LinuxNamespace, LinuxNetDevice,
+    LinuxPersonality, LinuxSeccomp, LinuxSeccompArg, LinuxSyscall, LinuxTimeOffset,
 };
 use oci_schema::Schema;
 use oci_schemas::cgroups::{
@@ -21,12 +19,10 @@ use oci_schemas::cgroups::{
 };
 use oci_schemas::cgroups_rdma::linux_rdma;
 use oci_schemas::linux::linux;
-use oci_schemas::linux_namespaces::{
-    linux_device, linux_id_mapping, linux_namespace, linux_net_device, linux_time_offset,
-};
-use oci_schemas::linux_seccomp::{
-    linux_intel_rdt, linux_memory_policy, linux_personality, linux_seccomp, linux_seccomp_arg,
-    linux_syscall,
+use oci_schemas::linux_records::{
+    linux_device, linux_id_mapping, linux_intel_rdt, linux_memory_policy, linux_namespace,
+    linux_net_device, linux_personality, linux_seccomp, linux_seccomp_arg, linux_syscall,
+    linux_time_offset,
 };
 use oci_schemas::{OciRecords, oci_records};
 
