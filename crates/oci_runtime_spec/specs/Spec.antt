@@ -26,9 +26,9 @@ use Rattle.oci_linux.specs.contracts.linux.Linux as linux
 use Rattle.oci_platforms.specs.Solaris.{solaris_plain}
 use Rattle.oci_platforms.specs.declared.solaris.Solaris.{Solaris}
 use Rattle.oci_platforms.specs.contracts.solaris.Solaris as solaris
-use Rattle.oci_platforms_windows.specs.Windows.{windows_plain}
-use Rattle.oci_platforms_windows.specs.declared.windows.Windows.{Windows}
-use Rattle.oci_platforms_windows.specs.contracts.windows.Windows as windows
+use Rattle.oci_platforms.specs.Windows.{windows_plain}
+use Rattle.oci_platforms.specs.declared.windows.Windows.{Windows}
+use Rattle.oci_platforms.specs.contracts.windows.Windows as windows
 use Rattle.oci_platforms.specs.VM.{vm_plain}
 use Rattle.oci_platforms.specs.declared.vm.VM.{VM}
 use Rattle.oci_platforms.specs.contracts.vm.VM as vm

@@ -14,8 +14,7 @@ use oci_json_model::{
 use oci_json_readers::{Defaulted, Optional, read5};
 use oci_linux::Linux;
 use oci_linux_records::LinuxIdMapping;
-use oci_platforms::{Solaris, VM, ZOS};
-use oci_platforms_windows::Windows;
+use oci_platforms::{Solaris, VM, Windows, ZOS};
 use oci_process::Process;
 use oci_runtime_defaults::text_of;
 use oci_runtime_records::{Hooks, Mount, Root, get_default_mounts};
@@ -166,7 +165,7 @@ impl OciRecord for Spec {
     ghost use Rattle.oci_runtime_records.specs.contracts.hooks.HooksOciRecord.TheImpl.Laws.{same-law as hooks_same};
     ghost use Rattle.oci_linux.specs.contracts.linux.LinuxOciRecord.TheImpl.Laws.{same-law as linux_same};
     ghost use Rattle.oci_platforms.specs.contracts.solaris.SolarisOciRecord.TheImpl.Laws.{same-law as solaris_same};
-    ghost use Rattle.oci_platforms_windows.specs.contracts.windows.WindowsOciRecord.TheImpl.Laws.{same-law as windows_same};
+    ghost use Rattle.oci_platforms.specs.contracts.windows.WindowsOciRecord.TheImpl.Laws.{same-law as windows_same};
     ghost use Rattle.oci_platforms.specs.contracts.vm.VMOciRecord.TheImpl.Laws.{same-law as vm_same};
     ghost use Rattle.oci_platforms.specs.contracts.zos.ZOSOciRecord.TheImpl.Laws.{same-law as zos_same};
     ghost use Rattle.oci_linux_records.specs.contracts.linux_id_mapping.LinuxIdMappingOciRecord.TheImpl.Laws.{same-law as linux_id_mapping_same};

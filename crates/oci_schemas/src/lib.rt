@@ -25,7 +25,6 @@ pub mod linux;
 pub mod linux_records;
 pub mod parts;
 pub mod platforms;
-pub mod platforms_windows;
 pub mod process;
 pub mod reference;
 pub mod runtime_records;

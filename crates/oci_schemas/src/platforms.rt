@@ -12,12 +12,22 @@ ghost use Rattle.oci_shapes.specs.VM.{vm};
 ghost use Rattle.oci_shapes.specs.VMHypervisor.{vm_hypervisor};
 ghost use Rattle.oci_shapes.specs.VMImage.{vm_image};
 ghost use Rattle.oci_shapes.specs.VMKernel.{vm_kernel};
+ghost use Rattle.oci_shapes.specs.Windows.{windows};
+ghost use Rattle.oci_shapes.specs.WindowsCPUResources.{windows_cpu_resources};
+ghost use Rattle.oci_shapes.specs.WindowsDevice.{windows_device};
+ghost use Rattle.oci_shapes.specs.WindowsHyperV.{windows_hyper_v};
+ghost use Rattle.oci_shapes.specs.WindowsMemoryResources.{windows_memory_resources};
+ghost use Rattle.oci_shapes.specs.WindowsNetwork.{windows_network};
+ghost use Rattle.oci_shapes.specs.WindowsResources.{windows_resources};
+ghost use Rattle.oci_shapes.specs.WindowsStorageResources.{windows_storage_resources};
 ghost use Rattle.oci_shapes.specs.ZOS.{zos};
 ghost use Rattle.oci_shapes.specs.ZOSNamespace.{zos_namespace};
 
 use crate::parts::{
-    SOLARIS, SOLARIS_ANET, SOLARIS_CAPPED_CPU, SOLARIS_CAPPED_MEMORY, STRING, VM, VM_HYPERVISOR,
-    VM_IMAGE, VM_KERNEL, ZOS, ZOS_NAMESPACE, ZOS_NAMESPACE_TYPE,
+    BOOLEAN, FREE_VALUES, SOLARIS, SOLARIS_ANET, SOLARIS_CAPPED_CPU, SOLARIS_CAPPED_MEMORY, STRING,
+    U16, U64, VM, VM_HYPERVISOR, VM_IMAGE, VM_KERNEL, WINDOWS, WINDOWS_CPU_RESOURCES,
+    WINDOWS_DEVICE, WINDOWS_HYPER_V, WINDOWS_MEMORY_RESOURCES, WINDOWS_NETWORK, WINDOWS_RESOURCES,
+    WINDOWS_STORAGE_RESOURCES, ZOS, ZOS_NAMESPACE, ZOS_NAMESPACE_TYPE,
 };
 use oci_schema_types::{Member, Presence, Record, Schema};
 
@@ -231,6 +241,236 @@ pub fn vm_kernel() -> &'static Schema
     ensures { schema_shape (shape_at shapes) result.now ≡ vm_kernel }
 {
     &VM_KERNEL_SCHEMA
+}
+
+static WINDOWS_RECORD: Record = Record {
+    name: "Windows",
+    members: &[
+        member!("layerFolders", Presence::Optional, Schema::List(STRING)),
+        member!("devices", Presence::Optional, Schema::List(WINDOWS_DEVICE)),
+        member!(
+            "resources",
+            Presence::Optional,
+            Schema::One(WINDOWS_RESOURCES)
+        ),
+        member!(
+            "credentialSpec",
+            Presence::Optional,
+            Schema::One(FREE_VALUES)
+        ),
+        member!("servicing", Presence::Optional, Schema::One(BOOLEAN)),
+        member!(
+            "ignoreFlushesDuringBoot",
+            Presence::Optional,
+            Schema::One(BOOLEAN)
+        ),
+        member!("hyperv", Presence::Optional, Schema::One(WINDOWS_HYPER_V)),
+        member!("network", Presence::Optional, Schema::One(WINDOWS_NETWORK)),
+    ],
+};
+
+static WINDOWS_SCHEMA: Schema = Schema::One(WINDOWS);
+
+/// The members of `Windows`: what only a Windows container has (runtime specification, "Windows-specific Container Configuration").
+pub fn windows_record() -> &'static Record
+    ensures { rows (members_in (shape_at shapes) result.now.members.now) ≡ windows }
+{
+    &WINDOWS_RECORD
+}
+
+/// The schema of `Windows`.
+pub fn windows() -> &'static Schema
+    ensures { schema_shape (shape_at shapes) result.now ≡ windows }
+{
+    &WINDOWS_SCHEMA
+}
+
+static WINDOWS_CPU_RESOURCES_RECORD: Record = Record {
+    name: "WindowsCPUResources",
+    members: &[
+        member!("count", Presence::Optional, Schema::One(U64)),
+        member!("shares", Presence::Optional, Schema::One(U16)),
+        member!("maximum", Presence::Optional, Schema::One(U16)),
+    ],
+};
+
+static WINDOWS_CPU_RESOURCES_SCHEMA: Schema = Schema::One(WINDOWS_CPU_RESOURCES);
+
+/// The members of `WindowsCPUResources`: how much processor time a Windows container may use (runtime specification, "Windows-specific Container Configuration", "CPU").
+pub fn windows_cpu_resources_record() -> &'static Record
+    ensures { rows (members_in (shape_at shapes) result.now.members.now) ≡ windows_cpu_resources }
+{
+    &WINDOWS_CPU_RESOURCES_RECORD
+}
+
+/// The schema of `WindowsCPUResources`.
+pub fn windows_cpu_resources() -> &'static Schema
+    ensures { schema_shape (shape_at shapes) result.now ≡ windows_cpu_resources }
+{
+    &WINDOWS_CPU_RESOURCES_SCHEMA
+}
+
+static WINDOWS_DEVICE_RECORD: Record = Record {
+    name: "WindowsDevice",
+    members: &[
+        member!("id", Presence::Required, Schema::One(STRING)),
+        member!("idType", Presence::Required, Schema::One(STRING)),
+    ],
+};
+
+static WINDOWS_DEVICE_SCHEMA: Schema = Schema::One(WINDOWS_DEVICE);
+
+/// The members of `WindowsDevice`: a device of the host that a Windows container has (runtime specification, "Windows-specific Container Configuration", "Devices").
+pub fn windows_device_record() -> &'static Record
+    ensures { rows (members_in (shape_at shapes) result.now.members.now) ≡ windows_device }
+{
+    &WINDOWS_DEVICE_RECORD
+}
+
+/// The schema of `WindowsDevice`.
+pub fn windows_device() -> &'static Schema
+    ensures { schema_shape (shape_at shapes) result.now ≡ windows_device }
+{
+    &WINDOWS_DEVICE_SCHEMA
+}
+
+static WINDOWS_HYPER_V_RECORD: Record = Record {
+    name: "WindowsHyperV",
+    members: &[member!("utilityVmPath", Presence::Optional, Schema::One(STRING))],
+};
+
+static WINDOWS_HYPER_V_SCHEMA: Schema = Schema::One(WINDOWS_HYPER_V);
+
+/// The members of `WindowsHyperV`: what a Windows container that Hyper-V keeps apart has (runtime specification, "Windows-specific Container Configuration", "HyperV").
+pub fn windows_hyper_v_record() -> &'static Record
+    ensures { rows (members_in (shape_at shapes) result.now.members.now) ≡ windows_hyper_v }
+{
+    &WINDOWS_HYPER_V_RECORD
+}
+
+/// The schema of `WindowsHyperV`.
+pub fn windows_hyper_v() -> &'static Schema
+    ensures { schema_shape (shape_at shapes) result.now ≡ windows_hyper_v }
+{
+    &WINDOWS_HYPER_V_SCHEMA
+}
+
+static WINDOWS_MEMORY_RESOURCES_RECORD: Record = Record {
+    name: "WindowsMemoryResources",
+    members: &[member!("limit", Presence::Optional, Schema::One(U64))],
+};
+
+static WINDOWS_MEMORY_RESOURCES_SCHEMA: Schema = Schema::One(WINDOWS_MEMORY_RESOURCES);
+
+/// The members of `WindowsMemoryResources`: how much memory a Windows container may use (runtime specification, "Windows-specific Container Configuration", "Memory").
+pub fn windows_memory_resources_record() -> &'static Record
+    ensures { rows (members_in (shape_at shapes) result.now.members.now) ≡ windows_memory_resources }
+{
+    &WINDOWS_MEMORY_RESOURCES_RECORD
+}
+
+/// The schema of `WindowsMemoryResources`.
+pub fn windows_memory_resources() -> &'static Schema
+    ensures { schema_shape (shape_at shapes) result.now ≡ windows_memory_resources }
+{
+    &WINDOWS_MEMORY_RESOURCES_SCHEMA
+}
+
+static WINDOWS_NETWORK_RECORD: Record = Record {
+    name: "WindowsNetwork",
+    members: &[
+        member!("endpointList", Presence::Optional, Schema::List(STRING)),
+        member!(
+            "allowUnqualifiedDNSQuery",
+            Presence::Optional,
+            Schema::One(BOOLEAN)
+        ),
+        member!("DNSSearchList", Presence::Optional, Schema::List(STRING)),
+        member!(
+            "networkSharedContainerName",
+            Presence::Optional,
+            Schema::One(STRING)
+        ),
+        member!("networkNamespace", Presence::Optional, Schema::One(STRING)),
+    ],
+};
+
+static WINDOWS_NETWORK_SCHEMA: Schema = Schema::One(WINDOWS_NETWORK);
+
+/// The members of `WindowsNetwork`: the network of a Windows container (runtime specification, "Windows-specific Container Configuration", "Network").
+pub fn windows_network_record() -> &'static Record
+    ensures { rows (members_in (shape_at shapes) result.now.members.now) ≡ windows_network }
+{
+    &WINDOWS_NETWORK_RECORD
+}
+
+/// The schema of `WindowsNetwork`.
+pub fn windows_network() -> &'static Schema
+    ensures { schema_shape (shape_at shapes) result.now ≡ windows_network }
+{
+    &WINDOWS_NETWORK_SCHEMA
+}
+
+static WINDOWS_RESOURCES_RECORD: Record = Record {
+    name: "WindowsResources",
+    members: &[
+        member!(
+            "memory",
+            Presence::Optional,
+            Schema::One(WINDOWS_MEMORY_RESOURCES)
+        ),
+        member!(
+            "cpu",
+            Presence::Optional,
+            Schema::One(WINDOWS_CPU_RESOURCES)
+        ),
+        member!(
+            "storage",
+            Presence::Optional,
+            Schema::One(WINDOWS_STORAGE_RESOURCES)
+        ),
+    ],
+};
+
+static WINDOWS_RESOURCES_SCHEMA: Schema = Schema::One(WINDOWS_RESOURCES);
+
+/// The members of `WindowsResources`: what a Windows container may use of its host (runtime specification, "Windows-specific Container Configuration", "Resources").
+pub fn windows_resources_record() -> &'static Record
+    ensures { rows (members_in (shape_at shapes) result.now.members.now) ≡ windows_resources }
+{
+    &WINDOWS_RESOURCES_RECORD
+}
+
+/// The schema of `WindowsResources`.
+pub fn windows_resources() -> &'static Schema
+    ensures { schema_shape (shape_at shapes) result.now ≡ windows_resources }
+{
+    &WINDOWS_RESOURCES_SCHEMA
+}
+
+static WINDOWS_STORAGE_RESOURCES_RECORD: Record = Record {
+    name: "WindowsStorageResources",
+    members: &[
+        member!("iops", Presence::Optional, Schema::One(U64)),
+        member!("bps", Presence::Optional, Schema::One(U64)),
+        member!("sandboxSize", Presence::Optional, Schema::One(U64)),
+    ],
+};
+
+static WINDOWS_STORAGE_RESOURCES_SCHEMA: Schema = Schema::One(WINDOWS_STORAGE_RESOURCES);
+
+/// The members of `WindowsStorageResources`: how a Windows container may use its system drive (runtime specification, "Windows-specific Container Configuration", "Storage").
+pub fn windows_storage_resources_record() -> &'static Record
+    ensures { rows (members_in (shape_at shapes) result.now.members.now) ≡ windows_storage_resources }
+{
+    &WINDOWS_STORAGE_RESOURCES_RECORD
+}
+
+/// The schema of `WindowsStorageResources`.
+pub fn windows_storage_resources() -> &'static Schema
+    ensures { schema_shape (shape_at shapes) result.now ≡ windows_storage_resources }
+{
+    &WINDOWS_STORAGE_RESOURCES_SCHEMA
 }
 
 static ZOS_RECORD: Record = Record {

@@ -35,13 +35,10 @@ use crate::linux_records::{
 };
 use crate::platforms::{
     solaris_anet_record, solaris_capped_cpu_record, solaris_capped_memory_record, solaris_record,
-    vm_hypervisor_record, vm_image_record, vm_kernel_record, vm_record, zos_namespace_record,
-    zos_record,
-};
-use crate::platforms_windows::{
+    vm_hypervisor_record, vm_image_record, vm_kernel_record, vm_record,
     windows_cpu_resources_record, windows_device_record, windows_hyper_v_record,
     windows_memory_resources_record, windows_network_record, windows_record,
-    windows_resources_record, windows_storage_resources_record,
+    windows_resources_record, windows_storage_resources_record, zos_namespace_record, zos_record,
 };
 use crate::process::{
     console_box_record, exec_cpu_affinity_record, linux_capabilities_record,

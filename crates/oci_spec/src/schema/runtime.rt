@@ -7,11 +7,8 @@ use oci_features::{
 };
 use oci_platforms::{
     Solaris, SolarisAnet, SolarisCappedCPU, SolarisCappedMemory, VM, VMHypervisor, VMImage,
-    VMKernel, ZOS, ZOSNamespace,
-};
-use oci_platforms_windows::{
-    Windows, WindowsCPUResources, WindowsDevice, WindowsHyperV, WindowsMemoryResources,
-    WindowsNetwork, WindowsResources, WindowsStorageResources,
+    VMKernel, Windows, WindowsCPUResources, WindowsDevice, WindowsHyperV, WindowsMemoryResources,
+    WindowsNetwork, WindowsResources, WindowsStorageResources, ZOS, ZOSNamespace,
 };
 use oci_process::{
     Box, ExecCPUAffinity, LinuxCapabilities, LinuxIOPriority, PosixRlimit, Process, Scheduler, User,
@@ -25,11 +22,9 @@ use oci_schemas::features::{
 };
 use oci_schemas::platforms::{
     solaris, solaris_anet, solaris_capped_cpu, solaris_capped_memory, vm, vm_hypervisor, vm_image,
-    vm_kernel, zos, zos_namespace,
-};
-use oci_schemas::platforms_windows::{
-    windows, windows_cpu_resources, windows_device, windows_hyper_v, windows_memory_resources,
-    windows_network, windows_resources, windows_storage_resources,
+    vm_kernel, windows, windows_cpu_resources, windows_device, windows_hyper_v,
+    windows_memory_resources, windows_network, windows_resources, windows_storage_resources, zos,
+    zos_namespace,
 };
 use oci_schemas::process::{
     console_box, exec_cpu_affinity, linux_capabilities, linux_io_priority, posix_rlimit, process,
