@@ -37,7 +37,7 @@ use Rattle.oci_linux_records.specs.contracts.linux_personality.LinuxPersonality 
 use Rattle.oci_linux_records.specs.LinuxTimeOffset.{linux_time_offset_plain}
 use Rattle.oci_linux_records.specs.declared.linux_time_offset.LinuxTimeOffset.{LinuxTimeOffset}
 use Rattle.oci_linux_records.specs.contracts.linux_time_offset.LinuxTimeOffset as linux_time_offset
-use Rattle.oci_runtime_defaults.specs.Defaults.{default_masked_paths, default_namespaces, default_readonly_paths}
+use Rattle.oci_linux.specs.Defaults.{default_masked_paths, default_namespaces, default_readonly_paths}
 use Rattle.oci_linux.specs.DefaultResources.{default_resources}
 use Rattle.oci_linux.specs.declared.linux.Linux.{Linux}
 use Rattle.oci_linux.specs.contracts.linux.Linux.{the_row}

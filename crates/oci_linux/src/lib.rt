@@ -2,19 +2,12 @@
 #![tactic(auto)]
 
 mod defaults;
+mod device_rule;
 pub mod linux;
 
+pub use defaults::{
+    get_default_maskedpaths, get_default_namespaces, get_default_readonly_paths,
+};
+pub use device_rule::cgroup_of;
 pub use linux::{Linux, LinuxBuilder};
-pub use oci_linux_records::{
-    LinuxDevice, LinuxDeviceBuilder, LinuxIdMapping, LinuxIdMappingBuilder, LinuxNamespace,
-    LinuxNamespaceBuilder, LinuxNetDevice, LinuxNetDeviceBuilder, LinuxTimeOffset,
-    LinuxTimeOffsetBuilder,
-};
-pub use oci_linux_records::{
-    LinuxIntelRdt, LinuxIntelRdtBuilder, LinuxMemoryPolicy, LinuxMemoryPolicyBuilder,
-    LinuxPersonality, LinuxPersonalityBuilder, LinuxSeccomp, LinuxSeccompArg,
-    LinuxSeccompArgBuilder, LinuxSeccompBuilder, LinuxSyscall, LinuxSyscallBuilder,
-};
-pub use oci_runtime_defaults::{
-    cgroup_of, get_default_maskedpaths, get_default_namespaces, get_default_readonly_paths,
-};
+pub use oci_linux_records::{LinuxDevice, LinuxDeviceBuilder, LinuxIdMapping, LinuxIdMappingBuilder, LinuxIntelRdt, LinuxIntelRdtBuilder, LinuxMemoryPolicy, LinuxMemoryPolicyBuilder, LinuxNamespace, LinuxNamespaceBuilder, LinuxNetDevice, LinuxNetDeviceBuilder, LinuxPersonality, LinuxPersonalityBuilder, LinuxSeccomp, LinuxSeccompArg, LinuxSeccompArgBuilder, LinuxSeccompBuilder, LinuxSyscall, LinuxSyscallBuilder, LinuxTimeOffset, LinuxTimeOffsetBuilder};

@@ -6,7 +6,10 @@ pub mod builder;
 mod fields;
 mod rootless;
 
-use crate::defaults::resources_without_rules;
+use crate::defaults::{
+    get_default_maskedpaths, get_default_namespaces, get_default_readonly_paths,
+    resources_without_rules,
+};
 pub use builder::LinuxBuilder;
 use oci_cgroups::LinuxResources;
 use oci_json_model::{
@@ -16,9 +19,6 @@ use oci_json_readers::{Optional, read4, read5};
 use oci_linux_records::{
     LinuxDevice, LinuxIdMapping, LinuxIntelRdt, LinuxMemoryPolicy, LinuxNamespace, LinuxNetDevice,
     LinuxPersonality, LinuxSeccomp, LinuxTimeOffset,
-};
-use oci_runtime_defaults::{
-    get_default_maskedpaths, get_default_namespaces, get_default_readonly_paths,
 };
 use oci_text_base::{OciSpecError, Result};
 use serde_json::Value;

@@ -1,9 +1,10 @@
 //! The smaller records of a container's configuration and life: its root and its mounts, with the mounts that it has by default,
-//! the hooks that are run at its turns, and the state that a runtime reports (runtime specification, "Configuration", "Runtime
-//! and Lifecycle").
+//! the hooks that are run at its turns, and the state that a runtime reports; and what the configuration begins with of a container
+//! that a user without privileges starts (runtime specification, "Configuration", "Runtime and Lifecycle").
 #![tactic(auto)]
 
 mod absent;
+pub mod beginnings;
 pub mod container_process_state;
 mod defaults;
 pub mod hook;
@@ -11,7 +12,9 @@ pub mod hooks;
 pub mod mount;
 pub mod root;
 pub mod state;
+pub mod texts;
 
+pub use beginnings::rootless_parts;
 pub use container_process_state::{ContainerProcessState, ContainerProcessStateBuilder};
 pub use defaults::{get_default_mounts, get_rootless_mounts};
 pub use hook::{Hook, HookBuilder};
@@ -20,6 +23,7 @@ pub use mount::{Mount, MountBuilder};
 pub use oci_runtime_names::ContainerState;
 pub use root::{Root, RootBuilder};
 pub use state::{State, StateBuilder};
+pub use texts::text_of;
 
 /// The name of the file descriptor over which system calls are reported (runtime specification, "Linux Container Configuration",
 /// "The Container Process State", `fds`).

@@ -146,8 +146,8 @@ pub use Rattle.oci_rules.specs.Breaks
 pub use Rattle.oci_rules.specs.Documents
 pub use Rattle.oci_rules.specs.Listed
 pub use Rattle.oci_rules.specs.Tables
-pub use Rattle.oci_runtime_defaults.specs.Defaults
-pub use Rattle.oci_runtime_defaults.specs.DeviceRule
+pub use Rattle.oci_linux.specs.Defaults
+pub use Rattle.oci_linux.specs.DeviceRule
 pub use Rattle.oci_runtime_names.specs.ContainerState
 pub use Rattle.oci_runtime_names.specs.ZOSNamespaceType
 pub use Rattle.oci_runtime_records.specs.ContainerProcessState

@@ -2,16 +2,16 @@
 //! The builder of `Linux`.
 ghost use Rattle.std.specs.Prelude.{◌≡◌, IfOk, IfErr};
 
-use crate::defaults::resources_without_rules;
+use crate::defaults::{
+    get_default_maskedpaths, get_default_namespaces, get_default_readonly_paths,
+    resources_without_rules,
+};
 use crate::linux::Linux;
 use oci_cgroups::LinuxResources;
 use oci_json_model::try_join4;
 use oci_linux_records::{
     LinuxDevice, LinuxIdMapping, LinuxIntelRdt, LinuxMemoryPolicy, LinuxNamespace, LinuxNetDevice,
     LinuxPersonality, LinuxSeccomp, LinuxTimeOffset,
-};
-use oci_runtime_defaults::{
-    get_default_maskedpaths, get_default_namespaces, get_default_readonly_paths,
 };
 use oci_text_base::{OciSpecError, Result};
 use std::alloc::Global;
@@ -42,7 +42,7 @@ pub struct LinuxBuilder {
 impl LinuxBuilder {
     ghost use Rattle.std.specs.Prelude.{Some, unwrap_or, option_map};
     ghost use Rattle.oci_json_model.specs.Plain.{filled};
-    ghost use Rattle.oci_runtime_defaults.specs.Defaults.{default_masked_paths, default_namespaces, default_readonly_paths};
+    ghost use Rattle.oci_linux.specs.Defaults.{default_masked_paths, default_namespaces, default_readonly_paths};
     ghost use Rattle.oci_linux.specs.DefaultResources.{default_resources};
     ghost use Rattle.oci_json_model.specs.Types.{perhaps, text_plain, list_plain};
     ghost use Rattle.oci_cgroups.specs.LinuxResources.{linux_resources_plain};

@@ -7,7 +7,7 @@ use super::Spec;
 use oci_json_model::{try_join2, try_join3};
 use oci_linux::Linux;
 use oci_process::Process;
-use oci_runtime_defaults::{rootless_parts, text_of};
+use oci_runtime_records::{rootless_parts, text_of};
 use oci_text_base::{OciSpecError, Result};
 use std::alloc::Global;
 use std::collections::BTreeMap;

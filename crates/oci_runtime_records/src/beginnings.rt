@@ -7,7 +7,9 @@ ghost use Rattle.oci_runtime_records.specs.DefaultMounts.{rootless_mounts};
 
 use crate::texts::text_of;
 use oci_json_model::try_join3;
-use oci_runtime_records::{Mount, Root, get_rootless_mounts};
+use crate::defaults::get_rootless_mounts;
+use crate::mount::Mount;
+use crate::root::Root;
 use oci_text_base::{OciSpecError, Result};
 use std::alloc::Global;
 

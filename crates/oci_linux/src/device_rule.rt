@@ -1,7 +1,7 @@
 //! The rule for a device that a container has (runtime specification, "Linux Container Configuration", "Allowed Device list").
 ghost use Rattle.std.specs.Prelude.{◌≡◌, IfOk, IfErr};
 ghost use Rattle.oci_cgroups.specs.LinuxDeviceCgroup.{linux_device_cgroup_plain};
-ghost use Rattle.oci_runtime_defaults.specs.DeviceRule.{device_rule};
+ghost use Rattle.oci_linux.specs.DeviceRule.{device_rule};
 
 use oci_cgroups::{LinuxDeviceCgroup, LinuxDeviceCgroupBuilder};
 use oci_linux_records::LinuxDevice;
