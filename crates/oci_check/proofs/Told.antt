@@ -1,8 +1,8 @@
 -- Findings that are made of violations.
 use Rattle.std.proofs.Common.{◌≡◌, ◌<◌, ◌+◌, ℕ, suc, List, [], ◌∷◌, ◌++◌, length, take, map, get_or, refl, sym, ap, ◌∙◌, arith}
 use Rattle.std.specs.Prelude.{◌↔◌}
-use Rattle.oci_schema_walks.specs.declared.violation.Violation.{Violation}
-use Rattle.oci_schema_walks.specs.Violations.{Report, reported}
+use Rattle.oci_schema.specs.declared.violation.Violation.{Violation}
+use Rattle.oci_schema.specs.Violations.{Report, reported}
 use Rattle.oci_report.specs.declared.finding.Finding.{Finding}
 use Rattle.oci_report.specs.Findings.{told, told_of, as_told}
 use Rattle.oci_check.proofs.Each.{one_more, map_both}

@@ -5,7 +5,7 @@ ghost use Rattle.oci_json_model.specs.Plain.{Plain};
 ghost use Rattle.oci_json_model.specs.Means.{Means};
 ghost use Rattle.oci_json_io.specs.Engines.{MeansBytes};
 ghost use Rattle.oci_kinds.specs.Kinds.{shape_of};
-ghost use Rattle.oci_schema_walks.specs.Violations.{violations as all_violations};
+ghost use Rattle.oci_schema.specs.Violations.{violations as all_violations};
 ghost use Rattle.oci_report.specs.Findings.{told, told_of, as_told};
 ghost use Rattle.oci_check.specs.Checks.{IsAllowed, IsAsked, IsReading};
 

@@ -4,8 +4,8 @@ use Rattle.std.specs.Prelude.{◌↔◌}
 use Rattle.oci_json_model.specs.Sizes.{size, items_size, members_size}
 use Rattle.serde_json.specs.Data.{Data, array, object, Items, no_items, item, Members, member}
 use Rattle.serde_json.specs.Find.{get, get_item}
-use Rattle.oci_schema_walks.specs.Places.{under_name, under_index}
-use Rattle.oci_schema_walks.specs.Leads.{Have, LeadsTo}
+use Rattle.oci_schema.specs.Places.{under_name, under_index}
+use Rattle.oci_schema.specs.Leads.{Have, LeadsTo}
 use Rattle.oci_diff.specs.declared.changes.Change.{Change}
 use Rattle.oci_diff.specs.declared.changes.Difference.{Difference}
 use Rattle.oci_diff.specs.Best.{IsStepOf}

@@ -5,8 +5,8 @@ use Rattle.std.specs.Cmp.Lexicographic.{slice_cmp}
 use Rattle.std.proofs.lemmas.Map.Lookups.{exact_bytes}
 use Rattle.serde_json.specs.Data.{Data, null, boolean, number, string, array, object, Members, no_members, member}
 use Rattle.serde_json.specs.Find.{get, get_member}
-use Rattle.oci_schema_walks.specs.Places.{under_name, under_index}
-use Rattle.oci_schema_walks.specs.Leads.{Step, to_member, to_item, spelled, Have, HasMember, HasItem, Goes, LeadsTo}
+use Rattle.oci_schema.specs.Places.{under_name, under_index}
+use Rattle.oci_schema.specs.Leads.{Step, to_member, to_item, spelled, Have, HasMember, HasItem, Goes, LeadsTo}
 
 spelled_on : (way more : List Step) (place : List ℕ) → spelled place (way ++ more) ≡ spelled (spelled place way) more
 spelled_on [] more place = refl

@@ -4,8 +4,8 @@ use Rattle.std.specs.List.{All}
 use Rattle.serde_json.specs.Data.{Data, array, Items}
 use Rattle.serde_json.specs.Find.{get}
 use Rattle.serde_json.specs.View.{view}
-use Rattle.oci_schema_walks.specs.Leads.{LeadsTo}
-use Rattle.oci_schema_walks.specs.Places.{under_name, under_index}
+use Rattle.oci_schema.specs.Leads.{LeadsTo}
+use Rattle.oci_schema.specs.Places.{under_name, under_index}
 use Rattle.oci_diff.specs.Best.{IsStepOf}
 use Rattle.oci_diff.specs.Same.{AreSame}
 use Rattle.oci_diff.specs.declared.aligned.Step.{Step}

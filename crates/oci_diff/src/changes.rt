@@ -3,7 +3,7 @@ ghost use Rattle.std.specs.Prelude.{◌≡◌, ◌≤◌, ◌<◌, ◌↔◌, []
 ghost use Rattle.std.specs.List.{All};
 ghost use Rattle.serde_json.specs.Data.{object, array, Members};
 ghost use Rattle.serde_json.specs.View.{view, items_view, members_view};
-ghost use Rattle.oci_schema_walks.specs.Leads.{Have};
+ghost use Rattle.oci_schema.specs.Leads.{Have};
 ghost use Rattle.oci_diff.specs.Aligned.{IsWithin};
 ghost use Rattle.oci_diff.specs.Best.{IsStepOf};
 ghost use Rattle.oci_diff.specs.Differs.{IsSo, HoldsAt, StandAt, AddsIf};
@@ -11,7 +11,7 @@ ghost use Rattle.oci_diff.specs.Same.{AreSame};
 
 use crate::aligned::{Step, alignment};
 use oci_json_readers::alike::equal_trees;
-use oci_schema_walks::place::{under_index, under_name};
+use oci_schema::place::{under_index, under_name};
 use serde_json::{Map, Value};
 use std::alloc::{AllocError, Global};
 

@@ -5,7 +5,7 @@ ghost use Rattle.oci_json_io.specs.Engines.{MeansBytes, ReadsAs, IsNoJson};
 ghost use Rattle.oci_json_model.specs.Plain.{Plain};
 ghost use Rattle.oci_text_base.specs.Refused.{IsJson, IsSchema};
 ghost use Rattle.oci_ffi.specs.Buffers.{Fills, Overflows, Untouched};
-ghost use Rattle.oci_schema_walks.specs.Violations.{violations as all_violations};
+ghost use Rattle.oci_schema.specs.Violations.{violations as all_violations};
 ghost use Rattle.oci_ffi.specs.Kinds.{shape_of, shape_numbered};
 
 use crate::buffer::put;

@@ -19,7 +19,7 @@ pub use oci_json_model::{
 };
 pub use oci_json_normal::normalize;
 pub use oci_json_readers::{
-    As, Defaulted, MemberReader, Nullable, Optional, Required, UnlessEmpty, optional_as_owned,
-    read1, read2, read3, read4, read5,
+    As, Defaulted, Detail, FreeValues, MemberReader, Nullable, Optional, Required, UnlessEmpty,
+    equal_optional_values, equal_trees, equal_values, optional_as_owned, read1, read2, read3,
+    read4, read5,
 };
-pub use oci_json_readers::{Detail, FreeValues, equal_optional_values, equal_trees, equal_values};

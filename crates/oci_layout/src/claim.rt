@@ -3,7 +3,7 @@ ghost use Rattle.std.specs.Prelude.{IfOk};
 
 use crate::kind::Kind;
 use oci_content::{Checksum, Embedded};
-use oci_schema_walks::Violation;
+use oci_schema::Violation;
 use oci_text::Digest;
 use std::alloc::{AllocError, Global};
 

@@ -3,7 +3,7 @@ use crate::claim::{Claim, Fault, Role};
 use crate::path::blob_path;
 use crate::walk::{Detail, Walk};
 use oci_content::{Embedded, Verdict};
-use oci_schema_walks::Violation;
+use oci_schema::Violation;
 use std::alloc::{AllocError, Global};
 
 /// Something that stands against a layout, or a note on it.

@@ -5,7 +5,7 @@ ghost use Rattle.oci_layout.specs.declared.claim.Claim.{Claim};
 ghost use Rattle.oci_layout.specs.Walk.{IsUnderway, IsWalk, Extends, IsWithin, IsOnly};
 
 use crate::claim::{Claim, Fault, Held, Shown};
-use oci_schema_walks::Violation;
+use oci_schema::Violation;
 use std::alloc::{AllocError, Global};
 use std::collections::BTreeMap;
 

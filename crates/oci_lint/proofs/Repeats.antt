@@ -6,7 +6,7 @@ use Rattle.std.specs.BTreeSet.{BTreeSet, contains_text}
 use Rattle.json.specs.Json.{Members, no_members, member}
 use Rattle.json.specs.Value.{value_view, items_view, members_view}
 use Rattle.json.specs.declared.value.Value.{Value}
-use Rattle.oci_schema_walks.specs.Places.{under_index, under_name}
+use Rattle.oci_schema.specs.Places.{under_index, under_name}
 use Rattle.oci_lint.specs.Twice.{with_name, if_there, repeated, repeated_items, repeated_members, items_size, members_size}
 
 abbrev Entry : Type 0

@@ -7,7 +7,7 @@ use Rattle.std.proofs.lemmas.Map.Made.{AllPairs-from_IsDistinct, IsDistinct-from
 use Rattle.std.proofs.lemmas.Slice.Eq.{bytes_eq-Decides}
 use Rattle.json.specs.Json.{Json, null, boolean, number, string, array, object, Items, no_items, item, Members, no_members, member}
 use Rattle.json.specs.Strict.{keys, AreDistinct, HasUniqueKeys, ItemsHaveUniqueKeys, MembersHaveUniqueKeys}
-use Rattle.oci_schema_walks.specs.Places.{under_name, under_index}
+use Rattle.oci_schema.specs.Places.{under_name, under_index}
 use Rattle.oci_lint.specs.Twice.{no_name, with_name, if_there, repeated, repeated_items, repeated_members}
 
 none_first : (xs ys : List (List ℕ)) → xs ++ ys ≡ [] → xs ≡ []

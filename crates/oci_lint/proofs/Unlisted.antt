@@ -8,8 +8,8 @@ use Rattle.serde_json.specs.Find.{as_array, as_object, get, get_item}
 use Rattle.oci_text_base.specs.Names.{is_listed}
 use Rattle.oci_json_model.specs.Shape as shape
 use Rattle.oci_json_model.specs.Shape.{Shape, text, truth, whole, named, open_name, digest_text, cpu_text, cap_set, list, key_set, detail, free_map, rows, Rows, no_rows, row, names}
-use Rattle.oci_schema_walks.specs.Leads.{Have}
-use Rattle.oci_schema_walks.specs.Places.{under_name, under_index}
+use Rattle.oci_schema.specs.Leads.{Have}
+use Rattle.oci_schema.specs.Places.{under_name, under_index}
 use Rattle.oci_lint.specs.Unknown.{Report, IsRecord, IsRecordIn, IsUnder, IsUnknown, unless_listed, unlisted, unlisted_in, of_each, of_items, of_each_member, of_members, of_part, of_named, unknown, unknown_in}
 use Rattle.oci_lint.specs.Reported.{reported}
 use Rattle.oci_lint.specs.declared.unknown.UnknownMember.{UnknownMember}

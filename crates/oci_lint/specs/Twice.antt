@@ -1,7 +1,7 @@
 -- Names that stand twice in one object: two readers may take different members (RFC 8259, section 4, "Objects").
 use Rattle.std.specs.Prelude.{ℕ, suc, ◌+◌, ◌||◌, List, [], ◌∷◌, ◌++◌, Bool, false, bytes_eq, if◌then◌else◌}
 use Rattle.json.specs.Json.{Json, null, boolean, number, string, array, object, Items, no_items, item, Members, no_members, member}
-use Rattle.oci_schema_walks.specs.Places.{under_name, under_index}
+use Rattle.oci_schema.specs.Places.{under_name, under_index}
 
 -- the names of the members before, by what is one of them; none
 abbrev pub no_name : List ℕ → Bool

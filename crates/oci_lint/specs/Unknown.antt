@@ -5,8 +5,8 @@ use Rattle.serde_json.specs.Find.{as_array, as_object, get}
 use Rattle.oci_text_base.specs.Names.{is_listed}
 use Rattle.oci_json_model.specs.Shape as shape
 use Rattle.oci_json_model.specs.Shape.{Shape, text, truth, whole, named, open_name, digest_text, cpu_text, cap_set, list, key_set, detail, free_map, rows, Rows, no_rows, row, names}
-use Rattle.oci_schema_walks.specs.Leads.{HasMember, HasItem}
-use Rattle.oci_schema_walks.specs.Places.{under_name, under_index}
+use Rattle.oci_schema.specs.Leads.{HasMember, HasItem}
+use Rattle.oci_schema.specs.Places.{under_name, under_index}
 
 -- the pointer of a member, its name, and the names that the record lists there
 abbrev pub Report : Type 0

@@ -7,7 +7,7 @@ ghost use Rattle.json.specs.Value.{value_view, items_view, members_view};
 ghost use Rattle.oci_lint.specs.Twice.{repeated, repeated_items, repeated_members, no_name, with_name, if_there};
 
 use json::{Error, Scratch, Value};
-use oci_schema_walks::place::{under_index, under_name};
+use oci_schema::place::{under_index, under_name};
 use std::alloc::{AllocError, Global};
 use std::collections::BTreeSet;
 

@@ -6,12 +6,12 @@ ghost use Rattle.serde_json.specs.View.{view, items_view, members_view};
 ghost use Rattle.oci_text_base.specs.Names.{is_listed as is_name_of};
 ghost use Rattle.oci_json_model.specs.Shape.{with_second};
 ghost use Rattle.oci_schema_types.specs.Shapes.{part_shape, schema_shape, members_in, alias_of};
-ghost use Rattle.oci_schema_walks.specs.Places.{under_name as under};
+ghost use Rattle.oci_schema.specs.Places.{under_name as under};
 ghost use Rattle.oci_lint.specs.Reported.{reported, names_in};
 ghost use Rattle.oci_lint.specs.Unknown.{Report, IsUnknown, unknown, unknown_in, unlisted, unlisted_in, unless_listed, of_named, of_part, of_each, of_each_member};
 
+use oci_schema::place::{under_index, under_name};
 use oci_schema_types::{Member, Part, Record, Records, Schema};
-use oci_schema_walks::place::{under_index, under_name};
 use serde_json::{Map, Value};
 use std::alloc::{AllocError, Global};
 

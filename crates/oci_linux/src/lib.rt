@@ -5,9 +5,14 @@ mod defaults;
 mod device_rule;
 pub mod linux;
 
-pub use defaults::{
-    get_default_maskedpaths, get_default_namespaces, get_default_readonly_paths,
-};
+pub use defaults::{get_default_maskedpaths, get_default_namespaces, get_default_readonly_paths};
 pub use device_rule::cgroup_of;
 pub use linux::{Linux, LinuxBuilder};
-pub use oci_linux_records::{LinuxDevice, LinuxDeviceBuilder, LinuxIdMapping, LinuxIdMappingBuilder, LinuxIntelRdt, LinuxIntelRdtBuilder, LinuxMemoryPolicy, LinuxMemoryPolicyBuilder, LinuxNamespace, LinuxNamespaceBuilder, LinuxNetDevice, LinuxNetDeviceBuilder, LinuxPersonality, LinuxPersonalityBuilder, LinuxSeccomp, LinuxSeccompArg, LinuxSeccompArgBuilder, LinuxSeccompBuilder, LinuxSyscall, LinuxSyscallBuilder, LinuxTimeOffset, LinuxTimeOffsetBuilder};
+pub use oci_linux_records::{
+    LinuxDevice, LinuxDeviceBuilder, LinuxIdMapping, LinuxIdMappingBuilder, LinuxIntelRdt,
+    LinuxIntelRdtBuilder, LinuxMemoryPolicy, LinuxMemoryPolicyBuilder, LinuxNamespace,
+    LinuxNamespaceBuilder, LinuxNetDevice, LinuxNetDeviceBuilder, LinuxPersonality,
+    LinuxPersonalityBuilder, LinuxSeccomp, LinuxSeccompArg, LinuxSeccompArgBuilder,
+    LinuxSeccompBuilder, LinuxSyscall, LinuxSyscallBuilder, LinuxTimeOffset,
+    LinuxTimeOffsetBuilder,
+};

@@ -3,8 +3,8 @@ use Rattle.std.specs.Prelude.{ℕ, List, [], ◌++◌, codes, string_bytes, Stri
 use Rattle.std.specs.declared.alloc.Global.{Global}
 use Rattle.oci_rules.specs.Breaks.{Told}
 use Rattle.oci_rules.specs.Tables.{rule_of}
-use Rattle.oci_schema_walks.specs.Violations.{Report, Expectation, expectation_of, reported}
-use Rattle.oci_schema_walks.specs.declared.violation.Violation.{Violation}
+use Rattle.oci_schema.specs.Violations.{Report, Expectation, expectation_of, reported}
+use Rattle.oci_schema.specs.declared.violation.Violation.{Violation}
 use Rattle.oci_report.specs.declared.finding.Cause.{Cause}
 use Rattle.oci_report.specs.declared.finding.Cause.TheVariants.{Json, Kind, Schema, Rule, Unknown, Repeated}
 use Rattle.oci_report.specs.declared.finding.Finding.{Finding}

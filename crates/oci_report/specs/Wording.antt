@@ -3,10 +3,10 @@ use Rattle.std.specs.Prelude.{ℕ, Bool, true, false, List, [], ◌∷◌, ◌++
 use Rattle.std.specs.Fmt.{signed_decimal}
 use Rattle.oci_schema_types.specs.declared.scalar.Scalar.{Scalar}
 use Rattle.oci_schema_types.specs.declared.scalar.Scalar.TheVariants as scalar
-use Rattle.oci_schema_walks.specs.declared.violation.Kind.{Kind}
-use Rattle.oci_schema_walks.specs.declared.violation.Kind.TheVariants as kind
-use Rattle.oci_schema_walks.specs.declared.violation.Expected.{Expected}
-use Rattle.oci_schema_walks.specs.declared.violation.Expected.TheVariants as expected
+use Rattle.oci_schema.specs.declared.violation.Kind.{Kind}
+use Rattle.oci_schema.specs.declared.violation.Kind.TheVariants as kind
+use Rattle.oci_schema.specs.declared.violation.Expected.{Expected}
+use Rattle.oci_schema.specs.declared.violation.Expected.TheVariants as expected
 
 -- what is before the first name, and before another one
 abbrev pub mark_text : Bool → List ℕ

@@ -7,7 +7,7 @@ ghost use Rattle.oci_report.specs.declared.finding.Cause.TheVariants.{Unknown};
 use crate::place::Place;
 use crate::wording::push_expected;
 use oci_rules::Rule;
-use oci_schema_walks::Expected;
+use oci_schema::Expected;
 use std::alloc::{AllocError, Global};
 
 /// Why a finding was made.

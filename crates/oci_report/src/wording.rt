@@ -3,8 +3,8 @@ ghost use Rattle.std.specs.Prelude.{◌≡◌, ◌++◌, OnOk, codes, map, strin
 ghost use Rattle.std.specs.Fmt.{signed_decimal};
 ghost use Rattle.oci_report.specs.Wording.{scalar_words, kind_words, expected_words, marked, mark_text};
 
+use oci_schema::{Expected, Kind};
 use oci_schema_types::Scalar;
-use oci_schema_walks::{Expected, Kind};
 use std::alloc::{AllocError, Global};
 
 /// Adds what a scalar may be.

@@ -18,8 +18,8 @@ use crate::paths::{is_guid, is_rootfs_path, is_unc_path, is_volume_guid_path, is
 use crate::settings::{is_port_spec, is_signal_name, is_user_spec};
 use crate::uris::{is_http_uri, is_uri};
 use crate::versions::is_semver;
-use oci_runtime_names::is_cpu_list;
 use oci_reference_scan::parts;
+use oci_runtime_names::is_cpu_list;
 use oci_text::is_digest;
 
 /// A grammar that a rule asks for.

@@ -5,8 +5,8 @@ use Rattle.std.specs.List.{Contains}
 use Rattle.std.proofs.lemmas.List.Elements.{Contains-append_right, Contains-append_cases}
 use Rattle.serde_json.specs.Data.{Data, string, Items, no_items, item, Members, no_members, member}
 use Rattle.serde_json.specs.Find.{as_array, as_object, get_item}
-use Rattle.oci_schema_walks.specs.Places.{under_name, under_index}
-use Rattle.oci_schema_walks.specs.Leads.{Have, HasMember}
+use Rattle.oci_schema.specs.Places.{under_name, under_index}
+use Rattle.oci_schema.specs.Leads.{Have, HasMember}
 use Rattle.oci_rules.specs.Rules.{Platform, Condition, Place, here, under, each_item, each_member, each_name, if_so, Rule}
 use Rattle.oci_rules.specs.Platforms.{is_for}
 use Rattle.oci_rules.specs.Parts.{present}

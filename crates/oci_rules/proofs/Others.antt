@@ -5,7 +5,7 @@ use Rattle.std.specs.Bool.{Decides}
 use Rattle.std.specs.List.{Contains}
 use Rattle.serde_json.specs.Data.{Data, Items, no_items, item}
 use Rattle.serde_json.specs.Find.{as_str, get_item}
-use Rattle.oci_schema_walks.specs.Places.{under_index}
+use Rattle.oci_schema.specs.Places.{under_index}
 use Rattle.oci_rules.specs.Rules.{Rule}
 use Rattle.oci_rules.specs.Tests.{EachItem, SomeItem, IsAmong}
 use Rattle.oci_rules.specs.Breaks.{Told}

@@ -5,7 +5,7 @@ use Rattle.serde_json.specs.Data.{Data, string, item, Members, member}
 use Rattle.serde_json.specs.View.{view, items_view}
 use Rattle.serde_json.specs.declared.value.Value as value
 use Rattle.serde_json.specs.declared.value.Value.{Value, the_lemmas}
-use Rattle.oci_schema_walks.specs.Places.{under_index, under_name}
+use Rattle.oci_schema.specs.Places.{under_index, under_name}
 use Rattle.oci_rules.specs.Breaks.{Told}
 use Rattle.oci_rules.specs.Listed.{of_each, of_each_member, of_each_name}
 use Rattle.oci_rules.proofs.Steps.{cut_at}

@@ -6,7 +6,7 @@ use Rattle.serde_json.specs.Data.{Items, no_items, item}
 use Rattle.serde_json.specs.Find.{as_str}
 use Rattle.serde_json.specs.View.{view, items_view}
 use Rattle.serde_json.specs.declared.value.Value.{Value}
-use Rattle.oci_schema_walks.specs.Places.{under_index}
+use Rattle.oci_schema.specs.Places.{under_index}
 use Rattle.oci_rules.specs.Rules.{Rule, Key}
 use Rattle.oci_rules.specs.Parts.{key_of}
 use Rattle.oci_rules.specs.Breaks.{Told}

@@ -9,7 +9,7 @@ use Rattle.serde_json.specs.Data.{Data, Items, no_items}
 use Rattle.serde_json.specs.Find.{as_bool, as_str, as_array, as_object, get_item}
 use Rattle.oci_json_model.specs.Means.{as_whole, is_object}
 use Rattle.oci_text_base.specs.Names.{is_listed}
-use Rattle.oci_schema_walks.specs.Places.{under_name, under_index}
+use Rattle.oci_schema.specs.Places.{under_name, under_index}
 use Rattle.oci_rule_texts.specs.Grammars.{IsOf}
 use Rattle.oci_rules.specs.Rules.{Key, Test, text, one_of, none_of, begins, reserved, within, truth, there, absent, either, not_empty, length_at_most, at_most, sum_at_most, lists, lists_item, distinct, among, Rule}
 use Rattle.oci_rules.specs.Parts.{text_at, whole_at, natural_at, items_at, extent}

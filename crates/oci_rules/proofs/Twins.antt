@@ -5,7 +5,7 @@ use Rattle.std.specs.List.{Contains}
 use Rattle.std.proofs.lemmas.Slice.Eq.{bytes_eq-Decides}
 use Rattle.serde_json.specs.Data.{Data, Items, no_items, item}
 use Rattle.serde_json.specs.Find.{get_item}
-use Rattle.oci_schema_walks.specs.Places.{under_index}
+use Rattle.oci_schema.specs.Places.{under_index}
 use Rattle.oci_rules.specs.Rules.{Rule, Key}
 use Rattle.oci_rules.specs.Parts.{key_of}
 use Rattle.oci_rules.specs.Tests.{EachItem, AreDistinct}

@@ -3,8 +3,8 @@ use Rattle.std.specs.Prelude.{ℕ, ◌<◌, ◌≡◌, List, [], Some, unwrap_or
 use Rattle.std.specs.List.{Contains}
 use Rattle.serde_json.specs.Data.{Data, string, Items, no_items}
 use Rattle.serde_json.specs.Find.{get_item}
-use Rattle.oci_schema_walks.specs.Places.{under_name, under_index}
-use Rattle.oci_schema_walks.specs.Leads.{HasMember, HasItem}
+use Rattle.oci_schema.specs.Places.{under_name, under_index}
+use Rattle.oci_schema.specs.Leads.{HasMember, HasItem}
 use Rattle.oci_rules.specs.Rules.{Platform, Key, Test, text, one_of, none_of, begins, reserved, within, truth, there, absent, either, not_empty, length_at_most, at_most, sum_at_most, lists, lists_item, distinct, among, Place, here, under, each_item, each_member, each_name, if_so, Rule}
 use Rattle.oci_rules.specs.Platforms.{is_for}
 use Rattle.oci_rules.specs.Parts.{present, items_at, key_of}

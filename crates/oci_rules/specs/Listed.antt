@@ -2,7 +2,7 @@
 use Rattle.std.specs.Prelude.{ℕ, ◌+◌, ◌||◌, Bool, false, not, bytes_eq, if◌then◌else◌, List, [], ◌∷◌, ◌++◌, Option, Some, None, unwrap_or}
 use Rattle.serde_json.specs.Data.{Data, string, Items, no_items, item, Members, no_members, member}
 use Rattle.serde_json.specs.Find.{as_str, as_array, as_object}
-use Rattle.oci_schema_walks.specs.Places.{under_name, under_index}
+use Rattle.oci_schema.specs.Places.{under_name, under_index}
 use Rattle.oci_rules.specs.Rules.{Platform, Key, Test, there, absent, at_most, distinct, among, Place, here, under, each_item, each_member, each_name, if_so, Rule}
 use Rattle.oci_rules.specs.Rules as rules
 use Rattle.oci_rules.specs.Parts.{present, items_at, key_of}

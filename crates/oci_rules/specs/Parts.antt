@@ -7,7 +7,7 @@ use Rattle.serde_json.specs.Events.{items_len, members_len}
 use Rattle.serde_json.specs.Find.{as_str, as_array, as_object, as_number, as_u64, get}
 use Rattle.oci_json_model.specs.Means.{as_whole, unless_null}
 use Rattle.oci_text_base.specs.Classes.{until}
-use Rattle.oci_schema_walks.specs.Places.{under_name}
+use Rattle.oci_schema.specs.Places.{under_name}
 use Rattle.oci_rules.specs.Rules.{Key, itself, members, entry_name}
 
 -- the member of this name

@@ -12,7 +12,7 @@ use crate::items::{add_items_broken, push};
 use crate::parts::present;
 use crate::passes::{passes, pointer_of};
 use crate::rule::{Broken, Platform, Rule, Step};
-use oci_schema_walks::place::{under_index, under_name};
+use oci_schema::place::{under_index, under_name};
 use serde_json::{Map, Value};
 use std::alloc::{AllocError, Global};
 

@@ -4,7 +4,7 @@ ghost use Rattle.std.specs.BTreeSet.{contains_text};
 ghost use Rattle.serde_json.specs.Data.{no_items};
 ghost use Rattle.serde_json.specs.Find.{as_str};
 ghost use Rattle.serde_json.specs.View.{view, items_view};
-ghost use Rattle.oci_schema_walks.specs.Places.{under_index as index_under, under_name as name_under};
+ghost use Rattle.oci_schema.specs.Places.{under_index as index_under, under_name as name_under};
 ghost use Rattle.oci_rules.specs.Decided.{there_and, if_any};
 ghost use Rattle.oci_rules.specs.Listed.{unless, no_text, with_text, has_text, twins, others, items_told, others_of};
 ghost use Rattle.oci_rules.specs.Parts as parts;
@@ -13,7 +13,7 @@ ghost use Rattle.oci_rules.specs.Tables.{told, rule_of, test_of, key_of as key_f
 use crate::keys::key_of;
 use crate::parts::items_at;
 use crate::rule::{Broken, Key, Rule, Test};
-use oci_schema_walks::place::{under_index, under_name};
+use oci_schema::place::{under_index, under_name};
 use serde_json::Value;
 use std::alloc::{AllocError, Global};
 use std::collections::BTreeSet;

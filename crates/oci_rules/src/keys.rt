@@ -7,7 +7,7 @@ ghost use Rattle.oci_rules.specs.Tables.{texts_of, ways_of, key_of as key_for};
 
 use crate::parts::{led, whole};
 use crate::rule::Key;
-use oci_schema_walks::place::under_name;
+use oci_schema::place::under_name;
 use serde_json::Value;
 use std::alloc::{AllocError, Global};
 

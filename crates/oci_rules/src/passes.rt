@@ -11,7 +11,7 @@ use crate::conditions::{has_text, is_among, is_in};
 use crate::parts::{extent, has, natural_at, text_at, whole, whole_at};
 use crate::rule::Test;
 use oci_rule_texts::Grammar;
-use oci_schema_walks::place::under_name;
+use oci_schema::place::under_name;
 use serde_json::Value;
 use std::alloc::{AllocError, Global};
 

@@ -5,11 +5,11 @@ ghost use Rattle.oci_runtime_records.specs.Root.{root_plain, default_root};
 ghost use Rattle.oci_runtime_records.specs.Mount.{mount_plain};
 ghost use Rattle.oci_runtime_records.specs.DefaultMounts.{rootless_mounts};
 
-use crate::texts::text_of;
-use oci_json_model::try_join3;
 use crate::defaults::get_rootless_mounts;
 use crate::mount::Mount;
 use crate::root::Root;
+use crate::texts::text_of;
+use oci_json_model::try_join3;
 use oci_text_base::{OciSpecError, Result};
 use std::alloc::Global;
 

@@ -13,7 +13,7 @@ use Rattle.oci_text_base.specs.declared.error.OciSpecError.{OciSpecError}
 use Rattle.oci_text_base.specs.declared.error.OciSpecError.TheVariants.{Other, Io, SerDe, Builder, Memory}
 use Rattle.oci_json_io.specs.Engines.{MeansBytes, ReadsAs, IsNotNormalized, AppendsSome}
 use Rattle.oci_schema.specs.Normalizes.{Normalizes}
-use Rattle.oci_schema_walks.specs.Normalized.{HasNoNormalForm}
+use Rattle.oci_schema.specs.Normalized.{HasNoNormalForm}
 
 pub bytes_mean : (s : Shape) (input : Option (List ℕ)) (d : Data) (p : Plain) → IfSome input (λ bytes. ReadsAs bytes d) → Means s d p → IfSome input (λ bytes. MeansBytes s bytes p)
 bytes_mean s None d p read means = read

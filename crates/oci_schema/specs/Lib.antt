@@ -1,1 +1,11 @@
+pub mod Allows
+pub mod Given
+pub mod Leads
+pub mod Lines
+pub mod Normal
+pub mod Normalized
 pub mod Normalizes
+pub mod Places
+pub mod Plain
+pub mod Violations
+pub mod Wants

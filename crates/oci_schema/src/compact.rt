@@ -10,7 +10,7 @@ ghost use Rattle.oci_json_io.specs.Engines.{MeansBytes, WritesDocument, ReadsBac
 ghost use Rattle.oci_schema_types.specs.Shapes.{schema_shape};
 ghost use Rattle.oci_schema.specs.Normalizes.{Normalizes};
 
-use crate::normal_value::normalize_value;
+use crate::value::normalize_value;
 use oci_json_io::{value_from_reader, write_text};
 use oci_schema_types::{Records, Schema};
 use oci_text_base::Result;

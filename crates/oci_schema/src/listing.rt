@@ -5,13 +5,13 @@ ghost use Rattle.serde_json.specs.View.{view};
 ghost use Rattle.oci_json_model.specs.Plain.{Plain};
 ghost use Rattle.oci_json_model.specs.Means.{Means};
 ghost use Rattle.oci_schema_types.specs.Shapes.{schema_shape};
-ghost use Rattle.oci_schema_walks.specs.Lines.{lines};
-ghost use Rattle.oci_schema_walks.specs.Violations.{Report, reported, violations as all_violations};
-ghost use Rattle.oci_schema_walks.specs.Wants.{IsViolation};
+ghost use Rattle.oci_schema.specs.Lines.{lines};
+ghost use Rattle.oci_schema.specs.Violations.{Report, reported, violations as all_violations};
+ghost use Rattle.oci_schema.specs.Wants.{IsViolation};
 
+use crate::Violation;
+use crate::find::add_violations;
 use oci_schema_types::{Records, Schema};
-use oci_schema_walks::Violation;
-use oci_schema_walks::find::add_violations;
 use serde_json::Value;
 use std::alloc::{AllocError, Global};
 

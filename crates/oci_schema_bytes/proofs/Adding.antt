@@ -11,8 +11,8 @@ use Rattle.oci_json_model.specs.Value.{with_member}
 use Rattle.oci_json_tape.specs.Elements.{BeginsWithData}
 use Rattle.oci_schema_types.specs.Shapes.{presence_of, alias_of, schema_shape}
 use Rattle.oci_schema_types.specs.declared.record.Member.{Member}
-use Rattle.oci_schema_walks.specs.Given.{given, written as written_by}
-use Rattle.oci_schema_walks.specs.Normalized.{normalized, known_accepted, known_normalized}
+use Rattle.oci_schema.specs.Given.{given, written as written_by}
+use Rattle.oci_schema.specs.Normalized.{normalized, known_accepted, known_normalized}
 use Rattle.oci_schema_bytes.specs.Fields.{written_for, accepted_for, FieldMeans, EachField, FieldIsAccepted, AreAccepted}
 use Rattle.oci_schema_bytes.specs.Objects.{Covers, AreInOrder, Finds, IsObject, IsAt, IsPlaceOf, WritesAt, Adds, AddsField, fields_in}
 use Rattle.oci_schema_bytes.specs.declared.object.Object.{Object}

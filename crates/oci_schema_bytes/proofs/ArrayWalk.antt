@@ -7,8 +7,8 @@ use Rattle.serde_json.specs.Written.{outline, items_outline}
 use Rattle.oci_json.specs.Readable.{IsReadable, AreReadable}
 use Rattle.oci_json_model.specs.Shape.{Shape, list}
 use Rattle.oci_json_tape.specs.Walked.{InItemsData, NextItemData}
-use Rattle.oci_schema_walks.specs.Allows.{each_allowed}
-use Rattle.oci_schema_walks.specs.Normalized.{accepts, normalized, each_normalized}
+use Rattle.oci_schema.specs.Allows.{each_allowed}
+use Rattle.oci_schema.specs.Normalized.{accepts, normalized, each_normalized}
 use Rattle.oci_schema_bytes.specs.Walks.{WritesTree, WritesNormal}
 
 -- the tokens of the items' normal forms, with the closing bracket

@@ -21,11 +21,11 @@ use Rattle.oci_json.specs.Readable.{IsReadable}
 use Rattle.oci_json.proofs.OneMeaning.{one_meaning}
 use Rattle.oci_json.proofs.ReadAgain.{compact_read}
 use Rattle.oci_json_model.proofs.NoFloat.{none_written}
-use Rattle.oci_schema_walks.specs.Normalized.{accepts, normalized}
-use Rattle.oci_schema_walks.specs.Violations.{violations}
-use Rattle.oci_schema_walks.proofs.Empty.{none_is_meant}
-use Rattle.oci_schema_walks.proofs.Accepted.{sound, accepted}
-use Rattle.oci_schema_walks.proofs.NormalForms.{told}
+use Rattle.oci_schema.specs.Normalized.{accepts, normalized}
+use Rattle.oci_schema.specs.Violations.{violations}
+use Rattle.oci_schema.proofs.Empty.{none_is_meant}
+use Rattle.oci_schema.proofs.Accepted.{sound, accepted}
+use Rattle.oci_schema.proofs.NormalForms.{told}
 use Rattle.oci_schema_bytes.specs.Texts.{IsNormalText, IsDocumentText, MakesText}
 
 -- bytes are read as one value

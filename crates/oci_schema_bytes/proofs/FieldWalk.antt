@@ -14,9 +14,9 @@ use Rattle.oci_json_model.specs.Means.{is_object, get_second}
 use Rattle.oci_json_tape.specs.Elements.{BeginsWithData}
 use Rattle.oci_schema_types.specs.Shapes.{members_in, schema_shape}
 use Rattle.oci_schema_types.specs.declared.record.Member.{Member}
-use Rattle.oci_schema_walks.specs.Normalized.{accepts, rows_accept, normalized, normalized_member, normalized_rows, chosen, known_accepted, known_normalized}
-use Rattle.oci_schema_walks.proofs.Decides.{both}
-use Rattle.oci_schema_walks.proofs.Listed.{drop_at}
+use Rattle.oci_schema.specs.Normalized.{accepts, rows_accept, normalized, normalized_member, normalized_rows, chosen, known_accepted, known_normalized}
+use Rattle.oci_schema.proofs.Decides.{both}
+use Rattle.oci_schema.proofs.Listed.{drop_at}
 use Rattle.oci_schema_bytes.specs.Fields.{Field, written_for, FieldMeans, EachField, FieldIsAccepted, AreAccepted, AreFieldsOf}
 use Rattle.oci_schema_bytes.specs.Walks.{IfDone, WritesTree, WritesMembers, WritesNormal}
 

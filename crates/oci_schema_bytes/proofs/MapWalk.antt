@@ -11,9 +11,9 @@ use Rattle.serde_json.specs.Written.{outline, members_outline}
 use Rattle.oci_json.specs.Readable.{IsBefore, IsReadable}
 use Rattle.oci_json_model.specs.Shape.{Shape, map}
 use Rattle.oci_json_tape.specs.Walked.{InMembersData, NextMemberData}
-use Rattle.oci_schema_walks.specs.Allows.{each_member_allowed}
-use Rattle.oci_schema_walks.specs.Normalized.{accepts, normalized, each_member_normalized}
-use Rattle.oci_schema_walks.proofs.Decides.{both, first_of, later_of}
+use Rattle.oci_schema.specs.Allows.{each_member_allowed}
+use Rattle.oci_schema.specs.Normalized.{accepts, normalized, each_member_normalized}
+use Rattle.oci_schema.proofs.Decides.{both, first_of, later_of}
 use Rattle.oci_schema_bytes.specs.Walks.{WritesTree, WritesNormal, IsAfter}
 
 -- the name comes after each of these

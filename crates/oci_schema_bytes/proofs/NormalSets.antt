@@ -12,9 +12,9 @@ use Rattle.oci_json_tape.specs.Elements.{BeginsWithData, FindsData}
 use Rattle.oci_json_tape.specs.Walked.{InItemsData, NextItemData}
 use Rattle.oci_runtime_names.specs.Capability.{capability_name, capability_table, all_capability}
 use Rattle.oci_runtime_names.specs.declared.capability.Capability.{Capability}
-use Rattle.oci_schema_walks.specs.Normalized.{accepts, normalized, each_normalized}
-use Rattle.oci_schema_walks.proofs.Listed.{drop_at}
-use Rattle.oci_schema_walks.proofs.NormalForms.{told}
+use Rattle.oci_schema.specs.Normalized.{accepts, normalized, each_normalized}
+use Rattle.oci_schema.proofs.Listed.{drop_at}
+use Rattle.oci_schema.proofs.NormalForms.{told}
 use Rattle.oci_schema_bytes.specs.Walks.{WritesTree, IsNormalSet}
 use Rattle.oci_schema_bytes.proofs.Written.{Wrote}
 

@@ -11,9 +11,9 @@ use Rattle.oci_json_model.specs.Value.{value}
 use Rattle.oci_schema_types.specs.Shapes.{presence_of, alias_of, schema_shape}
 use Rattle.oci_schema_types.specs.declared.record.Member.{Member}
 use Rattle.oci_schema_types.specs.declared.scalar.Presence.{Presence}
-use Rattle.oci_schema_walks.specs.Allows.{member_allowed, either_allowed}
-use Rattle.oci_schema_walks.specs.Given.{given, may_be_null, unless_null_counts, written}
-use Rattle.oci_schema_walks.specs.Normalized.{accepts, normalized, normalized_member, unless_no_items, chosen, known_accepted, known_normalized}
+use Rattle.oci_schema.specs.Allows.{member_allowed, either_allowed}
+use Rattle.oci_schema.specs.Given.{given, may_be_null, unless_null_counts, written}
+use Rattle.oci_schema.specs.Normalized.{accepts, normalized, normalized_member, unless_no_items, chosen, known_accepted, known_normalized}
 use Rattle.oci_schema_bytes.specs.Fields.{written_for, accepted_for}
 
 -- ---- null

@@ -8,8 +8,8 @@ use Rattle.oci_json.specs.Readable.{IsHeld}
 use Rattle.oci_json_model.specs.Means.{as_whole}
 use Rattle.oci_json_model.specs.Shape as shape
 use Rattle.oci_json_model.specs.Shape.{Shape, truth, whole, named, open_name, digest_text, cpu_text, cap_set, list, key_set, detail, free_map, rows}
-use Rattle.oci_schema_walks.specs.Allows.{is_in_range}
-use Rattle.oci_schema_walks.specs.Normalized.{accepts, normalized}
+use Rattle.oci_schema.specs.Allows.{is_in_range}
+use Rattle.oci_schema.specs.Normalized.{accepts, normalized}
 use Rattle.oci_schema_bytes.specs.Walks.{WritesTree, IsTextOf, WritesWhole}
 
 pub string_kept : (d : Data) (t : List ℕ) → as_str d ≡ Some t → d ≡ string t

@@ -8,8 +8,8 @@ use Rattle.oci_json_model.specs.Value.{value}
 use Rattle.oci_json_tape.specs.Elements.{BeginsWithData}
 use Rattle.oci_schema_types.specs.Shapes.{presence_of, schema_shape}
 use Rattle.oci_schema_types.specs.declared.record.Member.{Member}
-use Rattle.oci_schema_walks.specs.Allows.{member_allowed}
-use Rattle.oci_schema_walks.specs.Normalized.{accepts, rows_accept, normalized, normalized_member, normalized_rows}
+use Rattle.oci_schema.specs.Allows.{member_allowed}
+use Rattle.oci_schema.specs.Normalized.{accepts, rows_accept, normalized, normalized_member, normalized_rows}
 
 -- A member that is written: where its value stands, or none if what is written is that of an absent member.
 pub record Field : Type 0 where

@@ -10,7 +10,7 @@ use Rattle.oci_json_io.specs.Engines.{MeansBytes, ReadsBack, IsNotNormalized, Is
 use Rattle.oci_json_model.specs.Plain.{Plain}
 use Rattle.oci_json_model.specs.Shape.{Shape}
 use Rattle.oci_json_model.specs.Value.{value}
-use Rattle.oci_schema_walks.specs.Normalized.{accepts, normalized}
+use Rattle.oci_schema.specs.Normalized.{accepts, normalized}
 
 -- the value is accepted, and the text is that of its normal form, which is one that a text may be read as
 abbrev pub IsNormalText : Shape → Data → List ℕ → Type 0

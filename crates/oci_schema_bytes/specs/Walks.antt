@@ -17,8 +17,8 @@ use Rattle.oci_json_tape.specs.Elements.{BeginsWithData}
 pub use Rattle.oci_json_tape.specs.Values.{IfDone}
 use Rattle.oci_runtime_names.specs.Capability.{capability_table}
 use Rattle.oci_runtime_names.specs.CpuScan.{is_cpu_text}
-use Rattle.oci_schema_walks.specs.Allows.{is_digest_text, is_in_range}
-use Rattle.oci_schema_walks.specs.Normalized.{accepts, normalized}
+use Rattle.oci_schema.specs.Allows.{is_digest_text, is_in_range}
+use Rattle.oci_schema.specs.Normalized.{accepts, normalized}
 
 -- the tree, which is one that a text may be read as, was written
 abbrev pub WritesTree : Data → List Token → List Token → Type 0

@@ -3,13 +3,13 @@
 ghost use Rattle.std.specs.Prelude.{ℕ, IsTrue};
 ghost use Rattle.oci_json_model.specs.Shape.{Shape, map};
 ghost use Rattle.oci_schema_types.specs.Shapes.{part_shape, scalar_shape, schema_shape};
-ghost use Rattle.oci_schema_walks.specs.Normalized.{IsSound};
+ghost use Rattle.oci_schema.specs.Normalized.{IsSound};
 ghost use Rattle.oci_schema_bytes.specs.Walks.{IfDone, WritesNormal};
 
 use json::Element;
 use oci_json_tape::{CompactWriter, value_of, write_value};
+use oci_schema::normal_value::normal_value;
 use oci_schema_types::{Part, Records, Scalar, Schema};
-use oci_schema_walks::normal_value::normal_value;
 use oci_text_base::OciSpecError;
 use std::alloc::{AllocError, Global};
 

@@ -9,7 +9,7 @@ ghost use Rattle.oci_json_model.specs.WellFormed.{WellFormed};
 ghost use Rattle.oci_json_model.specs.Writable.{Writable};
 ghost use Rattle.oci_json_io.specs.Engines.{MeansBytes, ReadsAs, WritesDocument, IsNotNormalized, IsNoJson};
 ghost use Rattle.oci_schema_types.specs.Shapes.{schema_shape};
-ghost use Rattle.oci_schema_walks.specs.Violations.{reported, violations as all_violations};
+ghost use Rattle.oci_schema.specs.Violations.{reported, violations as all_violations};
 ghost use Rattle.oci_schema_bytes.specs.Texts.{MakesText};
 
 use crate::lane::{Workspace, is_accepted, normal_text};

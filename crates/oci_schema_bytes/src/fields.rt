@@ -5,8 +5,8 @@ ghost use Rattle.serde_json.specs.Find.{get};
 ghost use Rattle.oci_json_model.specs.Means.{get_second};
 ghost use Rattle.oci_json_model.specs.Shape.{Shape};
 ghost use Rattle.oci_schema_types.specs.Shapes.{alias_of, members_in, presence_of};
-ghost use Rattle.oci_schema_walks.specs.Given.{may_be_null as null_counts, written};
-ghost use Rattle.oci_schema_walks.specs.Normalized.{known_accepted, known_normalized};
+ghost use Rattle.oci_schema.specs.Given.{may_be_null as null_counts, written};
+ghost use Rattle.oci_schema.specs.Normalized.{known_accepted, known_normalized};
 ghost use Rattle.oci_schema_bytes.specs.Fields.{written_for, accepted_for, AreFieldsOf};
 ghost use Rattle.oci_schema_bytes.specs.Objects.{IsObject, IsAt, IsFoundAt, Adds, AddsField, fields_in};
 

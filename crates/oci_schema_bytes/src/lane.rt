@@ -5,7 +5,7 @@ ghost use Rattle.serde_json.specs.Read.{read};
 ghost use Rattle.oci_json_tape.specs.Elements.{BeginsWithData};
 ghost use Rattle.oci_json_io.specs.Engines.{ReadsAs};
 ghost use Rattle.oci_schema_types.specs.Shapes.{schema_shape};
-ghost use Rattle.oci_schema_walks.specs.Normalized.{accepts};
+ghost use Rattle.oci_schema.specs.Normalized.{accepts};
 ghost use Rattle.oci_schema_bytes.specs.Texts.{IsNormalText};
 
 use crate::walk::write_value;

@@ -6,7 +6,7 @@ ghost use Rattle.oci_json_model.specs.Shape.{text as text_shape};
 ghost use Rattle.oci_text_base.specs.Names.{is_listed};
 ghost use Rattle.oci_runtime_names.specs.CpuScan.{is_cpu_text};
 ghost use Rattle.oci_schema_types.specs.Shapes.{scalar_shape, names_of};
-ghost use Rattle.oci_schema_walks.specs.Allows.{is_digest_text, is_in_range};
+ghost use Rattle.oci_schema.specs.Allows.{is_digest_text, is_in_range};
 ghost use Rattle.oci_json_tape.specs.Numbers.{num_of};
 ghost use Rattle.oci_schema_bytes.specs.Walks.{IfDone, WritesTree, WritesNormal, IsTextOf, WritesWhole};
 

@@ -165,11 +165,11 @@ pub use Rattle.oci_runtime_spec.specs.Spec
 pub use Rattle.oci_schema.specs.Normalizes
 pub use Rattle.oci_schema_bytes.specs.Texts
 pub use Rattle.oci_schema_types.specs.Shapes
-pub use Rattle.oci_schema_walks.specs.Allows
-pub use Rattle.oci_schema_walks.specs.Lines
-pub use Rattle.oci_schema_walks.specs.Normalized
-pub use Rattle.oci_schema_walks.specs.Violations
-pub use Rattle.oci_schema_walks.specs.Wants
+pub use Rattle.oci_schema.specs.Allows
+pub use Rattle.oci_schema.specs.Lines
+pub use Rattle.oci_schema.specs.Normalized
+pub use Rattle.oci_schema.specs.Violations
+pub use Rattle.oci_schema.specs.Wants
 pub use Rattle.oci_schemas.specs.Table
 pub use Rattle.oci_shapes.specs.Apparmor as ApparmorShape
 pub use Rattle.oci_shapes.specs.ArtifactManifest as ArtifactManifestShape

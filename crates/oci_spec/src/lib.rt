@@ -9,8 +9,7 @@ pub mod rules;
 pub mod runtime;
 pub mod schema;
 
-pub use oci_text::{Explanation, explain};
-pub use oci_text::JsonName;
+pub use oci_text::{Explanation, JsonName, explain};
 pub use oci_text_base::{
     OciSpecError, Result, SchemaFault, SerDeError, UninitializedFieldError, UnknownName,
 };

@@ -1,9 +1,9 @@
 //! The printed texts of errors, and what is explained of them.
 
 use crate::distribution::reply;
-use oci_text::explain;
 use oci_reference_scan::ParseError;
 use oci_test_harness::Harness;
+use oci_text::explain;
 use oci_text_base::{
     OciSpecError, Result, SchemaFault, SerDeError, UninitializedFieldError, UnknownName,
 };

@@ -22,7 +22,7 @@ use oci_json_io::write_text;
 use oci_kinds::Kind;
 use oci_report::render::on_a_line;
 use oci_schema::normal_value_from_reader;
-use oci_schema_walks::place::{under_index, under_name};
+use oci_schema::place::{under_index, under_name};
 use oci_schemas::OciRecords;
 use oci_text_base::{OciSpecError, Result};
 use serde_json::{Map, Value};

@@ -6,11 +6,11 @@ ghost use Rattle.oci_linux.specs.Rootless.{mapping_of, rootless_linux};
 ghost use Rattle.oci_linux_records.specs.LinuxIdMapping.{linux_id_mapping_plain};
 
 use super::Linux;
-use oci_json_model::try_join5;
-use oci_linux_records::{LinuxIdMapping, LinuxIdMappingBuilder};
 use crate::defaults::{
     get_default_maskedpaths, get_default_readonly_paths, get_rootless_namespaces,
 };
+use oci_json_model::try_join5;
+use oci_linux_records::{LinuxIdMapping, LinuxIdMappingBuilder};
 use oci_text_base::{OciSpecError, Result};
 use std::alloc::Global;
 

@@ -9,9 +9,9 @@ ghost use Rattle.oci_json_model.specs.Value.{value as json_of};
 ghost use Rattle.oci_json_model.specs.Writable.{Writable};
 ghost use Rattle.oci_json_io.specs.Engines.{WritesDocument, ReadsBackDocument};
 ghost use Rattle.oci_schema_types.specs.Shapes.{schema_shape};
-ghost use Rattle.oci_schema_walks.specs.Violations.{Report, reported, violations as all_violations};
-ghost use Rattle.oci_schema_walks.specs.Wants.{IsViolation};
-ghost use Rattle.oci_schema_walks.specs.Normalized.{HasNoNormalForm};
+ghost use Rattle.oci_schema.specs.Violations.{Report, reported, violations as all_violations};
+ghost use Rattle.oci_schema.specs.Wants.{IsViolation};
+ghost use Rattle.oci_schema.specs.Normalized.{HasNoNormalForm};
 ghost use Rattle.oci_schema.specs.Normalizes.{Normalizes, WritesPretty};
 
 use oci_json_model::OciRecord;

@@ -4,7 +4,7 @@ use Rattle.std.proofs.lemmas.Result.{IfOk-weaker}
 use Rattle.serde_json.specs.View.{view}
 use Rattle.oci_json_model.specs.Plain.{Plain}
 use Rattle.oci_json_model.specs.Means.{Means}
-use Rattle.oci_schema_walks.specs.Violations.{violations}
+use Rattle.oci_schema.specs.Violations.{violations}
 use Rattle.oci_check.proofs.Told.{all_told, none_told}
 use Rattle.oci_check.proofs.inspect.schema_findings.Goals as goal
 

@@ -4,7 +4,7 @@ use Rattle.serde_json.specs.Data.{object, array}
 use Rattle.serde_json.specs.Find.{get, get_item}
 use Rattle.serde_json.specs.View.{view, items_view, members_view}
 use Rattle.serde_json.proofs.Views.{view-Object, view-Array}
-use Rattle.oci_schema_walks.specs.Places.{under_name, under_index}
+use Rattle.oci_schema.specs.Places.{under_name, under_index}
 use Rattle.oci_diff.proofs.Adds.{in_turn, at_both, within_size, both_parts, member_adds, item_adds, new_item, old_item, old_member, within_size, first_have, rest_among, rest_smaller}
 use Rattle.std.specs.Prelude.{string_bytes}
 use Rattle.serde_json.specs.Data.{member}

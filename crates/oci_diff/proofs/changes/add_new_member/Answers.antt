@@ -2,7 +2,7 @@ use Rattle.std.proofs.Common.{◌≡◌, rules, ◌∙◌, is_some, false, None,
 use Rattle.std.proofs.lemmas.Result.{on_ok_weaker}
 use Rattle.serde_json.specs.Find.{get}
 use Rattle.serde_json.specs.View.{view}
-use Rattle.oci_schema_walks.specs.Places.{under_name}
+use Rattle.oci_schema.specs.Places.{under_name}
 use Rattle.oci_diff.proofs.Adds.{new_member, absent_of}
 use Rattle.oci_diff.specs.declared.changes.Change.TheVariants.{Added}
 use Rattle.oci_diff.proofs.changes.add_new_member.Goals as goal

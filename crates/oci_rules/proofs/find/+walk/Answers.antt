@@ -1,7 +1,7 @@
 use Rattle.std.proofs.Common.{◌∙◌, ap, string_bytes}
 use Rattle.serde_json.specs.Data.{string}
 use Rattle.serde_json.specs.View.{view, members_view}
-use Rattle.oci_schema_walks.specs.Places.{under_name}
+use Rattle.oci_schema.specs.Places.{under_name}
 use Rattle.oci_rules.specs.Tables.{rule_of, test_of, place_of}
 use Rattle.oci_rules.specs.Listed.{told_by, told_at}
 use Rattle.oci_rules.proofs.PartsTold.{view_string, item_more, member_more, name_more, no_item_more}

@@ -1,8 +1,8 @@
 use Rattle.std.proofs.Common.{◌≡◌, ℕ, ◌+◌, ◌<◌, List, [], ◌∷◌, ◌++◌, length, map, take, get_or, codes, string_bytes, sym, ap, ◌∙◌}
 use Rattle.std.proofs.lemmas.List.{take_more, flat_map_more, map-append}
-use Rattle.oci_schema_walks.specs.Lines.{line, lines}
-use Rattle.oci_schema_walks.specs.Violations.{Report, reported}
-use Rattle.oci_schema_walks.specs.declared.violation.Violation.{Violation}
+use Rattle.oci_schema.specs.Lines.{line, lines}
+use Rattle.oci_schema.specs.Violations.{Report, reported}
+use Rattle.oci_schema.specs.declared.violation.Violation.{Violation}
 use Rattle.oci_schema.proofs.listing.violation_lines.Goals as goal
 
 one_more : (found : List Violation) (i : ℕ) (x : Violation) → i < length found → x ≡ get_or found i x

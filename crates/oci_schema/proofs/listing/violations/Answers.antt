@@ -2,10 +2,10 @@ use Rattle.std.proofs.Common.{[], ◌++◌, map, sym, ap, ◌∙◌, subst}
 use Rattle.std.specs.List.{Contains}
 use Rattle.serde_json.specs.View.{view}
 use Rattle.oci_schema_types.specs.Shapes.{schema_shape}
-use Rattle.oci_schema_walks.specs.Violations.{Report, reported, violations}
-use Rattle.oci_schema_walks.proofs.Complete.{is_listed}
-use Rattle.oci_schema_walks.proofs.Listed.{empty_is_meant}
-use Rattle.oci_schema_walks.proofs.Sound.{listed_is}
+use Rattle.oci_schema.specs.Violations.{Report, reported, violations}
+use Rattle.oci_schema.proofs.Complete.{is_listed}
+use Rattle.oci_schema.proofs.Listed.{empty_is_meant}
+use Rattle.oci_schema.proofs.Sound.{listed_is}
 use Rattle.oci_schema.proofs.listing.violations.Goals as goal
 
 pub returns-clause-none : goal.returns-clause-none

@@ -4,7 +4,7 @@ use Rattle.serde_json.specs.Data.{Data}
 use Rattle.serde_json.specs.View.{view}
 use Rattle.oci_json_tape.specs.Elements.{BeginsWithData}
 use Rattle.oci_schema_types.specs.Shapes.{schema_shape}
-use Rattle.oci_schema_walks.specs.Normalized.{accepts, normalized}
+use Rattle.oci_schema.specs.Normalized.{accepts, normalized}
 use Rattle.oci_schema_bytes.specs.Walks.{WritesTree}
 use Rattle.oci_schema_bytes.proofs.FieldWalk.{if_both_done}
 use Rattle.oci_schema_bytes.proofs.by_value.write_by_value.Goals as goal

@@ -1,6 +1,6 @@
 use Rattle.std.proofs.Common.{map, sym, ap, ◌∙◌}
 use Rattle.oci_schema_types.specs.Shapes.{schema_shape}
-use Rattle.oci_schema_walks.specs.Violations.{reported}
+use Rattle.oci_schema.specs.Violations.{reported}
 use Rattle.oci_schema_bytes.proofs.Documents.{accepted_document, none_listed}
 use Rattle.oci_schema_bytes.proofs.calls.violations_in_bytes.Goals as goal
 

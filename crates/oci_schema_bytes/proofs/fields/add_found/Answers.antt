@@ -2,8 +2,8 @@ use Rattle.std.proofs.Common.{◌≡◌, Some, refl, sym, ap, ◌∙◌, subst}
 use Rattle.serde_json.specs.Find.{get}
 use Rattle.oci_json_tape.specs.Elements.{FindsData}
 use Rattle.oci_schema_types.specs.Shapes.{presence_of, schema_shape}
-use Rattle.oci_schema_walks.specs.Given.{given}
-use Rattle.oci_schema_walks.specs.Normalized.{normalized}
+use Rattle.oci_schema.specs.Given.{given}
+use Rattle.oci_schema.specs.Normalized.{normalized}
 use Rattle.oci_schema_bytes.specs.Objects.{WritesAt}
 use Rattle.oci_schema_bytes.proofs.Adding.{adds_absent, adds_given, adds_written}
 use Rattle.oci_schema_bytes.proofs.Presences.{null_dropped, other_given, all_given}

@@ -1,6 +1,6 @@
 use Rattle.std.proofs.Common.{ap, ◌∙◌}
 use Rattle.oci_schema_types.specs.Shapes.{presence_of}
-use Rattle.oci_schema_walks.specs.Given.{given}
+use Rattle.oci_schema.specs.Given.{given}
 use Rattle.oci_schema_bytes.proofs.Adding.{adds_absent}
 use Rattle.oci_schema_bytes.proofs.Presences.{none_stays}
 use Rattle.oci_schema_bytes.proofs.fields.add_member.Goals as goal

@@ -3,7 +3,7 @@ use Rattle.oci_json_tape.specs.Elements.{BeginsWithData}
 use Rattle.json.specs.Tree.{json_tokens}
 use Rattle.serde_json.specs.Written.{outline}
 use Rattle.oci_schema_types.specs.Shapes.{schema_shape}
-use Rattle.oci_schema_walks.specs.Normalized.{normalized}
+use Rattle.oci_schema.specs.Normalized.{normalized}
 use Rattle.oci_schema_bytes.proofs.lane.write_tape.Goals as goal
 
 pub returns : goal.returns

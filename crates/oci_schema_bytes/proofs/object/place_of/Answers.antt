@@ -1,5 +1,5 @@
 use Rattle.std.proofs.Common.{◌≡◌, ◌+◌, drop, refl, sym, ◌∙◌, subst, arith, drop_of_length-le}
-use Rattle.oci_schema_walks.proofs.Listed.{cut_at}
+use Rattle.oci_schema.proofs.Listed.{cut_at}
 use Rattle.oci_schema_bytes.specs.Objects.{IsPlaceOf}
 use Rattle.oci_schema_bytes.proofs.Slots.{place_after}
 use Rattle.oci_schema_bytes.proofs.object.place_of.Goals as goal

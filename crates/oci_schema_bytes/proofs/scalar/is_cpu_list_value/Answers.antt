@@ -1,4 +1,4 @@
-use Rattle.oci_schema_walks.proofs.Texts.{cpu_list_same}
+use Rattle.oci_schema.proofs.Texts.{cpu_list_same}
 use Rattle.oci_schema_bytes.proofs.scalar.is_cpu_list_value.Goals as goal
 
 pub returns : goal.returns

@@ -1,4 +1,4 @@
-use Rattle.oci_schema_walks.proofs.Texts.{digest_same}
+use Rattle.oci_schema.proofs.Texts.{digest_same}
 use Rattle.oci_schema_bytes.proofs.scalar.is_digest_value.Goals as goal
 
 pub returns : goal.returns

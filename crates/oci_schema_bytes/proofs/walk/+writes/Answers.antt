@@ -4,7 +4,7 @@ use Rattle.serde_json.specs.Data.{Data}
 use Rattle.oci_json_model.specs.Means.{is_object}
 use Rattle.oci_json_tape.specs.Elements.{BeginsWithData}
 use Rattle.oci_schema_types.specs.Shapes.{part_shape, members_in}
-use Rattle.oci_schema_walks.proofs.Listed.{cut_at}
+use Rattle.oci_schema.proofs.Listed.{cut_at}
 use Rattle.oci_schema_bytes.specs.Fields.{Field, AreAccepted, AreFieldsOf}
 use Rattle.oci_schema_bytes.specs.Objects.{IsObject, with_field, fields_in}
 use Rattle.oci_schema_bytes.proofs.ArrayWalk.{items_begin, items_step, items_end}

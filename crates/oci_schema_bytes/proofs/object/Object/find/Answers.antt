@@ -1,6 +1,6 @@
 use Rattle.std.proofs.Common.{◌+◌, ◌<◌, length, drop, get_or, sym, ap, ◌∙◌, subst, arith}
 use Rattle.serde_json.specs.Find.{get}
-use Rattle.oci_schema_walks.proofs.Listed.{cut_at}
+use Rattle.oci_schema.proofs.Listed.{cut_at}
 use Rattle.oci_schema_bytes.specs.Objects.{IsAt, Finds}
 use Rattle.oci_schema_bytes.proofs.Slots.{at_cut, same_name, other_name}
 use Rattle.oci_schema_bytes.proofs.object.Object.find.Goals as goal

@@ -1,0 +1,247 @@
+//! All violations of a schema by a value.
+ghost use Rattle.std.specs.Prelude.{◌≡◌, ◌∷◌, ◌++◌, [], None, map, option_map, OnOk};
+ghost use Rattle.serde_json.specs.View.{view, items_view, members_view};
+ghost use Rattle.oci_schema_types.specs.Shapes.{scalar_shape, part_shape, schema_shape, presence_of, members_in};
+ghost use Rattle.oci_schema.specs.Places.{under_name as under};
+ghost use Rattle.oci_schema.specs.Violations.{reported, violations as all_violations, each_violations, each_member_violations, rows_violations, known_violations, member_violations, expectation_of, value_kind, a_value, no_alias};
+
+use crate::member::is_null_absent;
+use crate::place::{under_index, under_name};
+use crate::scalar::scalar_allows;
+use crate::violation::expected_kind;
+use crate::{Expected, Kind, Violation};
+use oci_schema_types::{Member, Part, Presence, Records, Scalar, Schema};
+use serde_json::{Map, Value};
+use std::alloc::{AllocError, Global};
+
+fn push(
+    at: &str,
+    expected: Expected,
+    found: &mut Vec<Violation>,
+    alloc: Global,
+) -> Result<(), AllocError>
+    ensures { OnOk result (map reported found.new.items ≡ map reported found.old.items ++ (at.now, expectation_of expected) ∷ []) }
+{
+    let pointer = String::from_str(alloc, at)?;
+    found.push(Violation { pointer, expected })?;
+    Ok(())
+}
+
+/// Adds that a value of this kind is expected at this place.
+fn reject(kind: Kind, at: &str, found: &mut Vec<Violation>, alloc: Global) -> Result<(), AllocError>
+    ensures { OnOk result (map reported found.new.items ≡ map reported found.old.items ++ (at.now, a_value (value_kind kind)) ∷ []) }
+{
+    push(at, Expected::Value(kind), found, alloc)
+}
+
+fn add_scalar(
+    scalar: &Scalar,
+    value: &Value,
+    at: &str,
+    found: &mut Vec<Violation>,
+    alloc: Global,
+) -> Result<(), AllocError>
+    ensures { OnOk result (map reported found.new.items ≡ map reported found.old.items ++ all_violations (scalar_shape scalar.now) at.now (view value.now)) }
+{
+    if scalar_allows(scalar, value) {
+        return Ok(());
+    }
+    reject(Kind::Scalar(*scalar), at, found, alloc)
+}
+
+/// Adds all violations of the schema by the value at this place, in the order of the schema's members.
+#[cycle(violations)]
+pub fn add_violations<T: Records>(
+    records: &T,
+    schema: &Schema,
+    value: &Value,
+    at: &str,
+    found: &mut Vec<Violation>,
+    alloc: Global,
+) -> Result<(), AllocError>
+    ensures { OnOk result (map reported found.new.items ≡ map reported found.old.items ++ all_violations (schema_shape (T.shape_at records.now) schema.now) at.now (view value.now)) }
+{
+    match schema {
+        Schema::One(part) => add_part(records, part, value, at, found, alloc),
+        Schema::List(part) => match value.as_array() {
+            Some(items) => add_items(records, part, items, at, found, alloc),
+            None => reject(Kind::Array, at, found, alloc),
+        },
+        Schema::Map(part) => match value.as_object() {
+            Some(entries) => add_entries(records, part, entries, at, found, alloc),
+            None => reject(Kind::Object, at, found, alloc),
+        },
+    }
+}
+
+#[cycle(violations)]
+fn add_part<T: Records>(
+    records: &T,
+    part: &Part,
+    value: &Value,
+    at: &str,
+    found: &mut Vec<Violation>,
+    alloc: Global,
+) -> Result<(), AllocError>
+    ensures { OnOk result (map reported found.new.items ≡ map reported found.old.items ++ all_violations (part_shape (T.shape_at records.now) part.now) at.now (view value.now)) }
+{
+    match part {
+        Part::Scalar(scalar) => add_scalar(scalar, value, at, found, alloc),
+        Part::Record(place) => add_record(records, *place, value, at, found, alloc),
+    }
+}
+
+#[cycle(violations)]
+fn add_record<T: Records>(
+    records: &T,
+    place: usize,
+    value: &Value,
+    at: &str,
+    found: &mut Vec<Violation>,
+    alloc: Global,
+) -> Result<(), AllocError>
+    ensures { OnOk result (map reported found.new.items ≡ map reported found.old.items ++ all_violations (T.shape_at records.now place) at.now (view value.now)) }
+{
+    let record = records.record(place);
+    if value.is_object() {
+        add_members(records, record.members, value, at, found, alloc)
+    } else {
+        reject(Kind::Object, at, found, alloc)
+    }
+}
+
+#[cycle(violations)]
+fn add_items<T: Records>(
+    records: &T,
+    part: &Part,
+    items: &Vec<Value>,
+    at: &str,
+    found: &mut Vec<Violation>,
+    alloc: Global,
+) -> Result<(), AllocError>
+    ensures { OnOk result (map reported found.new.items ≡ map reported found.old.items ++ each_violations (all_violations (part_shape (T.shape_at records.now) part.now)) at.now 0 (items_view items.now.items)) }
+{
+    for (index, item) in items.iter().enumerate() {
+        let place = under_index(alloc, at, index)?;
+        add_part(records, part, item, place.as_str(), found, alloc)?;
+    }
+    Ok(())
+}
+
+#[cycle(violations)]
+fn add_entries<T: Records>(
+    records: &T,
+    part: &Part,
+    entries: &Map<String, Value>,
+    at: &str,
+    found: &mut Vec<Violation>,
+    alloc: Global,
+) -> Result<(), AllocError>
+    ensures { OnOk result (map reported found.new.items ≡ map reported found.old.items ++ each_member_violations (all_violations (part_shape (T.shape_at records.now) part.now)) at.now (members_view entries.now.entries)) }
+{
+    for (name, entry) in entries.iter() {
+        let place = under_name(alloc, at, name.as_str())?;
+        add_part(records, part, entry, place.as_str(), found, alloc)?;
+    }
+    Ok(())
+}
+
+#[cycle(violations)]
+fn add_members<T: Records>(
+    records: &T,
+    members: &[Member],
+    value: &Value,
+    at: &str,
+    found: &mut Vec<Violation>,
+    alloc: Global,
+) -> Result<(), AllocError>
+    ensures { OnOk result (map reported found.new.items ≡ map reported found.old.items ++ rows_violations (members_in (T.shape_at records.now) members.now) at.now (view value.now)) }
+{
+    for member in members {
+        add_member(records, member, value, at, found, alloc)?;
+    }
+    Ok(())
+}
+
+#[cycle(violations)]
+fn add_member<T: Records>(
+    records: &T,
+    member: &Member,
+    value: &Value,
+    at: &str,
+    found: &mut Vec<Violation>,
+    alloc: Global,
+) -> Result<(), AllocError>
+    ensures { OnOk result (map reported found.new.items ≡ map reported found.old.items ++ known_violations (T.shape_at records.now) member.now at.now (view value.now)) }
+{
+    let there = value.get(member.name);
+    let Some(alias) = member.alias else {
+        return add_found(records, member, member.name, there, at, found, alloc);
+    };
+    let other = value.get(alias);
+    if other.is_none() {
+        add_found(records, member, member.name, there, at, found, alloc)
+    } else if there.is_none() {
+        add_found(records, member, alias, other, at, found, alloc)
+    } else {
+        add_alias(member, alias, at, found, alloc)
+    }
+}
+
+/// Adds that a member is there under its name and its alias.
+fn add_alias(
+    member: &Member,
+    alias: &'static str,
+    at: &str,
+    found: &mut Vec<Violation>,
+    alloc: Global,
+) -> Result<(), AllocError>
+    ensures { OnOk result (map reported found.new.items ≡ map reported found.old.items ++ (under at.now member.now.name.now, no_alias alias.now) ∷ []) }
+{
+    let place = under_name(alloc, at, member.name)?;
+    push(place.as_str(), Expected::NoAlias(alias), found, alloc)
+}
+
+/// Adds the violations by what is found under this name of the member.
+#[cycle(violations)]
+fn add_found<T: Records>(
+    records: &T,
+    member: &Member,
+    name: &'static str,
+    there: Option<&Value>,
+    at: &str,
+    found: &mut Vec<Violation>,
+    alloc: Global,
+) -> Result<(), AllocError>
+    ensures { OnOk result (map reported found.new.items ≡ map reported found.old.items ++ member_violations (presence_of member.now.presence) (schema_shape (T.shape_at records.now) member.now.schema) (all_violations (schema_shape (T.shape_at records.now) member.now.schema)) (under at.now name.now) (option_map (λ v. view v.now) there.entry)) }
+{
+    let place = under_name(alloc, at, name)?;
+    match there {
+        None => add_missing(records, member, place.as_str(), found, alloc),
+        Some(value) => {
+            if value.is_null() && is_null_absent(&member.presence) {
+                return Ok(());
+            }
+            add_violations(records, &member.schema, value, place.as_str(), found, alloc)
+        }
+    }
+}
+
+/// Adds the violation where a member is missing, if it is required.
+fn add_missing<T: Records>(
+    records: &T,
+    member: &Member,
+    at: &str,
+    found: &mut Vec<Violation>,
+    alloc: Global,
+) -> Result<(), AllocError>
+    ensures { OnOk result (map reported found.new.items ≡ map reported found.old.items ++ member_violations (presence_of member.now.presence) (schema_shape (T.shape_at records.now) member.now.schema) (all_violations (schema_shape (T.shape_at records.now) member.now.schema)) at.now None) }
+{
+    match member.presence {
+        Presence::Required => {
+            let kind = expected_kind(records, &member.schema);
+            push(at, Expected::Member(kind), found, alloc)
+        }
+        _ => Ok(()),
+    }
+}

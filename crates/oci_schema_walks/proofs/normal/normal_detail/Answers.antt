@@ -1,7 +1,0 @@
-use Rattle.serde_json.specs.View.{view}
-use Rattle.oci_json_model.proofs.Lists.{exits}
-use Rattle.oci_schema_walks.proofs.Parts.{not_accepted}
-use Rattle.oci_schema_walks.proofs.normal.normal_detail.Goals as goal
-
-pub returns-in_err-text-clause-err : goal.returns-in_err-text-clause-err
-returns-in_err-text-clause-err c = exits _ _ _ c.from_residual.ensures.1 (λ h. not_accepted (view c.args.value.now) (c.in_err-text.ensures.err h))
