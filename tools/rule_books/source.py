@@ -37,7 +37,10 @@ class Code(tree.Printer):
 
 
 def platforms(items):
-    return {PLATFORMS: "EVERY", POSIX: "POSIX"}.get(items) or array([f"Platform::{VARIANTS[it]}" for it in items])
+    """The platforms of a rule."""
+    if items == PLATFORMS:
+        return "Platforms::Every"
+    return f"Platforms::These({'POSIX' if items == POSIX else array([f'Platform::{VARIANTS[it]}' for it in items])})"
 
 
 def array(items):
@@ -62,8 +65,8 @@ def imports(rules, group, model):
     """The imports of a book's file, by the words that its rules have."""
     crate = model.crate[group.file]
     words = set(re.findall(r"\w+", re.sub(r'"[^"]*"', "", rules)))
-    shared = [it for it in ("EVERY", "POSIX", *(it.upper() for it in model.lists_of(crate))) if it in words]
-    types = sorted(it for it in ("Rule", "Platform", *TYPES) if it in words)
+    shared = [it for it in ("POSIX", *(it.upper() for it in model.lists_of(crate))) if it in words]
+    types = sorted(it for it in ("Rule", "Platform", "Platforms", *TYPES) if it in words)
     out = "ghost use Rattle.std.specs.Prelude.{◌≡◌, map};\nghost use Rattle.std.specs.List.{flat_map};\nghost use Rattle.oci_rules.specs.Tables.{rule_of};\n"
     out += f"ghost use Rattle.{crate}.specs.{pascal(group.file)} as defined;\n\n"
     out += f"use crate::lists::{{{', '.join(sorted(shared))}}};\n" if shared else ""
@@ -86,10 +89,9 @@ def book(group, model):
 
 
 def lists(model, crate):
-    out = "//! Platforms, and lists of texts that rules name.\nuse oci_rules::Platform;\n\n"
-    out += f"/// All platforms.\npub(crate) const EVERY: &[Platform] = {array([f'Platform::{VARIANTS[it]}' for it in PLATFORMS])};\n"
+    out = "//! Lists of platforms and of texts that rules name.\n"
     if any(it.platforms == POSIX for it in model.descriptions_of(crate)):
-        out += f"\n/// All but Windows.\npub(crate) const POSIX: &[Platform] = {array([f'Platform::{VARIANTS[it]}' for it in POSIX])};\n"
+        out += f"use oci_rules::Platform;\n\n/// All but Windows.\npub(crate) const POSIX: &[Platform] = {array([f'Platform::{VARIANTS[it]}' for it in POSIX])};\n"
     for name in model.lists_of(crate):
         items = array([f'"{it}"' for it in model.lists[name]])
         out += f"\n/// {model.list_about[name]}\npub(crate) const {name.upper()}: &[&str] = {items};\n"

@@ -97,7 +97,9 @@ def imports(text, model, file, crate):
         out += f"use Rattle.oci_rule_texts.specs.declared.grammar.Grammar.TheVariants.{{{', '.join(variants)}}}\n"
     used = [it for it in WORDS if it in words]
     out += f"use Rattle.oci_rules.specs.Rules.{{{', '.join(used)}}}\n"
-    shared = [it for it in ("every", "posix") if it in words] + [it for it in model.lists if it in words]
+    if "every" in words:
+        out += "use Rattle.oci_rules.specs.Platforms.{every}\n"
+    shared = [it for it in ("posix",) if it in words] + [it for it in model.lists if it in words]
     if shared:
         out += f"use Rattle.{crate}.specs.Lists.{{{', '.join(shared)}}}\n"
     for other, groups in model.files.items():
@@ -129,10 +131,12 @@ def files(model):
 
 def lists(model, crate):
     """The platforms and lists of texts that a crate's rules name."""
-    used = [(f"-- all platforms\nabbrev pub every : List Platform\nevery = {chain(PLATFORMS)}\n")]
+    used = []
     if any(it.platforms == POSIX for it in model.descriptions_of(crate)):
         used.append(f"-- all but Windows\nabbrev pub posix : List Platform\nposix = {chain(POSIX)}\n")
     for name in model.lists_of(crate):
         used.append(f"-- {model.list_about[name]}\nabbrev pub {name} : List (List ℕ)\n{name} =\n" + "".join(f'    codes "{it}" ∷\n' for it in model.lists[name]) + "    []\n")
     text = "\n".join(used)
-    return f"-- Platforms, and lists of texts that rules name.\n{imports(text, model, 'lists', 'none').splitlines()[0]}\nuse Rattle.oci_rules.specs.Rules.{{Platform, {', '.join(PLATFORMS)}}}\n\n{text}"
+    named = [it for it in ("Platform", *PLATFORMS) if it in re.findall(r"\w+", re.sub(r'"[^"]*"', "", text))]
+    rules = f"use Rattle.oci_rules.specs.Rules.{{{', '.join(named)}}}\n" if named else ""
+    return f"-- Lists of platforms and of texts that rules name.\n{imports(text, model, 'lists', 'none').splitlines()[0]}\n{rules}\n{text}"

@@ -3,6 +3,7 @@ use Rattle.std.specs.Prelude.{ℕ, List, [], ◌∷◌, ◌++◌, map, codes, by
 use Rattle.toml.specs.Data.{Data, Items, no_items, item, Members, as_str, as_array, as_table}
 use Rattle.toml.specs.Parse.{parse_document}
 use Rattle.oci_rules.specs.Rules.{Level, must, stated, should, host, Platform, linux, windows, solaris, vm, zos, freebsd, Place, Test, Rule}
+use Rattle.oci_rules.specs.Platforms.{every}
 use Rattle.oci_policies.specs.Conditions.{condition_in}
 use Rattle.oci_policies.specs.Places.{Step, if_so, along, steps_of, steps_in}
 use Rattle.oci_policies.specs.Tests.{test_named}
@@ -31,9 +32,6 @@ platform_named t =
 
 abbrev pub platform_in : Data → Option Platform
 platform_in d = option_and_then platform_named (as_str d)
-
-abbrev pub every_platform : List Platform
-every_platform = linux ∷ windows ∷ solaris ∷ vm ∷ zos ∷ freebsd ∷ []
 
 -- one place, or an array of places, each of which makes a rule
 abbrev pub places_or : Option (List ℕ) → Data → Option (List (List Step))
@@ -73,7 +71,7 @@ abbrev pub head_of : Members → Option Head
 head_of ms =
     option_map (λ x. record { name = x.0; level = x.1.0; section = x.1.1.0; message = x.1.1.1.0; platforms = x.1.1.1.1.0; test = x.1.1.1.1.1 })
     (both (under as_str (codes "name") ms) (both (under level_in (codes "level") ms) (both (under as_str (codes "source") ms) (both (under as_str (codes "message") ms)
-    (both (under_or every_platform (list_in platform_in) (codes "platforms") ms) (test_in ms))))))
+    (both (under_or every (list_in platform_in) (codes "platforms") ms) (test_in ms))))))
 
 -- a rule and its message
 abbrev pub Worded : Type 0

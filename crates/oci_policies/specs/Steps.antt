@@ -2,7 +2,7 @@
 use Rattle.std.specs.Prelude.{List, map}
 use Rattle.oci_rules.specs.declared.rule.Step.{Step}
 use Rattle.oci_rules.specs.declared.rule.Step.TheVariants as step
-use Rattle.oci_rules.specs.Tables.{condition_of, rule_of, level_of, platform_of, test_of}
+use Rattle.oci_rules.specs.Tables.{condition_of, rule_of, level_of, platforms_of, test_of}
 use Rattle.oci_rules.specs.declared.rule.Rule.{Rule}
 use Rattle.oci_policies.specs.Places as places
 use Rattle.oci_policies.specs.Policies.{Head, Worded}
@@ -24,7 +24,7 @@ head_view r = record {
   level = level_of r.level;
   section = r.section.now;
   message = r.wanted.now;
-  platforms = map platform_of r.platforms.now;
+  platforms = platforms_of r.platforms;
   test = test_of r.test;
 }
 

@@ -1,6 +1,7 @@
 //! The rules of a policy, table by table.
 ghost use Rattle.std.specs.Prelude.{◌≡◌, ◌++◌, [], map, codes, MatchResult, IfOk, OnOk, IfErr, Some, None};
-ghost use Rattle.oci_rules.specs.Tables.{texts_of, level_of, platform_of, place_of, test_of};
+ghost use Rattle.oci_rules.specs.Tables.{texts_of, level_of, platform_of, platforms_of, place_of, test_of};
+ghost use Rattle.oci_rules.specs.Platforms.{every};
 ghost use Rattle.oci_policies.specs.declared.error.Fault.TheVariants.{Memory};
 ghost use Rattle.oci_policies.specs.Policies as policies;
 ghost use Rattle.oci_policies.specs.Policies.{rule_at, rule_placed};
@@ -16,18 +17,9 @@ use crate::places::{steps, steps_of};
 use crate::values::{found, kept_under, sole_other, text, under};
 use bumpalo::Bump;
 use bumpalo::collections::into_bump_slice;
-use oci_rules::{Level, Platform, Rule, Step, Test};
+use oci_rules::{Level, Platform, Platforms, Rule, Step, Test};
 use std::alloc::Global;
 use toml::{Table, Value};
-
-static EVERY: [Platform; 6] = [
-    Platform::Linux,
-    Platform::Windows,
-    Platform::Solaris,
-    Platform::Vm,
-    Platform::Zos,
-    Platform::FreeBsd,
-];
 
 static RULE_NAMES: [&str; 8] = [
     "name",
@@ -39,12 +31,6 @@ static RULE_NAMES: [&str; 8] = [
     "when",
     "then",
 ];
-
-fn every() -> &'static [Platform]
-    ensures { map platform_of result.now ≡ policies.every_platform }
-{
-    &EVERY
-}
 
 fn rule_names() -> &'static [&'static str]
     ensures { texts_of result.now ≡ policies.rule_names }
@@ -102,12 +88,12 @@ fn each_platform<'a>(arena: &'a Bump, items: &Vec<Value>) -> Result<&'a [Platfor
 }
 
 /// The platforms that a rule is for: all, if it names none.
-fn platforms<'a>(arena: &'a Bump, table: &Table) -> Result<&'a [Platform], Fault>
-    ensures { Reads (λ ps. map platform_of ps.now) result (under_or policies.every_platform (list_in policies.platform_in) (codes "platforms") (table_view table.now)) }
+fn platforms<'a>(arena: &'a Bump, table: &Table) -> Result<Platforms<'a>, Fault>
+    ensures { Reads platforms_of result (under_or every (list_in policies.platform_in) (codes "platforms") (table_view table.now)) }
 {
     match found(table, "platforms") {
-        Some(value) => listed_platforms(arena, value),
-        None => Ok(every()),
+        Some(value) => Ok(Platforms::These(listed_platforms(arena, value)?)),
+        None => Ok(Platforms::Every),
     }
 }
 

@@ -1,3 +1,4 @@
+pub mod AllPlatforms
 pub mod Breaking
 pub mod Cuts
 pub mod Deciding

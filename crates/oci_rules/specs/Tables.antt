@@ -6,6 +6,8 @@ use Rattle.oci_rules.specs.declared.rule.Level.{Level}
 use Rattle.oci_rules.specs.declared.rule.Level.TheVariants as level
 use Rattle.oci_rules.specs.declared.rule.Platform.{Platform}
 use Rattle.oci_rules.specs.declared.rule.Platform.TheVariants as platform
+use Rattle.oci_rules.specs.declared.rule.Platforms.{Platforms}
+use Rattle.oci_rules.specs.declared.rule.Platforms.TheVariants as platforms
 use Rattle.oci_rules.specs.declared.rule.Origin.{Origin}
 use Rattle.oci_rules.specs.declared.rule.Origin.TheVariants as origin
 use Rattle.oci_rules.specs.declared.rule.Check.{Check}
@@ -20,6 +22,7 @@ use Rattle.oci_rules.specs.declared.rule.Test.TheVariants as test
 use Rattle.oci_rules.specs.declared.rule.Rule.{Rule}
 use Rattle.oci_rules.specs.declared.rule.Broken.{Broken}
 use Rattle.oci_rules.specs.Breaks.{Told}
+use Rattle.oci_rules.specs.Platforms.{every}
 
 abbrev pub texts_of : List (Bor (List ℕ)) → List (List ℕ)
 texts_of ts = map (λ t. t.now) ts
@@ -92,12 +95,16 @@ test_of (test.ListsItem name t) = rules.lists_item name.now t.now
 test_of (test.Distinct k) = rules.distinct (key_of k)
 test_of (test.Among a b) = rules.among a.now b.now
 
+abbrev pub platforms_of : Platforms → List rules.Platform
+platforms_of platforms.Every = every
+platforms_of (platforms.These ps) = map platform_of ps.now
+
 abbrev pub rule_of : Rule → rules.Rule
 rule_of r = record {
   name = r.name.now;
   level = level_of r.level;
   section = r.section.now;
-  platforms = map platform_of r.platforms.now;
+  platforms = platforms_of r.platforms;
   place = place_of r.place.now;
   test = test_of r.test;
 }

@@ -5,13 +5,13 @@ ghost use Rattle.serde_json.specs.View.{view, items_view, members_view};
 ghost use Rattle.oci_rules.specs.Breaks.{Told, Breaks, KeepsAll};
 ghost use Rattle.oci_rules.specs.Platforms.{is_for as is_among, is_platform};
 ghost use Rattle.oci_rules.specs.Listed.{all_broken, when, told_of, of_each, of_each_member, of_each_name, told_at, told_by};
-ghost use Rattle.oci_rules.specs.Tables.{told, rule_of, test_of, place_of, platform_of};
+ghost use Rattle.oci_rules.specs.Tables.{told, rule_of, test_of, place_of, platform_of, platforms_of};
 
 use crate::conditions::holds;
 use crate::items::{add_items_broken, push};
 use crate::parts::present;
 use crate::passes::{passes, pointer_of};
-use crate::rule::{Broken, Platform, Rule, Step};
+use crate::rule::{Broken, Platform, Platforms, Rule, Step};
 use oci_schema::place::{under_index, under_name};
 use serde_json::{Map, Value};
 use std::alloc::{AllocError, Global};
@@ -54,7 +54,7 @@ fn add_rule<'a>(
     found: &mut Vec<Broken<'a>>,
     alloc: Global,
 ) -> Result<(), AllocError>
-    ensures { OnOk result (map told found.new.items ≡ map told found.old.items ++ when (is_among (platform_of platform) (map platform_of rule.now.platforms.now)) (told_of (rule_of rule.now) (view value.now))) }
+    ensures { OnOk result (map told found.new.items ≡ map told found.old.items ++ when (is_among (platform_of platform) (platforms_of rule.now.platforms)) (told_of (rule_of rule.now) (view value.now))) }
 {
     if is_for(platform, rule.platforms) {
         add_at(rule.place, rule, value, value, "", found, alloc)
@@ -63,8 +63,19 @@ fn add_rule<'a>(
     }
 }
 
+/// Whether the platform is one of those of a rule.
+#[tactic(auto, using(crate::proofs::AllPlatforms::each_is_one))]
+fn is_for(platform: Platform, platforms: Platforms<'_>) -> bool
+    ensures { result ≡ is_among (platform_of platform) (platforms_of platforms) }
+{
+    match platforms {
+        Platforms::Every => true,
+        Platforms::These(listed) => is_listed(platform, listed),
+    }
+}
+
 /// Whether the platform is one of these.
-fn is_for(platform: Platform, platforms: &[Platform]) -> bool
+fn is_listed(platform: Platform, platforms: &[Platform]) -> bool
     ensures { result ≡ is_among (platform_of platform) (map platform_of platforms.now) }
 {
     for other in platforms {

@@ -13,4 +13,6 @@ mod show;
 
 pub use document::{broken_in, platform_of_document};
 pub use find::broken;
-pub use rule::{Broken, Check, Condition, Key, Level, Origin, Platform, Rule, Step, Test};
+pub use rule::{
+    Broken, Check, Condition, Key, Level, Origin, Platform, Platforms, Rule, Step, Test,
+};

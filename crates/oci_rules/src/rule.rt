@@ -31,6 +31,15 @@ pub enum Platform {
     FreeBsd,
 }
 
+/// The platforms that a rule is for.
+#[derive(Clone, Copy)]
+pub enum Platforms<'a> {
+    /// All of them.
+    Every,
+    /// These.
+    These(&'a [Platform]),
+}
+
 /// From where a condition looks.
 #[derive(Clone, Copy)]
 pub enum Origin {
@@ -150,7 +159,7 @@ pub struct Rule<'a> {
     /// What is wanted, for people.
     pub wanted: &'a str,
     /// The platforms that it is for.
-    pub platforms: &'a [Platform],
+    pub platforms: Platforms<'a>,
     /// The steps from the document to the parts.
     pub place: &'a [Step<'a>],
     /// What is asked of each part.

@@ -3,7 +3,8 @@
 use Rattle.std.specs.Prelude.{List, [], ◌∷◌, ◌++◌, codes, true, false}
 use Rattle.oci_rule_texts.specs.declared.grammar.Grammar.TheVariants.{DateTime, Uri, ReverseDomain, RefName, SpdxExpression, Digest, Reference, FullReference}
 use Rattle.oci_rules.specs.Rules.{Rule, must, stated, should, here, under, each_name, if_so, asks, the_part, is_there, is_text, text, reserved, there, absent}
-use Rattle.oci_rules_image.specs.Lists.{every, opencontainers_keys}
+use Rattle.oci_rules.specs.Platforms.{every}
+use Rattle.oci_rules_image.specs.Lists.{opencontainers_keys}
 
 -- the rules of image annotations
 abbrev pub image_annotations_rules : List Rule

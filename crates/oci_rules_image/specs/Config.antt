@@ -3,7 +3,8 @@
 use Rattle.std.specs.Prelude.{List, [], ◌∷◌, map, codes, true, false}
 use Rattle.oci_rule_texts.specs.declared.grammar.Grammar.TheVariants.{AbsolutePath, DateTime, EnvironmentEntry, Port, User, Signal, Digest}
 use Rattle.oci_rules.specs.Rules.{Rule, must, stated, should, host, here, under, each_item, each_name, if_so, asks, the_part, is_text, text, one_of, absent, distinct, entry_name, beneath}
-use Rattle.oci_rules_image.specs.Lists.{every, goos, goarch}
+use Rattle.oci_rules.specs.Platforms.{every}
+use Rattle.oci_rules_image.specs.Lists.{goos, goarch}
 use Rattle.oci_rules_image.specs.Annotations.{image_annotations_elsewhere_rules}
 
 -- the book of config

@@ -3,7 +3,7 @@
 use Rattle.std.specs.Prelude.{List, [], ◌∷◌, map, codes, pos, true}
 use Rattle.oci_rule_texts.specs.declared.grammar.Grammar.TheVariants.{MediaType, Uri, HttpUri, Base64}
 use Rattle.oci_rules.specs.Rules.{Rule, must, stated, should, here, under, each_item, if_so, asks, the_part, is_text, text, one_of, begins, within, beneath}
-use Rattle.oci_rules_image.specs.Lists.{every}
+use Rattle.oci_rules.specs.Platforms.{every}
 use Rattle.oci_rules_image.specs.Annotations.{image_annotations_elsewhere_rules}
 
 -- the rules of bare descriptor

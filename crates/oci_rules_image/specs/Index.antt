@@ -3,7 +3,8 @@
 use Rattle.std.specs.Prelude.{List, [], ◌∷◌, map, codes, pos, true}
 use Rattle.oci_rule_texts.specs.declared.grammar.Grammar.TheVariants.{MediaType}
 use Rattle.oci_rules.specs.Rules.{Rule, must, stated, should, host, here, under, each_item, if_so, asks, the_part, is_text, text, one_of, within, there, absent, distinct, members, beneath}
-use Rattle.oci_rules_image.specs.Lists.{every, goos, goarch, manifest_types}
+use Rattle.oci_rules.specs.Platforms.{every}
+use Rattle.oci_rules_image.specs.Lists.{goos, goarch, manifest_types}
 use Rattle.oci_rules_image.specs.Annotations.{image_annotations_rules, image_annotations_elsewhere_rules}
 use Rattle.oci_rules_image.specs.Descriptor.{bare_descriptor_rules}
 

@@ -3,7 +3,8 @@
 use Rattle.std.specs.Prelude.{List, [], ◌∷◌, map, codes, pos, true, false}
 use Rattle.oci_rule_texts.specs.declared.grammar.Grammar.TheVariants.{MediaType}
 use Rattle.oci_rules.specs.Rules.{Rule, must, stated, should, host, here, under, each_item, if_so, asks, the_part, is_there, is_text, text, one_of, none_of, within, there, absent, not_empty, beneath}
-use Rattle.oci_rules_image.specs.Lists.{every, layer_types, nondistributable_types, subject_types}
+use Rattle.oci_rules.specs.Platforms.{every}
+use Rattle.oci_rules_image.specs.Lists.{layer_types, nondistributable_types, subject_types}
 use Rattle.oci_rules_image.specs.Annotations.{image_annotations_elsewhere_rules}
 use Rattle.oci_rules_image.specs.Descriptor.{bare_descriptor_rules}
 

@@ -3,7 +3,8 @@
 use Rattle.std.specs.Prelude.{List, [], ◌∷◌, map, codes}
 use Rattle.oci_rule_texts.specs.declared.grammar.Grammar.TheVariants.{MediaType, Digest, Repository, Tag, Domain}
 use Rattle.oci_rules.specs.Rules.{Rule, must, stated, host, here, under, each_item, text, one_of, absent, either, not_empty, distinct, itself, beneath}
-use Rattle.oci_rules_image.specs.Lists.{every, subject_types}
+use Rattle.oci_rules.specs.Platforms.{every}
+use Rattle.oci_rules_image.specs.Lists.{subject_types}
 use Rattle.oci_rules_image.specs.Annotations.{image_annotations_elsewhere_rules}
 use Rattle.oci_rules_image.specs.Descriptor.{bare_descriptor_rules}
 

@@ -5,9 +5,9 @@ ghost use Rattle.std.specs.List.{flat_map};
 ghost use Rattle.oci_rules.specs.Tables.{rule_of};
 ghost use Rattle.oci_rules_image.specs.Others as defined;
 
-use crate::lists::{EVERY, SUBJECT_TYPES};
+use crate::lists::SUBJECT_TYPES;
 use oci_rule_texts::Grammar;
-use oci_rules::{Level, Rule, Step, Test};
+use oci_rules::{Level, Platforms, Rule, Step, Test};
 
 static RULES_1: [Rule<'static>; 3] = [
     Rule {
@@ -15,7 +15,7 @@ static RULES_1: [Rule<'static>; 3] = [
         level: Level::Must,
         section: "image artifact.md#artifact-manifest-property-descriptions",
         wanted: "application/vnd.oci.artifact.manifest.v1+json",
-        platforms: EVERY,
+        platforms: Platforms::Every,
         place: &[Step::Member("mediaType")],
         test: Test::OneOf(&["application/vnd.oci.artifact.manifest.v1+json"]),
     },
@@ -24,7 +24,7 @@ static RULES_1: [Rule<'static>; 3] = [
         level: Level::Must,
         section: "image artifact.md#artifact-manifest-property-descriptions",
         wanted: "a media type (RFC 6838, section 4.2)",
-        platforms: EVERY,
+        platforms: Platforms::Every,
         place: &[Step::Member("artifactType")],
         test: Test::Text(Grammar::MediaType),
     },
@@ -33,7 +33,7 @@ static RULES_1: [Rule<'static>; 3] = [
         level: Level::Stated,
         section: "image artifact.md#artifact-manifest-property-descriptions",
         wanted: "the media type of a manifest or index",
-        platforms: EVERY,
+        platforms: Platforms::Every,
         place: &[Step::Member("subject"), Step::Member("mediaType")],
         test: Test::OneOf(SUBJECT_TYPES),
     },
@@ -45,7 +45,7 @@ static RULES_2: [Rule<'static>; 3] = [
         level: Level::Host,
         section: "common practice",
         wanted: "no member of another kind of manifest",
-        platforms: EVERY,
+        platforms: Platforms::Every,
         place: &[],
         test: Test::Absent("layers"),
     },
@@ -54,7 +54,7 @@ static RULES_2: [Rule<'static>; 3] = [
         level: Level::Host,
         section: "common practice",
         wanted: "no member of another kind of manifest",
-        platforms: EVERY,
+        platforms: Platforms::Every,
         place: &[],
         test: Test::Absent("manifests"),
     },
@@ -63,7 +63,7 @@ static RULES_2: [Rule<'static>; 3] = [
         level: Level::Host,
         section: "common practice",
         wanted: "no member of another kind of manifest",
-        platforms: EVERY,
+        platforms: Platforms::Every,
         place: &[],
         test: Test::Absent("config"),
     },

@@ -5,9 +5,8 @@ ghost use Rattle.std.specs.List.{flat_map};
 ghost use Rattle.oci_rules.specs.Tables.{rule_of};
 ghost use Rattle.oci_rules_image.specs.Others as defined;
 
-use crate::lists::EVERY;
 use oci_rule_texts::Grammar;
-use oci_rules::{Check, Condition, Level, Origin, Rule, Step, Test};
+use oci_rules::{Check, Condition, Level, Origin, Platforms, Rule, Step, Test};
 
 static RULES_1: [Rule<'static>; 3] = [
     Rule {
@@ -15,7 +14,7 @@ static RULES_1: [Rule<'static>; 3] = [
         level: Level::Must,
         section: "image descriptor.md#properties",
         wanted: "a media type (RFC 6838, section 4.2)",
-        platforms: EVERY,
+        platforms: Platforms::Every,
         place: &[
             Step::Member("blobs"),
             Step::EachItem,
@@ -28,7 +27,7 @@ static RULES_1: [Rule<'static>; 3] = [
         level: Level::Must,
         section: "image descriptor.md#properties",
         wanted: "a media type (RFC 6838, section 4.2)",
-        platforms: EVERY,
+        platforms: Platforms::Every,
         place: &[
             Step::Member("blobs"),
             Step::EachItem,
@@ -41,7 +40,7 @@ static RULES_1: [Rule<'static>; 3] = [
         level: Level::Must,
         section: "image descriptor.md#properties",
         wanted: "an integer from 0 to 9223372036854775807",
-        platforms: EVERY,
+        platforms: Platforms::Every,
         place: &[Step::Member("blobs"), Step::EachItem, Step::Member("size")],
         test: Test::Within(0, 9223372036854775807),
     },
@@ -53,7 +52,7 @@ static RULES_2: [Rule<'static>; 3] = [
         level: Level::Must,
         section: "image descriptor.md#properties",
         wanted: "a URI (RFC 3986)",
-        platforms: EVERY,
+        platforms: Platforms::Every,
         place: &[
             Step::Member("blobs"),
             Step::EachItem,
@@ -67,7 +66,7 @@ static RULES_2: [Rule<'static>; 3] = [
         level: Level::Should,
         section: "image descriptor.md#properties",
         wanted: "a URI with the scheme http or https",
-        platforms: EVERY,
+        platforms: Platforms::Every,
         place: &[
             Step::Member("blobs"),
             Step::EachItem,
@@ -81,7 +80,7 @@ static RULES_2: [Rule<'static>; 3] = [
         level: Level::Must,
         section: "image descriptor.md#properties",
         wanted: "base64 (RFC 4648, section 4)",
-        platforms: EVERY,
+        platforms: Platforms::Every,
         place: &[Step::Member("blobs"), Step::EachItem, Step::Member("data")],
         test: Test::Text(Grammar::Base64),
     },
@@ -93,7 +92,7 @@ static RULES_3: [Rule<'static>; 3] = [
         level: Level::Should,
         section: "image descriptor.md#digests",
         wanted: "a digest by SHA-256",
-        platforms: EVERY,
+        platforms: Platforms::Every,
         place: &[
             Step::Member("blobs"),
             Step::EachItem,
@@ -106,7 +105,7 @@ static RULES_3: [Rule<'static>; 3] = [
         level: Level::Stated,
         section: "image manifest.md#guidance-for-an-empty-descriptor",
         wanted: "the digest, size and data of {}",
-        platforms: EVERY,
+        platforms: Platforms::Every,
         place: &[
             Step::Member("blobs"),
             Step::EachItem,
@@ -127,7 +126,7 @@ static RULES_3: [Rule<'static>; 3] = [
         level: Level::Stated,
         section: "image manifest.md#guidance-for-an-empty-descriptor",
         wanted: "the digest, size and data of {}",
-        platforms: EVERY,
+        platforms: Platforms::Every,
         place: &[
             Step::Member("blobs"),
             Step::EachItem,
@@ -148,7 +147,7 @@ static RULES_4: [Rule<'static>; 1] = [Rule {
     level: Level::Stated,
     section: "image manifest.md#guidance-for-an-empty-descriptor",
     wanted: "the digest, size and data of {}",
-    platforms: EVERY,
+    platforms: Platforms::Every,
     place: &[
         Step::Member("blobs"),
         Step::EachItem,

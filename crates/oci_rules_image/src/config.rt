@@ -5,9 +5,9 @@ ghost use Rattle.std.specs.List.{flat_map};
 ghost use Rattle.oci_rules.specs.Tables.{rule_of};
 ghost use Rattle.oci_rules_image.specs.Config as defined;
 
-use crate::lists::{EVERY, GOARCH, GOOS};
+use crate::lists::{GOARCH, GOOS};
 use oci_rule_texts::Grammar;
-use oci_rules::{Check, Condition, Key, Level, Origin, Rule, Step, Test};
+use oci_rules::{Check, Condition, Key, Level, Origin, Platforms, Rule, Step, Test};
 
 static RULES_1: [Rule<'static>; 3] = [
     Rule {
@@ -15,7 +15,7 @@ static RULES_1: [Rule<'static>; 3] = [
         level: Level::Stated,
         section: "image config.md#properties",
         wanted: "a date and time (RFC 3339, section 5.6)",
-        platforms: EVERY,
+        platforms: Platforms::Every,
         place: &[Step::Member("created")],
         test: Test::Text(Grammar::DateTime),
     },
@@ -24,7 +24,7 @@ static RULES_1: [Rule<'static>; 3] = [
         level: Level::Stated,
         section: "image config.md#properties",
         wanted: "a date and time (RFC 3339, section 5.6)",
-        platforms: EVERY,
+        platforms: Platforms::Every,
         place: &[
             Step::Member("history"),
             Step::EachItem,
@@ -37,7 +37,7 @@ static RULES_1: [Rule<'static>; 3] = [
         level: Level::Should,
         section: "image config.md#properties",
         wanted: "a value of Go's GOARCH",
-        platforms: EVERY,
+        platforms: Platforms::Every,
         place: &[Step::Member("architecture")],
         test: Test::OneOf(GOARCH),
     },
@@ -49,7 +49,7 @@ static RULES_2: [Rule<'static>; 3] = [
         level: Level::Should,
         section: "image config.md#properties",
         wanted: "a value of Go's GOOS",
-        platforms: EVERY,
+        platforms: Platforms::Every,
         place: &[Step::Member("os")],
         test: Test::OneOf(GOOS),
     },
@@ -58,7 +58,7 @@ static RULES_2: [Rule<'static>; 3] = [
         level: Level::Should,
         section: "image config.md#properties",
         wanted: "a variant that the specification lists for this processor",
-        platforms: EVERY,
+        platforms: Platforms::Every,
         place: &[
             Step::When(Condition {
                 origin: Origin::Part,
@@ -75,7 +75,7 @@ static RULES_2: [Rule<'static>; 3] = [
         level: Level::Should,
         section: "image config.md#properties",
         wanted: "a variant that the specification lists for this processor",
-        platforms: EVERY,
+        platforms: Platforms::Every,
         place: &[
             Step::When(Condition {
                 origin: Origin::Part,
@@ -95,7 +95,7 @@ static RULES_3: [Rule<'static>; 3] = [
         level: Level::Should,
         section: "image config.md#properties",
         wanted: "a feature that the specification lists for Windows",
-        platforms: EVERY,
+        platforms: Platforms::Every,
         place: &[
             Step::When(Condition {
                 origin: Origin::Part,
@@ -113,7 +113,7 @@ static RULES_3: [Rule<'static>; 3] = [
         level: Level::Must,
         section: "image config.md#properties",
         wanted: "layers",
-        platforms: EVERY,
+        platforms: Platforms::Every,
         place: &[Step::Member("rootfs"), Step::Member("type")],
         test: Test::OneOf(&["layers"]),
     },
@@ -122,7 +122,7 @@ static RULES_3: [Rule<'static>; 3] = [
         level: Level::Stated,
         section: "image config.md#properties",
         wanted: "a digest",
-        platforms: EVERY,
+        platforms: Platforms::Every,
         place: &[
             Step::Member("rootfs"),
             Step::Member("diff_ids"),
@@ -138,7 +138,7 @@ static RULES_4: [Rule<'static>; 3] = [
         level: Level::Stated,
         section: "image config.md#properties",
         wanted: "a name, =, and a value",
-        platforms: EVERY,
+        platforms: Platforms::Every,
         place: &[Step::Member("config"), Step::Member("Env"), Step::EachItem],
         test: Test::Text(Grammar::EnvironmentEntry),
     },
@@ -147,7 +147,7 @@ static RULES_4: [Rule<'static>; 3] = [
         level: Level::Stated,
         section: "image config.md#properties",
         wanted: "a number from 1 to 65535, with /tcp, /udp or nothing behind it",
-        platforms: EVERY,
+        platforms: Platforms::Every,
         place: &[
             Step::Member("config"),
             Step::Member("ExposedPorts"),
@@ -160,7 +160,7 @@ static RULES_4: [Rule<'static>; 3] = [
         level: Level::Stated,
         section: "image config.md#properties",
         wanted: "a user or ID, with :group behind it or nothing",
-        platforms: EVERY,
+        platforms: Platforms::Every,
         place: &[
             Step::Member("config"),
             Step::Member("User"),
@@ -181,7 +181,7 @@ static RULES_5: [Rule<'static>; 3] = [
         level: Level::Stated,
         section: "image config.md#properties",
         wanted: "a signal's name, as SIGKILL or SIGRTMIN+3",
-        platforms: EVERY,
+        platforms: Platforms::Every,
         place: &[Step::Member("config"), Step::Member("StopSignal")],
         test: Test::Text(Grammar::Signal),
     },
@@ -190,7 +190,7 @@ static RULES_5: [Rule<'static>; 3] = [
         level: Level::Stated,
         section: "image config.md#properties",
         wanted: "no such member, which is deprecated",
-        platforms: EVERY,
+        platforms: Platforms::Every,
         place: &[Step::Member("config")],
         test: Test::Absent("ArgsEscaped"),
     },
@@ -199,7 +199,7 @@ static RULES_5: [Rule<'static>; 3] = [
         level: Level::Stated,
         section: "image config.md#properties",
         wanted: "no such member, which is reserved",
-        platforms: EVERY,
+        platforms: Platforms::Every,
         place: &[Step::Member("config")],
         test: Test::Absent("Memory"),
     },
@@ -211,7 +211,7 @@ static RULES_6: [Rule<'static>; 3] = [
         level: Level::Stated,
         section: "image config.md#properties",
         wanted: "no such member, which is reserved",
-        platforms: EVERY,
+        platforms: Platforms::Every,
         place: &[Step::Member("config")],
         test: Test::Absent("MemorySwap"),
     },
@@ -220,7 +220,7 @@ static RULES_6: [Rule<'static>; 3] = [
         level: Level::Stated,
         section: "image config.md#properties",
         wanted: "no such member, which is reserved",
-        platforms: EVERY,
+        platforms: Platforms::Every,
         place: &[Step::Member("config")],
         test: Test::Absent("CpuShares"),
     },
@@ -229,7 +229,7 @@ static RULES_6: [Rule<'static>; 3] = [
         level: Level::Stated,
         section: "image config.md#properties",
         wanted: "no such member, which is reserved",
-        platforms: EVERY,
+        platforms: Platforms::Every,
         place: &[Step::Member("config")],
         test: Test::Absent("Healthcheck"),
     },
@@ -241,7 +241,7 @@ static RULES_7: [Rule<'static>; 3] = [
         level: Level::Host,
         section: "common practice",
         wanted: "each variable once",
-        platforms: EVERY,
+        platforms: Platforms::Every,
         place: &[Step::Member("config"), Step::Member("Env")],
         test: Test::Distinct(Key::EntryName),
     },
@@ -250,7 +250,7 @@ static RULES_7: [Rule<'static>; 3] = [
         level: Level::Host,
         section: "common practice",
         wanted: "an absolute path",
-        platforms: EVERY,
+        platforms: Platforms::Every,
         place: &[
             Step::Member("config"),
             Step::Member("Volumes"),
@@ -263,7 +263,7 @@ static RULES_7: [Rule<'static>; 3] = [
         level: Level::Host,
         section: "common practice",
         wanted: "an absolute path",
-        platforms: EVERY,
+        platforms: Platforms::Every,
         place: &[
             Step::When(Condition {
                 origin: Origin::Part,

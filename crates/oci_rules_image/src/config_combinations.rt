@@ -5,8 +5,7 @@ ghost use Rattle.std.specs.List.{flat_map};
 ghost use Rattle.oci_rules.specs.Tables.{rule_of};
 ghost use Rattle.oci_rules_image.specs.Config as defined;
 
-use crate::lists::EVERY;
-use oci_rules::{Check, Condition, Level, Origin, Rule, Step, Test};
+use oci_rules::{Check, Condition, Level, Origin, Platforms, Rule, Step, Test};
 
 static RULES_1: [Rule<'static>; 3] = [
     Rule {
@@ -14,7 +13,7 @@ static RULES_1: [Rule<'static>; 3] = [
         level: Level::Host,
         section: "common practice",
         wanted: "a processor that this operating system runs on",
-        platforms: EVERY,
+        platforms: Platforms::Every,
         place: &[
             Step::When(Condition {
                 origin: Origin::Part,
@@ -31,7 +30,7 @@ static RULES_1: [Rule<'static>; 3] = [
         level: Level::Host,
         section: "common practice",
         wanted: "a processor that this operating system runs on",
-        platforms: EVERY,
+        platforms: Platforms::Every,
         place: &[
             Step::When(Condition {
                 origin: Origin::Part,
@@ -48,7 +47,7 @@ static RULES_1: [Rule<'static>; 3] = [
         level: Level::Host,
         section: "common practice",
         wanted: "a processor that this operating system runs on",
-        platforms: EVERY,
+        platforms: Platforms::Every,
         place: &[
             Step::When(Condition {
                 origin: Origin::Part,
@@ -68,7 +67,7 @@ static RULES_2: [Rule<'static>; 3] = [
         level: Level::Host,
         section: "common practice",
         wanted: "a processor that this operating system runs on",
-        platforms: EVERY,
+        platforms: Platforms::Every,
         place: &[
             Step::When(Condition {
                 origin: Origin::Part,
@@ -85,7 +84,7 @@ static RULES_2: [Rule<'static>; 3] = [
         level: Level::Host,
         section: "common practice",
         wanted: "a processor that this operating system runs on",
-        platforms: EVERY,
+        platforms: Platforms::Every,
         place: &[
             Step::When(Condition {
                 origin: Origin::Part,
@@ -102,7 +101,7 @@ static RULES_2: [Rule<'static>; 3] = [
         level: Level::Host,
         section: "common practice",
         wanted: "a processor that this operating system runs on",
-        platforms: EVERY,
+        platforms: Platforms::Every,
         place: &[
             Step::When(Condition {
                 origin: Origin::Part,
@@ -122,7 +121,7 @@ static RULES_3: [Rule<'static>; 3] = [
         level: Level::Host,
         section: "common practice",
         wanted: "a processor that this operating system runs on",
-        platforms: EVERY,
+        platforms: Platforms::Every,
         place: &[
             Step::When(Condition {
                 origin: Origin::Part,
@@ -139,7 +138,7 @@ static RULES_3: [Rule<'static>; 3] = [
         level: Level::Host,
         section: "common practice",
         wanted: "a processor that this operating system runs on",
-        platforms: EVERY,
+        platforms: Platforms::Every,
         place: &[
             Step::When(Condition {
                 origin: Origin::Part,
@@ -156,7 +155,7 @@ static RULES_3: [Rule<'static>; 3] = [
         level: Level::Host,
         section: "common practice",
         wanted: "a processor that this operating system runs on",
-        platforms: EVERY,
+        platforms: Platforms::Every,
         place: &[
             Step::When(Condition {
                 origin: Origin::Part,
@@ -179,7 +178,7 @@ static RULES_4: [Rule<'static>; 3] = [
         level: Level::Host,
         section: "common practice",
         wanted: "a processor that this operating system runs on",
-        platforms: EVERY,
+        platforms: Platforms::Every,
         place: &[
             Step::When(Condition {
                 origin: Origin::Part,
@@ -196,7 +195,7 @@ static RULES_4: [Rule<'static>; 3] = [
         level: Level::Host,
         section: "common practice",
         wanted: "a processor that this operating system runs on",
-        platforms: EVERY,
+        platforms: Platforms::Every,
         place: &[
             Step::When(Condition {
                 origin: Origin::Part,
@@ -213,7 +212,7 @@ static RULES_4: [Rule<'static>; 3] = [
         level: Level::Host,
         section: "common practice",
         wanted: "a processor that this operating system runs on",
-        platforms: EVERY,
+        platforms: Platforms::Every,
         place: &[
             Step::When(Condition {
                 origin: Origin::Part,
@@ -233,7 +232,7 @@ static RULES_5: [Rule<'static>; 3] = [
         level: Level::Host,
         section: "common practice",
         wanted: "a processor that this operating system runs on",
-        platforms: EVERY,
+        platforms: Platforms::Every,
         place: &[
             Step::When(Condition {
                 origin: Origin::Part,
@@ -250,7 +249,7 @@ static RULES_5: [Rule<'static>; 3] = [
         level: Level::Host,
         section: "common practice",
         wanted: "a processor that this operating system runs on",
-        platforms: EVERY,
+        platforms: Platforms::Every,
         place: &[
             Step::When(Condition {
                 origin: Origin::Part,
@@ -267,7 +266,7 @@ static RULES_5: [Rule<'static>; 3] = [
         level: Level::Host,
         section: "common practice",
         wanted: "a processor that this operating system runs on",
-        platforms: EVERY,
+        platforms: Platforms::Every,
         place: &[
             Step::When(Condition {
                 origin: Origin::Part,

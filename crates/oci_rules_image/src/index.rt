@@ -5,9 +5,9 @@ ghost use Rattle.std.specs.List.{flat_map};
 ghost use Rattle.oci_rules.specs.Tables.{rule_of};
 ghost use Rattle.oci_rules_image.specs.Index as defined;
 
-use crate::lists::{EVERY, GOARCH, GOOS, MANIFEST_TYPES};
+use crate::lists::{GOARCH, GOOS, MANIFEST_TYPES};
 use oci_rule_texts::Grammar;
-use oci_rules::{Check, Condition, Key, Level, Origin, Rule, Step, Test};
+use oci_rules::{Check, Condition, Key, Level, Origin, Platforms, Rule, Step, Test};
 
 static RULES_1: [Rule<'static>; 3] = [
     Rule {
@@ -15,7 +15,7 @@ static RULES_1: [Rule<'static>; 3] = [
         level: Level::Must,
         section: "image image-index.md#image-index-property-descriptions",
         wanted: "2",
-        platforms: EVERY,
+        platforms: Platforms::Every,
         place: &[Step::Member("schemaVersion")],
         test: Test::Within(2, 2),
     },
@@ -24,7 +24,7 @@ static RULES_1: [Rule<'static>; 3] = [
         level: Level::Should,
         section: "image image-index.md#image-index-property-descriptions",
         wanted: "the media type of an image index",
-        platforms: EVERY,
+        platforms: Platforms::Every,
         place: &[],
         test: Test::There("mediaType"),
     },
@@ -33,7 +33,7 @@ static RULES_1: [Rule<'static>; 3] = [
         level: Level::Must,
         section: "image image-index.md#image-index-property-descriptions",
         wanted: "application/vnd.oci.image.index.v1+json",
-        platforms: EVERY,
+        platforms: Platforms::Every,
         place: &[Step::Member("mediaType")],
         test: Test::OneOf(&["application/vnd.oci.image.index.v1+json"]),
     },
@@ -45,7 +45,7 @@ static RULES_2: [Rule<'static>; 3] = [
         level: Level::Must,
         section: "image image-index.md#image-index-property-descriptions",
         wanted: "a media type (RFC 6838, section 4.2)",
-        platforms: EVERY,
+        platforms: Platforms::Every,
         place: &[Step::Member("artifactType")],
         test: Test::Text(Grammar::MediaType),
     },
@@ -54,7 +54,7 @@ static RULES_2: [Rule<'static>; 3] = [
         level: Level::Should,
         section: "image image-index.md#image-index-property-descriptions",
         wanted: "the media type of an image manifest or index",
-        platforms: EVERY,
+        platforms: Platforms::Every,
         place: &[
             Step::Member("manifests"),
             Step::EachItem,
@@ -67,7 +67,7 @@ static RULES_2: [Rule<'static>; 3] = [
         level: Level::Should,
         section: "image descriptor.md#properties",
         wanted: "a platform, where a manifest is described",
-        platforms: EVERY,
+        platforms: Platforms::Every,
         place: &[
             Step::Member("manifests"),
             Step::EachItem,
@@ -88,7 +88,7 @@ static RULES_3: [Rule<'static>; 3] = [
         level: Level::Should,
         section: "image image-index.md#image-index-property-descriptions",
         wanted: "a value of Go's GOARCH",
-        platforms: EVERY,
+        platforms: Platforms::Every,
         place: &[
             Step::Member("manifests"),
             Step::EachItem,
@@ -102,7 +102,7 @@ static RULES_3: [Rule<'static>; 3] = [
         level: Level::Should,
         section: "image image-index.md#image-index-property-descriptions",
         wanted: "a value of Go's GOOS",
-        platforms: EVERY,
+        platforms: Platforms::Every,
         place: &[
             Step::Member("manifests"),
             Step::EachItem,
@@ -116,7 +116,7 @@ static RULES_3: [Rule<'static>; 3] = [
         level: Level::Should,
         section: "image image-index.md#platform-variants",
         wanted: "a variant that the specification lists for this processor",
-        platforms: EVERY,
+        platforms: Platforms::Every,
         place: &[
             Step::Member("manifests"),
             Step::EachItem,
@@ -139,7 +139,7 @@ static RULES_4: [Rule<'static>; 3] = [
         level: Level::Should,
         section: "image image-index.md#platform-variants",
         wanted: "a variant that the specification lists for this processor",
-        platforms: EVERY,
+        platforms: Platforms::Every,
         place: &[
             Step::Member("manifests"),
             Step::EachItem,
@@ -159,7 +159,7 @@ static RULES_4: [Rule<'static>; 3] = [
         level: Level::Should,
         section: "image image-index.md#image-index-property-descriptions",
         wanted: "a feature that the specification lists for Windows",
-        platforms: EVERY,
+        platforms: Platforms::Every,
         place: &[
             Step::Member("manifests"),
             Step::EachItem,
@@ -180,7 +180,7 @@ static RULES_4: [Rule<'static>; 3] = [
         level: Level::Should,
         section: "image image-index.md#image-index-property-descriptions",
         wanted: "a feature that the specification lists for Windows",
-        platforms: EVERY,
+        platforms: Platforms::Every,
         place: &[
             Step::Member("manifests"),
             Step::EachItem,
@@ -204,7 +204,7 @@ static RULES_5: [Rule<'static>; 3] = [
         level: Level::Stated,
         section: "image image-index.md#image-index-property-descriptions",
         wanted: "no such member, which is reserved",
-        platforms: EVERY,
+        platforms: Platforms::Every,
         place: &[
             Step::Member("manifests"),
             Step::EachItem,
@@ -217,7 +217,7 @@ static RULES_5: [Rule<'static>; 3] = [
         level: Level::Host,
         section: "image image-layout.md#indexjson-file",
         wanted: "each name of a reference once",
-        platforms: EVERY,
+        platforms: Platforms::Every,
         place: &[Step::Member("manifests")],
         test: Test::Distinct(Key::Members(&[&[
             "annotations",
@@ -229,7 +229,7 @@ static RULES_5: [Rule<'static>; 3] = [
         level: Level::Host,
         section: "common practice",
         wanted: "no member of another kind of manifest",
-        platforms: EVERY,
+        platforms: Platforms::Every,
         place: &[],
         test: Test::Absent("config"),
     },
@@ -240,7 +240,7 @@ static RULES_6: [Rule<'static>; 1] = [Rule {
     level: Level::Host,
     section: "common practice",
     wanted: "no member of another kind of manifest",
-    platforms: EVERY,
+    platforms: Platforms::Every,
     place: &[],
     test: Test::Absent("layers"),
 }];

@@ -5,8 +5,7 @@ ghost use Rattle.std.specs.List.{flat_map};
 ghost use Rattle.oci_rules.specs.Tables.{rule_of};
 ghost use Rattle.oci_rules_image.specs.Index as defined;
 
-use crate::lists::EVERY;
-use oci_rules::{Check, Condition, Level, Origin, Rule, Step, Test};
+use oci_rules::{Check, Condition, Level, Origin, Platforms, Rule, Step, Test};
 
 static RULES_1: [Rule<'static>; 3] = [
     Rule {
@@ -14,7 +13,7 @@ static RULES_1: [Rule<'static>; 3] = [
         level: Level::Host,
         section: "common practice",
         wanted: "a processor that this operating system runs on",
-        platforms: EVERY,
+        platforms: Platforms::Every,
         place: &[
             Step::Member("manifests"),
             Step::EachItem,
@@ -34,7 +33,7 @@ static RULES_1: [Rule<'static>; 3] = [
         level: Level::Host,
         section: "common practice",
         wanted: "a processor that this operating system runs on",
-        platforms: EVERY,
+        platforms: Platforms::Every,
         place: &[
             Step::Member("manifests"),
             Step::EachItem,
@@ -54,7 +53,7 @@ static RULES_1: [Rule<'static>; 3] = [
         level: Level::Host,
         section: "common practice",
         wanted: "a processor that this operating system runs on",
-        platforms: EVERY,
+        platforms: Platforms::Every,
         place: &[
             Step::Member("manifests"),
             Step::EachItem,
@@ -77,7 +76,7 @@ static RULES_2: [Rule<'static>; 3] = [
         level: Level::Host,
         section: "common practice",
         wanted: "a processor that this operating system runs on",
-        platforms: EVERY,
+        platforms: Platforms::Every,
         place: &[
             Step::Member("manifests"),
             Step::EachItem,
@@ -97,7 +96,7 @@ static RULES_2: [Rule<'static>; 3] = [
         level: Level::Host,
         section: "common practice",
         wanted: "a processor that this operating system runs on",
-        platforms: EVERY,
+        platforms: Platforms::Every,
         place: &[
             Step::Member("manifests"),
             Step::EachItem,
@@ -117,7 +116,7 @@ static RULES_2: [Rule<'static>; 3] = [
         level: Level::Host,
         section: "common practice",
         wanted: "a processor that this operating system runs on",
-        platforms: EVERY,
+        platforms: Platforms::Every,
         place: &[
             Step::Member("manifests"),
             Step::EachItem,
@@ -140,7 +139,7 @@ static RULES_3: [Rule<'static>; 3] = [
         level: Level::Host,
         section: "common practice",
         wanted: "a processor that this operating system runs on",
-        platforms: EVERY,
+        platforms: Platforms::Every,
         place: &[
             Step::Member("manifests"),
             Step::EachItem,
@@ -160,7 +159,7 @@ static RULES_3: [Rule<'static>; 3] = [
         level: Level::Host,
         section: "common practice",
         wanted: "a processor that this operating system runs on",
-        platforms: EVERY,
+        platforms: Platforms::Every,
         place: &[
             Step::Member("manifests"),
             Step::EachItem,
@@ -180,7 +179,7 @@ static RULES_3: [Rule<'static>; 3] = [
         level: Level::Host,
         section: "common practice",
         wanted: "a processor that this operating system runs on",
-        platforms: EVERY,
+        platforms: Platforms::Every,
         place: &[
             Step::Member("manifests"),
             Step::EachItem,
@@ -206,7 +205,7 @@ static RULES_4: [Rule<'static>; 3] = [
         level: Level::Host,
         section: "common practice",
         wanted: "a processor that this operating system runs on",
-        platforms: EVERY,
+        platforms: Platforms::Every,
         place: &[
             Step::Member("manifests"),
             Step::EachItem,
@@ -226,7 +225,7 @@ static RULES_4: [Rule<'static>; 3] = [
         level: Level::Host,
         section: "common practice",
         wanted: "a processor that this operating system runs on",
-        platforms: EVERY,
+        platforms: Platforms::Every,
         place: &[
             Step::Member("manifests"),
             Step::EachItem,
@@ -246,7 +245,7 @@ static RULES_4: [Rule<'static>; 3] = [
         level: Level::Host,
         section: "common practice",
         wanted: "a processor that this operating system runs on",
-        platforms: EVERY,
+        platforms: Platforms::Every,
         place: &[
             Step::Member("manifests"),
             Step::EachItem,
@@ -269,7 +268,7 @@ static RULES_5: [Rule<'static>; 3] = [
         level: Level::Host,
         section: "common practice",
         wanted: "a processor that this operating system runs on",
-        platforms: EVERY,
+        platforms: Platforms::Every,
         place: &[
             Step::Member("manifests"),
             Step::EachItem,
@@ -289,7 +288,7 @@ static RULES_5: [Rule<'static>; 3] = [
         level: Level::Host,
         section: "common practice",
         wanted: "a processor that this operating system runs on",
-        platforms: EVERY,
+        platforms: Platforms::Every,
         place: &[
             Step::Member("manifests"),
             Step::EachItem,
@@ -309,7 +308,7 @@ static RULES_5: [Rule<'static>; 3] = [
         level: Level::Host,
         section: "common practice",
         wanted: "a processor that this operating system runs on",
-        platforms: EVERY,
+        platforms: Platforms::Every,
         place: &[
             Step::Member("manifests"),
             Step::EachItem,

@@ -5,15 +5,14 @@ ghost use Rattle.std.specs.List.{flat_map};
 ghost use Rattle.oci_rules.specs.Tables.{rule_of};
 ghost use Rattle.oci_rules_image.specs.Others as defined;
 
-use crate::lists::EVERY;
-use oci_rules::{Level, Rule, Step, Test};
+use oci_rules::{Level, Platforms, Rule, Step, Test};
 
 static RULES: [Rule<'static>; 1] = [Rule {
     name: "layout-version",
     level: Level::Stated,
     section: "image image-layout.md#oci-layout-file",
     wanted: "1.0.0",
-    platforms: EVERY,
+    platforms: Platforms::Every,
     place: &[Step::Member("imageLayoutVersion")],
     test: Test::OneOf(&["1.0.0"]),
 }];

@@ -5,9 +5,9 @@ ghost use Rattle.std.specs.List.{flat_map};
 ghost use Rattle.oci_rules.specs.Tables.{rule_of};
 ghost use Rattle.oci_rules_image.specs.Manifest as defined;
 
-use crate::lists::{EVERY, LAYER_TYPES, NONDISTRIBUTABLE_TYPES, SUBJECT_TYPES};
+use crate::lists::{LAYER_TYPES, NONDISTRIBUTABLE_TYPES, SUBJECT_TYPES};
 use oci_rule_texts::Grammar;
-use oci_rules::{Check, Condition, Level, Origin, Rule, Step, Test};
+use oci_rules::{Check, Condition, Level, Origin, Platforms, Rule, Step, Test};
 
 static RULES_1: [Rule<'static>; 3] = [
     Rule {
@@ -15,7 +15,7 @@ static RULES_1: [Rule<'static>; 3] = [
         level: Level::Must,
         section: "image manifest.md#image-manifest-property-descriptions",
         wanted: "2",
-        platforms: EVERY,
+        platforms: Platforms::Every,
         place: &[Step::Member("schemaVersion")],
         test: Test::Within(2, 2),
     },
@@ -24,7 +24,7 @@ static RULES_1: [Rule<'static>; 3] = [
         level: Level::Should,
         section: "image manifest.md#image-manifest-property-descriptions",
         wanted: "the media type of an image manifest",
-        platforms: EVERY,
+        platforms: Platforms::Every,
         place: &[],
         test: Test::There("mediaType"),
     },
@@ -33,7 +33,7 @@ static RULES_1: [Rule<'static>; 3] = [
         level: Level::Must,
         section: "image manifest.md#image-manifest-property-descriptions",
         wanted: "application/vnd.oci.image.manifest.v1+json",
-        platforms: EVERY,
+        platforms: Platforms::Every,
         place: &[Step::Member("mediaType")],
         test: Test::OneOf(&["application/vnd.oci.image.manifest.v1+json"]),
     },
@@ -45,7 +45,7 @@ static RULES_2: [Rule<'static>; 3] = [
         level: Level::Must,
         section: "image manifest.md#image-manifest-property-descriptions",
         wanted: "a media type (RFC 6838, section 4.2)",
-        platforms: EVERY,
+        platforms: Platforms::Every,
         place: &[Step::Member("artifactType")],
         test: Test::Text(Grammar::MediaType),
     },
@@ -54,7 +54,7 @@ static RULES_2: [Rule<'static>; 3] = [
         level: Level::Must,
         section: "image manifest.md#image-manifest-property-descriptions",
         wanted: "the type of the artifact, where the configuration is empty",
-        platforms: EVERY,
+        platforms: Platforms::Every,
         place: &[Step::When(Condition {
             origin: Origin::Part,
             way: &["config", "mediaType"],
@@ -68,7 +68,7 @@ static RULES_2: [Rule<'static>; 3] = [
         level: Level::Should,
         section: "image manifest.md#image-manifest-property-descriptions",
         wanted: "application/vnd.oci.image.config.v1+json, where no type of artifact stands",
-        platforms: EVERY,
+        platforms: Platforms::Every,
         place: &[
             Step::When(Condition {
                 origin: Origin::Part,
@@ -89,7 +89,7 @@ static RULES_3: [Rule<'static>; 3] = [
         level: Level::Should,
         section: "image manifest.md#image-manifest-property-descriptions",
         wanted: "at least one layer",
-        platforms: EVERY,
+        platforms: Platforms::Every,
         place: &[Step::Member("layers")],
         test: Test::NotEmpty,
     },
@@ -98,7 +98,7 @@ static RULES_3: [Rule<'static>; 3] = [
         level: Level::Should,
         section: "image manifest.md#image-manifest-property-descriptions",
         wanted: "a type of layer that every implementation supports",
-        platforms: EVERY,
+        platforms: Platforms::Every,
         place: &[
             Step::When(Condition {
                 origin: Origin::Part,
@@ -117,7 +117,7 @@ static RULES_3: [Rule<'static>; 3] = [
         level: Level::Should,
         section: "image layer.md#non-distributable-layers",
         wanted: "a type of layer that may be distributed",
-        platforms: EVERY,
+        platforms: Platforms::Every,
         place: &[
             Step::Member("layers"),
             Step::EachItem,
@@ -133,7 +133,7 @@ static RULES_4: [Rule<'static>; 3] = [
         level: Level::Should,
         section: "image manifest.md#guidelines-for-artifact-usage",
         wanted: "a layer of an artifact that is not empty",
-        platforms: EVERY,
+        platforms: Platforms::Every,
         place: &[
             Step::When(Condition {
                 origin: Origin::Part,
@@ -152,7 +152,7 @@ static RULES_4: [Rule<'static>; 3] = [
         level: Level::Should,
         section: "image manifest.md#guidelines-for-artifact-usage",
         wanted: "a layer of an artifact that is not empty",
-        platforms: EVERY,
+        platforms: Platforms::Every,
         place: &[
             Step::When(Condition {
                 origin: Origin::Part,
@@ -171,7 +171,7 @@ static RULES_4: [Rule<'static>; 3] = [
         level: Level::Stated,
         section: "image manifest.md#image-manifest-property-descriptions",
         wanted: "the media type of a manifest or index",
-        platforms: EVERY,
+        platforms: Platforms::Every,
         place: &[Step::Member("subject"), Step::Member("mediaType")],
         test: Test::OneOf(SUBJECT_TYPES),
     },
@@ -183,7 +183,7 @@ static RULES_5: [Rule<'static>; 2] = [
         level: Level::Host,
         section: "common practice",
         wanted: "no member of another kind of manifest",
-        platforms: EVERY,
+        platforms: Platforms::Every,
         place: &[],
         test: Test::Absent("manifests"),
     },
@@ -192,7 +192,7 @@ static RULES_5: [Rule<'static>; 2] = [
         level: Level::Host,
         section: "common practice",
         wanted: "no member of another kind of manifest",
-        platforms: EVERY,
+        platforms: Platforms::Every,
         place: &[],
         test: Test::Absent("fsLayers"),
     },

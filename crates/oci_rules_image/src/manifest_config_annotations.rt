@@ -5,9 +5,9 @@ ghost use Rattle.std.specs.List.{flat_map};
 ghost use Rattle.oci_rules.specs.Tables.{rule_of};
 ghost use Rattle.oci_rules_image.specs.Manifest as defined;
 
-use crate::lists::{EVERY, OPENCONTAINERS_KEYS};
+use crate::lists::OPENCONTAINERS_KEYS;
 use oci_rule_texts::Grammar;
-use oci_rules::{Check, Condition, Level, Origin, Rule, Step, Test};
+use oci_rules::{Check, Condition, Level, Origin, Platforms, Rule, Step, Test};
 
 static RULES_1: [Rule<'static>; 3] = [
     Rule {
@@ -15,7 +15,7 @@ static RULES_1: [Rule<'static>; 3] = [
         level: Level::Should,
         section: "image annotations.md#rules",
         wanted: "a key in reverse domain notation, as com.example.myKey",
-        platforms: EVERY,
+        platforms: Platforms::Every,
         place: &[
             Step::Member("config"),
             Step::Member("annotations"),
@@ -28,7 +28,7 @@ static RULES_1: [Rule<'static>; 3] = [
         level: Level::Must,
         section: "image annotations.md#rules",
         wanted: "below org.opencontainers a key that a specification defines",
-        platforms: EVERY,
+        platforms: Platforms::Every,
         place: &[
             Step::Member("config"),
             Step::Member("annotations"),
@@ -41,7 +41,7 @@ static RULES_1: [Rule<'static>; 3] = [
         level: Level::Stated,
         section: "image annotations.md#pre-defined-annotation-keys",
         wanted: "a date and time (RFC 3339)",
-        platforms: EVERY,
+        platforms: Platforms::Every,
         place: &[
             Step::Member("config"),
             Step::Member("annotations"),
@@ -63,7 +63,7 @@ static RULES_2: [Rule<'static>; 3] = [
         level: Level::Stated,
         section: "image annotations.md#pre-defined-annotation-keys",
         wanted: "a URI with a scheme",
-        platforms: EVERY,
+        platforms: Platforms::Every,
         place: &[
             Step::Member("config"),
             Step::Member("annotations"),
@@ -82,7 +82,7 @@ static RULES_2: [Rule<'static>; 3] = [
         level: Level::Stated,
         section: "image annotations.md#pre-defined-annotation-keys",
         wanted: "a URI with a scheme",
-        platforms: EVERY,
+        platforms: Platforms::Every,
         place: &[
             Step::Member("config"),
             Step::Member("annotations"),
@@ -101,7 +101,7 @@ static RULES_2: [Rule<'static>; 3] = [
         level: Level::Stated,
         section: "image annotations.md#pre-defined-annotation-keys",
         wanted: "a URI with a scheme",
-        platforms: EVERY,
+        platforms: Platforms::Every,
         place: &[
             Step::Member("config"),
             Step::Member("annotations"),
@@ -123,7 +123,7 @@ static RULES_3: [Rule<'static>; 3] = [
         level: Level::Stated,
         section: "image annotations.md#pre-defined-annotation-keys",
         wanted: "an SPDX license expression",
-        platforms: EVERY,
+        platforms: Platforms::Every,
         place: &[
             Step::Member("config"),
             Step::Member("annotations"),
@@ -142,7 +142,7 @@ static RULES_3: [Rule<'static>; 3] = [
         level: Level::Must,
         section: "image annotations.md#pre-defined-annotation-keys",
         wanted: "a name of the grammar for references",
-        platforms: EVERY,
+        platforms: Platforms::Every,
         place: &[
             Step::Member("config"),
             Step::Member("annotations"),
@@ -155,7 +155,7 @@ static RULES_3: [Rule<'static>; 3] = [
         level: Level::Stated,
         section: "image annotations.md#pre-defined-annotation-keys",
         wanted: "a digest",
-        platforms: EVERY,
+        platforms: Platforms::Every,
         place: &[
             Step::Member("config"),
             Step::Member("annotations"),
@@ -177,7 +177,7 @@ static RULES_4: [Rule<'static>; 3] = [
         level: Level::Should,
         section: "image annotations.md#pre-defined-annotation-keys",
         wanted: "an image reference",
-        platforms: EVERY,
+        platforms: Platforms::Every,
         place: &[
             Step::Member("config"),
             Step::Member("annotations"),
@@ -196,7 +196,7 @@ static RULES_4: [Rule<'static>; 3] = [
         level: Level::Should,
         section: "image annotations.md#pre-defined-annotation-keys",
         wanted: "an image reference that names its registry",
-        platforms: EVERY,
+        platforms: Platforms::Every,
         place: &[
             Step::Member("config"),
             Step::Member("annotations"),
@@ -215,7 +215,7 @@ static RULES_4: [Rule<'static>; 3] = [
         level: Level::Should,
         section: "image annotations.md#pre-defined-annotation-keys",
         wanted: "the digest of the base image, where its name stands",
-        platforms: EVERY,
+        platforms: Platforms::Every,
         place: &[
             Step::Member("config"),
             Step::Member("annotations"),
@@ -236,7 +236,7 @@ static RULES_5: [Rule<'static>; 2] = [
         level: Level::Stated,
         section: "image annotations.md#back-compatibility-with-label-schema",
         wanted: "the key below org.opencontainers.image that superseded this one",
-        platforms: EVERY,
+        platforms: Platforms::Every,
         place: &[
             Step::Member("config"),
             Step::Member("annotations"),
@@ -249,7 +249,7 @@ static RULES_5: [Rule<'static>; 2] = [
         level: Level::Should,
         section: "image annotations.md#pre-defined-annotation-keys",
         wanted: "no such annotation but on descriptors of an index",
-        platforms: EVERY,
+        platforms: Platforms::Every,
         place: &[Step::Member("config"), Step::Member("annotations")],
         test: Test::Absent("org.opencontainers.image.ref.name"),
     },

@@ -5,9 +5,8 @@ ghost use Rattle.std.specs.List.{flat_map};
 ghost use Rattle.oci_rules.specs.Tables.{rule_of};
 ghost use Rattle.oci_rules_image.specs.Others as defined;
 
-use crate::lists::EVERY;
 use oci_rule_texts::Grammar;
-use oci_rules::{Level, Rule, Step, Test};
+use oci_rules::{Level, Platforms, Rule, Step, Test};
 
 static RULES_1: [Rule<'static>; 3] = [
     Rule {
@@ -15,7 +14,7 @@ static RULES_1: [Rule<'static>; 3] = [
         level: Level::Must,
         section: "distribution spec.md#pulling-manifests",
         wanted: "a domain, with a port or nothing behind it",
-        platforms: EVERY,
+        platforms: Platforms::Every,
         place: &[Step::Member("registry")],
         test: Test::Text(Grammar::Domain),
     },
@@ -24,7 +23,7 @@ static RULES_1: [Rule<'static>; 3] = [
         level: Level::Must,
         section: "distribution spec.md#pulling-manifests",
         wanted: "a domain, with a port or nothing behind it",
-        platforms: EVERY,
+        platforms: Platforms::Every,
         place: &[Step::Member("mirror_registry")],
         test: Test::Text(Grammar::Domain),
     },
@@ -33,7 +32,7 @@ static RULES_1: [Rule<'static>; 3] = [
         level: Level::Must,
         section: "distribution spec.md#pulling-manifests",
         wanted: "the name of a repository",
-        platforms: EVERY,
+        platforms: Platforms::Every,
         place: &[Step::Member("repository")],
         test: Test::Text(Grammar::Repository),
     },
@@ -45,7 +44,7 @@ static RULES_2: [Rule<'static>; 3] = [
         level: Level::Must,
         section: "distribution spec.md#pulling-manifests",
         wanted: "a tag",
-        platforms: EVERY,
+        platforms: Platforms::Every,
         place: &[Step::Member("tag")],
         test: Test::Text(Grammar::Tag),
     },
@@ -54,7 +53,7 @@ static RULES_2: [Rule<'static>; 3] = [
         level: Level::Must,
         section: "distribution spec.md#pulling-manifests",
         wanted: "a digest",
-        platforms: EVERY,
+        platforms: Platforms::Every,
         place: &[Step::Member("digest")],
         test: Test::Text(Grammar::Digest),
     },
@@ -63,7 +62,7 @@ static RULES_2: [Rule<'static>; 3] = [
         level: Level::Stated,
         section: "distribution spec.md#pulling-manifests",
         wanted: "a tag or a digest",
-        platforms: EVERY,
+        platforms: Platforms::Every,
         place: &[],
         test: Test::Either(&["tag", "digest"]),
     },

@@ -5,9 +5,8 @@ ghost use Rattle.std.specs.List.{flat_map};
 ghost use Rattle.oci_rules.specs.Tables.{rule_of};
 ghost use Rattle.oci_rules_image.specs.Others as defined;
 
-use crate::lists::EVERY;
 use oci_rule_texts::Grammar;
-use oci_rules::{Key, Level, Rule, Step, Test};
+use oci_rules::{Key, Level, Platforms, Rule, Step, Test};
 
 static RULES: [Rule<'static>; 2] = [
     Rule {
@@ -15,7 +14,7 @@ static RULES: [Rule<'static>; 2] = [
         level: Level::Must,
         section: "registry api.md#overview",
         wanted: "the name of a repository",
-        platforms: EVERY,
+        platforms: Platforms::Every,
         place: &[Step::Member("repositories"), Step::EachItem],
         test: Test::Text(Grammar::Repository),
     },
@@ -24,7 +23,7 @@ static RULES: [Rule<'static>; 2] = [
         level: Level::Host,
         section: "common practice",
         wanted: "each repository once",
-        platforms: EVERY,
+        platforms: Platforms::Every,
         place: &[Step::Member("repositories")],
         test: Test::Distinct(Key::Itself),
     },

@@ -5,9 +5,8 @@ ghost use Rattle.std.specs.List.{flat_map};
 ghost use Rattle.oci_rules.specs.Tables.{rule_of};
 ghost use Rattle.oci_rules_image.specs.Others as defined;
 
-use crate::lists::EVERY;
 use oci_rule_texts::Grammar;
-use oci_rules::{Key, Level, Rule, Step, Test};
+use oci_rules::{Key, Level, Platforms, Rule, Step, Test};
 
 static RULES: [Rule<'static>; 3] = [
     Rule {
@@ -15,7 +14,7 @@ static RULES: [Rule<'static>; 3] = [
         level: Level::Must,
         section: "distribution spec.md#listing-tags",
         wanted: "the name of a repository",
-        platforms: EVERY,
+        platforms: Platforms::Every,
         place: &[Step::Member("name")],
         test: Test::Text(Grammar::Repository),
     },
@@ -24,7 +23,7 @@ static RULES: [Rule<'static>; 3] = [
         level: Level::Must,
         section: "distribution spec.md#listing-tags",
         wanted: "a tag",
-        platforms: EVERY,
+        platforms: Platforms::Every,
         place: &[Step::Member("tags"), Step::EachItem],
         test: Test::Text(Grammar::Tag),
     },
@@ -33,7 +32,7 @@ static RULES: [Rule<'static>; 3] = [
         level: Level::Host,
         section: "common practice",
         wanted: "each tag once",
-        platforms: EVERY,
+        platforms: Platforms::Every,
         place: &[Step::Member("tags")],
         test: Test::Distinct(Key::Itself),
     },

@@ -3,7 +3,8 @@
 use Rattle.std.specs.Prelude.{List, [], ◌∷◌, ◌++◌, map, codes}
 use Rattle.oci_rule_texts.specs.declared.grammar.Grammar.TheVariants.{SemVer, CapabilityName}
 use Rattle.oci_rules.specs.Rules.{Rule, stated, should, host, here, under, each_item, text, one_of, distinct, among, itself, beneath}
-use Rattle.oci_rules_runtime.specs.Lists.{every, hook_kinds, linux_mount_options, seccomp_operators, seccomp_flags}
+use Rattle.oci_rules.specs.Platforms.{every}
+use Rattle.oci_rules_runtime.specs.Lists.{hook_kinds, linux_mount_options, seccomp_operators, seccomp_flags}
 use Rattle.oci_rules_runtime.specs.RuntimeAnnotations.{features_annotations_rules}
 
 -- the book of features

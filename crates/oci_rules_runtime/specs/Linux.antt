@@ -3,7 +3,8 @@
 use Rattle.std.specs.Prelude.{List, [], ◌∷◌, codes, pos, negsuc, true, false}
 use Rattle.oci_rule_texts.specs.declared.grammar.Grammar.TheVariants.{AbsolutePath, PageSize, NoParent, OneLine, OneDirectory, DeviceAccess, CpuList, CgroupFile}
 use Rattle.oci_rules.specs.Rules.{Rule, linux, must, stated, should, host, here, under, each_item, each_member, each_name, if_so, asks, the_part, the_document, is_there, is_text, is_within, has_item, text, one_of, none_of, begins, reserved, within, there, absent, either, not_empty, length_at_most, at_most, sum_at_most, distinct, itself, members}
-use Rattle.oci_rules_runtime.specs.Lists.{every, ipc_sysctls}
+use Rattle.oci_rules.specs.Platforms.{every}
+use Rattle.oci_rules_runtime.specs.Lists.{ipc_sysctls}
 
 -- the book of linux
 abbrev pub linux_rules : List Rule

@@ -3,7 +3,7 @@
 use Rattle.std.specs.Prelude.{List, [], ◌∷◌, codes, pos, true}
 use Rattle.oci_rule_texts.specs.declared.grammar.Grammar.TheVariants.{AbsolutePath, ScaledNumber, DecimalNumber, Guid}
 use Rattle.oci_rules.specs.Rules.{Rule, must, stated, here, under, each_item, if_so, asks, the_part, is_there, is_text, text, one_of, within, there, absent, not_empty}
-use Rattle.oci_rules_runtime.specs.Lists.{every}
+use Rattle.oci_rules.specs.Platforms.{every}
 
 -- the book of platforms
 abbrev pub platforms_rules : List Rule

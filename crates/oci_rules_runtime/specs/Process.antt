@@ -3,7 +3,8 @@
 use Rattle.std.specs.Prelude.{List, [], ◌∷◌, codes, pos, negsuc, true, false}
 use Rattle.oci_rule_texts.specs.declared.grammar.Grammar.TheVariants.{AbsolutePath, WindowsPath, EnvironmentEntry, PortableEntry, SelinuxLabel}
 use Rattle.oci_rules.specs.Rules.{Rule, windows, solaris, must, stated, should, host, here, under, each_item, if_so, asks, the_part, is_text, is_truth, is_within, text, one_of, within, there, absent, either, not_empty, at_most, distinct, among, itself, members, entry_name}
-use Rattle.oci_rules_runtime.specs.Lists.{every, posix, posix_rlimits, capabilities}
+use Rattle.oci_rules.specs.Platforms.{every}
+use Rattle.oci_rules_runtime.specs.Lists.{posix, posix_rlimits, capabilities}
 
 -- the book of process
 abbrev pub process_rules : List Rule

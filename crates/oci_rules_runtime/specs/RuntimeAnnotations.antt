@@ -3,7 +3,8 @@
 use Rattle.std.specs.Prelude.{List, [], ◌∷◌, ◌++◌, codes, false}
 use Rattle.oci_rule_texts.specs.declared.grammar.Grammar.TheVariants.{DateTime, ReverseDomain, Signal}
 use Rattle.oci_rules.specs.Rules.{Rule, must, stated, should, here, under, each_name, if_so, asks, the_part, is_text, text, reserved, not_empty}
-use Rattle.oci_rules_runtime.specs.Lists.{every, opencontainers_keys}
+use Rattle.oci_rules.specs.Platforms.{every}
+use Rattle.oci_rules_runtime.specs.Lists.{opencontainers_keys}
 
 -- the rules of features annotations
 abbrev pub features_annotations_rules : List Rule

@@ -3,7 +3,8 @@
 use Rattle.std.specs.Prelude.{List, [], ◌∷◌, ◌++◌, map, codes, pos, true, false}
 use Rattle.oci_rule_texts.specs.declared.grammar.Grammar.TheVariants.{AbsolutePath, WindowsPath, VolumeGuidPath, LocalDirectory, EnvironmentEntry, SemVer, RootfsPath, NoNul}
 use Rattle.oci_rules.specs.Rules.{Rule, linux, windows, solaris, vm, zos, freebsd, must, stated, should, host, here, under, each_item, if_so, asks, the_part, the_document, is_there, has_text, has_item, text, one_of, none_of, begins, within, truth, there, absent, either, not_empty, length_at_most, lists, lists_item, beneath}
-use Rattle.oci_rules_runtime.specs.Lists.{every, posix}
+use Rattle.oci_rules.specs.Platforms.{every}
+use Rattle.oci_rules_runtime.specs.Lists.{posix}
 use Rattle.oci_rules_runtime.specs.RuntimeAnnotations.{runtime_annotations_rules}
 
 -- the book of spec

@@ -3,7 +3,7 @@
 use Rattle.std.specs.Prelude.{List, [], ◌∷◌, ◌++◌, map, codes, pos, true}
 use Rattle.oci_rule_texts.specs.declared.grammar.Grammar.TheVariants.{AbsolutePath, SemVer}
 use Rattle.oci_rules.specs.Rules.{Rule, linux, must, stated, host, here, under, if_so, asks, the_part, is_text, text, within, there, not_empty, lists, distinct, itself, beneath}
-use Rattle.oci_rules_runtime.specs.Lists.{every}
+use Rattle.oci_rules.specs.Platforms.{every}
 use Rattle.oci_rules_runtime.specs.RuntimeAnnotations.{runtime_annotations_rules}
 
 -- the rules of any state

@@ -5,9 +5,9 @@ ghost use Rattle.std.specs.List.{flat_map};
 ghost use Rattle.oci_rules.specs.Tables.{rule_of};
 ghost use Rattle.oci_rules_runtime.specs.Features as defined;
 
-use crate::lists::{EVERY, HOOK_KINDS, LINUX_MOUNT_OPTIONS, SECCOMP_FLAGS, SECCOMP_OPERATORS};
+use crate::lists::{HOOK_KINDS, LINUX_MOUNT_OPTIONS, SECCOMP_FLAGS, SECCOMP_OPERATORS};
 use oci_rule_texts::Grammar;
-use oci_rules::{Key, Level, Rule, Step, Test};
+use oci_rules::{Key, Level, Platforms, Rule, Step, Test};
 
 static RULES_1: [Rule<'static>; 3] = [
     Rule {
@@ -15,7 +15,7 @@ static RULES_1: [Rule<'static>; 3] = [
         level: Level::Stated,
         section: "runtime features.md#specification-version",
         wanted: "a version (SemVer 2.0.0)",
-        platforms: EVERY,
+        platforms: Platforms::Every,
         place: &[Step::Member("ociVersionMin")],
         test: Test::Text(Grammar::SemVer),
     },
@@ -24,7 +24,7 @@ static RULES_1: [Rule<'static>; 3] = [
         level: Level::Stated,
         section: "runtime features.md#specification-version",
         wanted: "a version (SemVer 2.0.0)",
-        platforms: EVERY,
+        platforms: Platforms::Every,
         place: &[Step::Member("ociVersionMax")],
         test: Test::Text(Grammar::SemVer),
     },
@@ -33,7 +33,7 @@ static RULES_1: [Rule<'static>; 3] = [
         level: Level::Host,
         section: "runtime features.md#hooks",
         wanted: "a kind of hooks that the specification knows",
-        platforms: EVERY,
+        platforms: Platforms::Every,
         place: &[Step::Member("hooks"), Step::EachItem],
         test: Test::OneOf(HOOK_KINDS),
     },
@@ -45,7 +45,7 @@ static RULES_2: [Rule<'static>; 3] = [
         level: Level::Stated,
         section: "runtime features-linux.md#capabilities",
         wanted: "CAP_ and capital letters",
-        platforms: EVERY,
+        platforms: Platforms::Every,
         place: &[
             Step::Member("linux"),
             Step::Member("capabilities"),
@@ -58,7 +58,7 @@ static RULES_2: [Rule<'static>; 3] = [
         level: Level::Should,
         section: "runtime features.md#mount-options",
         wanted: "an option that belongs to no file system",
-        platforms: EVERY,
+        platforms: Platforms::Every,
         place: &[Step::Member("mountOptions"), Step::EachItem],
         test: Test::OneOf(LINUX_MOUNT_OPTIONS),
     },
@@ -67,7 +67,7 @@ static RULES_2: [Rule<'static>; 3] = [
         level: Level::Stated,
         section: "runtime features-linux.md#seccomp",
         wanted: "a flag that is among the known ones",
-        platforms: EVERY,
+        platforms: Platforms::Every,
         place: &[Step::Member("linux"), Step::Member("seccomp")],
         test: Test::Among("supportedFlags", "knownFlags"),
     },
@@ -79,7 +79,7 @@ static RULES_3: [Rule<'static>; 3] = [
         level: Level::Host,
         section: "runtime features-linux.md#seccomp",
         wanted: "an operator or flag that the specification knows",
-        platforms: EVERY,
+        platforms: Platforms::Every,
         place: &[
             Step::Member("linux"),
             Step::Member("seccomp"),
@@ -93,7 +93,7 @@ static RULES_3: [Rule<'static>; 3] = [
         level: Level::Host,
         section: "runtime features-linux.md#seccomp",
         wanted: "an operator or flag that the specification knows",
-        platforms: EVERY,
+        platforms: Platforms::Every,
         place: &[
             Step::Member("linux"),
             Step::Member("seccomp"),
@@ -107,7 +107,7 @@ static RULES_3: [Rule<'static>; 3] = [
         level: Level::Host,
         section: "runtime features-linux.md#seccomp",
         wanted: "an operator or flag that the specification knows",
-        platforms: EVERY,
+        platforms: Platforms::Every,
         place: &[
             Step::Member("linux"),
             Step::Member("seccomp"),
@@ -124,7 +124,7 @@ static RULES_4: [Rule<'static>; 3] = [
         level: Level::Host,
         section: "common practice",
         wanted: "each name once",
-        platforms: EVERY,
+        platforms: Platforms::Every,
         place: &[Step::Member("hooks")],
         test: Test::Distinct(Key::Itself),
     },
@@ -133,7 +133,7 @@ static RULES_4: [Rule<'static>; 3] = [
         level: Level::Host,
         section: "common practice",
         wanted: "each name once",
-        platforms: EVERY,
+        platforms: Platforms::Every,
         place: &[Step::Member("mountOptions")],
         test: Test::Distinct(Key::Itself),
     },
@@ -142,7 +142,7 @@ static RULES_4: [Rule<'static>; 3] = [
         level: Level::Host,
         section: "common practice",
         wanted: "each name once",
-        platforms: EVERY,
+        platforms: Platforms::Every,
         place: &[Step::Member("linux"), Step::Member("namespaces")],
         test: Test::Distinct(Key::Itself),
     },
@@ -154,7 +154,7 @@ static RULES_5: [Rule<'static>; 3] = [
         level: Level::Host,
         section: "common practice",
         wanted: "each name once",
-        platforms: EVERY,
+        platforms: Platforms::Every,
         place: &[Step::Member("linux"), Step::Member("capabilities")],
         test: Test::Distinct(Key::Itself),
     },
@@ -163,7 +163,7 @@ static RULES_5: [Rule<'static>; 3] = [
         level: Level::Host,
         section: "common practice",
         wanted: "each name once",
-        platforms: EVERY,
+        platforms: Platforms::Every,
         place: &[
             Step::Member("linux"),
             Step::Member("seccomp"),
@@ -176,7 +176,7 @@ static RULES_5: [Rule<'static>; 3] = [
         level: Level::Host,
         section: "common practice",
         wanted: "each name once",
-        platforms: EVERY,
+        platforms: Platforms::Every,
         place: &[
             Step::Member("linux"),
             Step::Member("seccomp"),
@@ -192,7 +192,7 @@ static RULES_6: [Rule<'static>; 3] = [
         level: Level::Host,
         section: "common practice",
         wanted: "each name once",
-        platforms: EVERY,
+        platforms: Platforms::Every,
         place: &[
             Step::Member("linux"),
             Step::Member("seccomp"),
@@ -205,7 +205,7 @@ static RULES_6: [Rule<'static>; 3] = [
         level: Level::Host,
         section: "common practice",
         wanted: "each name once",
-        platforms: EVERY,
+        platforms: Platforms::Every,
         place: &[
             Step::Member("linux"),
             Step::Member("seccomp"),
@@ -218,7 +218,7 @@ static RULES_6: [Rule<'static>; 3] = [
         level: Level::Host,
         section: "common practice",
         wanted: "each name once",
-        platforms: EVERY,
+        platforms: Platforms::Every,
         place: &[
             Step::Member("linux"),
             Step::Member("seccomp"),
@@ -234,7 +234,7 @@ static RULES_7: [Rule<'static>; 2] = [
         level: Level::Must,
         section: "runtime config.md#annotations",
         wanted: "a key that is not empty",
-        platforms: EVERY,
+        platforms: Platforms::Every,
         place: &[Step::Member("annotations"), Step::EachName],
         test: Test::NotEmpty,
     },
@@ -243,7 +243,7 @@ static RULES_7: [Rule<'static>; 2] = [
         level: Level::Should,
         section: "runtime config.md#annotations",
         wanted: "a key in reverse domain notation, as com.example.myKey",
-        platforms: EVERY,
+        platforms: Platforms::Every,
         place: &[Step::Member("annotations"), Step::EachName],
         test: Test::Text(Grammar::ReverseDomain),
     },

@@ -5,9 +5,8 @@ ghost use Rattle.std.specs.List.{flat_map};
 ghost use Rattle.oci_rules.specs.Tables.{rule_of};
 ghost use Rattle.oci_rules_runtime.specs.Linux as defined;
 
-use crate::lists::EVERY;
 use oci_rule_texts::Grammar;
-use oci_rules::{Check, Condition, Key, Level, Origin, Rule, Step, Test};
+use oci_rules::{Check, Condition, Key, Level, Origin, Platforms, Rule, Step, Test};
 
 static RULES_1: [Rule<'static>; 3] = [
     Rule {
@@ -15,7 +14,7 @@ static RULES_1: [Rule<'static>; 3] = [
         level: Level::Must,
         section: "runtime config-linux.md#namespaces",
         wanted: "each type of namespace once",
-        platforms: EVERY,
+        platforms: Platforms::Every,
         place: &[Step::Member("linux"), Step::Member("namespaces")],
         test: Test::Distinct(Key::Members(&[&["type"]])),
     },
@@ -24,7 +23,7 @@ static RULES_1: [Rule<'static>; 3] = [
         level: Level::Must,
         section: "runtime config-linux.md#namespaces",
         wanted: "an absolute path",
-        platforms: EVERY,
+        platforms: Platforms::Every,
         place: &[
             Step::Member("linux"),
             Step::Member("namespaces"),
@@ -38,7 +37,7 @@ static RULES_1: [Rule<'static>; 3] = [
         level: Level::Stated,
         section: "runtime config-linux.md#offset-for-time-namespace",
         wanted: "monotonic or boottime",
-        platforms: EVERY,
+        platforms: Platforms::Every,
         place: &[
             Step::Member("linux"),
             Step::Member("timeOffsets"),
@@ -54,7 +53,7 @@ static RULES_2: [Rule<'static>; 3] = [
         level: Level::Host,
         section: "time_namespaces(7)",
         wanted: "an integer from 0 to 999999999",
-        platforms: EVERY,
+        platforms: Platforms::Every,
         place: &[
             Step::Member("linux"),
             Step::Member("timeOffsets"),
@@ -68,7 +67,7 @@ static RULES_2: [Rule<'static>; 3] = [
         level: Level::Stated,
         section: "runtime config-linux.md#offset-for-time-namespace",
         wanted: "no offsets without a time namespace of its own",
-        platforms: EVERY,
+        platforms: Platforms::Every,
         place: &[
             Step::When(Condition {
                 origin: Origin::Document,
@@ -85,7 +84,7 @@ static RULES_2: [Rule<'static>; 3] = [
         level: Level::Stated,
         section: "runtime config-linux.md#devices",
         wanted: "c, b, u or p",
-        platforms: EVERY,
+        platforms: Platforms::Every,
         place: &[
             Step::Member("linux"),
             Step::Member("devices"),
@@ -102,7 +101,7 @@ static RULES_3: [Rule<'static>; 3] = [
         level: Level::Must,
         section: "runtime config-linux.md#devices",
         wanted: "a path that is not empty",
-        platforms: EVERY,
+        platforms: Platforms::Every,
         place: &[
             Step::Member("linux"),
             Step::Member("devices"),
@@ -115,7 +114,7 @@ static RULES_3: [Rule<'static>; 3] = [
         level: Level::Must,
         section: "runtime config-linux.md#devices",
         wanted: "a path that is not empty",
-        platforms: EVERY,
+        platforms: Platforms::Every,
         place: &[
             Step::Member("linux"),
             Step::Member("devices"),
@@ -129,7 +128,7 @@ static RULES_3: [Rule<'static>; 3] = [
         level: Level::Stated,
         section: "runtime config-linux.md#devices",
         wanted: "an absolute path",
-        platforms: EVERY,
+        platforms: Platforms::Every,
         place: &[
             Step::Member("linux"),
             Step::Member("devices"),
@@ -146,7 +145,7 @@ static RULES_4: [Rule<'static>; 3] = [
         level: Level::Must,
         section: "runtime config-linux.md#devices",
         wanted: "a major and a minor number, but for type p",
-        platforms: EVERY,
+        platforms: Platforms::Every,
         place: &[
             Step::Member("linux"),
             Step::Member("devices"),
@@ -165,7 +164,7 @@ static RULES_4: [Rule<'static>; 3] = [
         level: Level::Must,
         section: "runtime config-linux.md#devices",
         wanted: "a major and a minor number, but for type p",
-        platforms: EVERY,
+        platforms: Platforms::Every,
         place: &[
             Step::Member("linux"),
             Step::Member("devices"),
@@ -184,7 +183,7 @@ static RULES_4: [Rule<'static>; 3] = [
         level: Level::Host,
         section: "mknod(2)",
         wanted: "a number that is not negative",
-        platforms: EVERY,
+        platforms: Platforms::Every,
         place: &[
             Step::Member("linux"),
             Step::Member("devices"),
@@ -201,7 +200,7 @@ static RULES_5: [Rule<'static>; 3] = [
         level: Level::Host,
         section: "mknod(2)",
         wanted: "a number that is not negative",
-        platforms: EVERY,
+        platforms: Platforms::Every,
         place: &[
             Step::Member("linux"),
             Step::Member("devices"),
@@ -215,7 +214,7 @@ static RULES_5: [Rule<'static>; 3] = [
         level: Level::Host,
         section: "runtime config-linux.md#devices",
         wanted: "0 for type p",
-        platforms: EVERY,
+        platforms: Platforms::Every,
         place: &[
             Step::Member("linux"),
             Step::Member("devices"),
@@ -235,7 +234,7 @@ static RULES_5: [Rule<'static>; 3] = [
         level: Level::Host,
         section: "runtime config-linux.md#devices",
         wanted: "0 for type p",
-        platforms: EVERY,
+        platforms: Platforms::Every,
         place: &[
             Step::Member("linux"),
             Step::Member("devices"),
@@ -258,7 +257,7 @@ static RULES_6: [Rule<'static>; 3] = [
         level: Level::Should,
         section: "runtime config-linux.md#devices",
         wanted: "each type with its major and minor number once",
-        platforms: EVERY,
+        platforms: Platforms::Every,
         place: &[Step::Member("linux"), Step::Member("devices")],
         test: Test::Distinct(Key::Members(&[&["type"], &["major"], &["minor"]])),
     },
@@ -267,7 +266,7 @@ static RULES_6: [Rule<'static>; 3] = [
         level: Level::Host,
         section: "common practice",
         wanted: "each path once",
-        platforms: EVERY,
+        platforms: Platforms::Every,
         place: &[Step::Member("linux"), Step::Member("devices")],
         test: Test::Distinct(Key::Members(&[&["path"]])),
     },
@@ -276,7 +275,7 @@ static RULES_6: [Rule<'static>; 3] = [
         level: Level::Host,
         section: "runtime config-linux.md#devices",
         wanted: "permission bits, from 0 to 4095",
-        platforms: EVERY,
+        platforms: Platforms::Every,
         place: &[
             Step::Member("linux"),
             Step::Member("devices"),
@@ -293,7 +292,7 @@ static RULES_7: [Rule<'static>; 3] = [
         level: Level::Host,
         section: "runtime config-linux.md#cgroups-path",
         wanted: "a path without ..",
-        platforms: EVERY,
+        platforms: Platforms::Every,
         place: &[Step::Member("linux"), Step::Member("cgroupsPath")],
         test: Test::Text(Grammar::NoParent),
     },
@@ -302,7 +301,7 @@ static RULES_7: [Rule<'static>; 3] = [
         level: Level::Stated,
         section: "runtime config-linux.md#rootfs-mount-propagation",
         wanted: "shared, slave, private or unbindable",
-        platforms: EVERY,
+        platforms: Platforms::Every,
         place: &[Step::Member("linux"), Step::Member("rootfsPropagation")],
         test: Test::OneOf(&["shared", "slave", "private", "unbindable"]),
     },
@@ -311,7 +310,7 @@ static RULES_7: [Rule<'static>; 3] = [
         level: Level::Must,
         section: "runtime config-linux.md#masked-paths",
         wanted: "an absolute path",
-        platforms: EVERY,
+        platforms: Platforms::Every,
         place: &[
             Step::Member("linux"),
             Step::Member("maskedPaths"),
@@ -327,7 +326,7 @@ static RULES_8: [Rule<'static>; 3] = [
         level: Level::Must,
         section: "runtime config-linux.md#readonly-paths",
         wanted: "an absolute path",
-        platforms: EVERY,
+        platforms: Platforms::Every,
         place: &[
             Step::Member("linux"),
             Step::Member("readonlyPaths"),
@@ -340,7 +339,7 @@ static RULES_8: [Rule<'static>; 3] = [
         level: Level::Host,
         section: "common practice",
         wanted: "no such paths without a mount namespace of its own",
-        platforms: EVERY,
+        platforms: Platforms::Every,
         place: &[
             Step::When(Condition {
                 origin: Origin::Document,
@@ -357,7 +356,7 @@ static RULES_8: [Rule<'static>; 3] = [
         level: Level::Host,
         section: "common practice",
         wanted: "no such paths without a mount namespace of its own",
-        platforms: EVERY,
+        platforms: Platforms::Every,
         place: &[
             Step::When(Condition {
                 origin: Origin::Document,
@@ -377,7 +376,7 @@ static RULES_9: [Rule<'static>; 3] = [
         level: Level::Stated,
         section: "runtime config-linux.md#personality",
         wanted: "no flags",
-        platforms: EVERY,
+        platforms: Platforms::Every,
         place: &[
             Step::Member("linux"),
             Step::Member("personality"),
@@ -390,7 +389,7 @@ static RULES_9: [Rule<'static>; 3] = [
         level: Level::Should,
         section: "runtime config-linux.md#intelrdt",
         wanted: "a string that begins with L3:",
-        platforms: EVERY,
+        platforms: Platforms::Every,
         place: &[
             Step::Member("linux"),
             Step::Member("intelRdt"),
@@ -403,7 +402,7 @@ static RULES_9: [Rule<'static>; 3] = [
         level: Level::Should,
         section: "runtime config-linux.md#intelrdt",
         wanted: "a single line",
-        platforms: EVERY,
+        platforms: Platforms::Every,
         place: &[
             Step::Member("linux"),
             Step::Member("intelRdt"),
@@ -419,7 +418,7 @@ static RULES_10: [Rule<'static>; 3] = [
         level: Level::Must,
         section: "runtime config-linux.md#intelrdt",
         wanted: "a string that begins with MB:",
-        platforms: EVERY,
+        platforms: Platforms::Every,
         place: &[
             Step::Member("linux"),
             Step::Member("intelRdt"),
@@ -432,7 +431,7 @@ static RULES_10: [Rule<'static>; 3] = [
         level: Level::Must,
         section: "runtime config-linux.md#intelrdt",
         wanted: "a single line",
-        platforms: EVERY,
+        platforms: Platforms::Every,
         place: &[
             Step::Member("linux"),
             Step::Member("intelRdt"),
@@ -445,7 +444,7 @@ static RULES_10: [Rule<'static>; 3] = [
         level: Level::Host,
         section: "common practice",
         wanted: "the name of one directory",
-        platforms: EVERY,
+        platforms: Platforms::Every,
         place: &[
             Step::Member("linux"),
             Step::Member("intelRdt"),

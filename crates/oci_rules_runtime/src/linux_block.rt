@@ -5,8 +5,7 @@ ghost use Rattle.std.specs.List.{flat_map};
 ghost use Rattle.oci_rules.specs.Tables.{rule_of};
 ghost use Rattle.oci_rules_runtime.specs.Linux as defined;
 
-use crate::lists::EVERY;
-use oci_rules::{Key, Level, Rule, Step, Test};
+use oci_rules::{Key, Level, Platforms, Rule, Step, Test};
 
 static RULES_1: [Rule<'static>; 3] = [
     Rule {
@@ -14,7 +13,7 @@ static RULES_1: [Rule<'static>; 3] = [
         level: Level::Host,
         section: "cgroup v1 blkio",
         wanted: "an integer from 10 to 1000",
-        platforms: EVERY,
+        platforms: Platforms::Every,
         place: &[
             Step::Member("linux"),
             Step::Member("resources"),
@@ -28,7 +27,7 @@ static RULES_1: [Rule<'static>; 3] = [
         level: Level::Host,
         section: "cgroup v1 blkio",
         wanted: "an integer from 10 to 1000",
-        platforms: EVERY,
+        platforms: Platforms::Every,
         place: &[
             Step::Member("linux"),
             Step::Member("resources"),
@@ -42,7 +41,7 @@ static RULES_1: [Rule<'static>; 3] = [
         level: Level::Host,
         section: "cgroup v1 blkio",
         wanted: "an integer from 10 to 1000",
-        platforms: EVERY,
+        platforms: Platforms::Every,
         place: &[
             Step::Member("linux"),
             Step::Member("resources"),
@@ -61,7 +60,7 @@ static RULES_2: [Rule<'static>; 3] = [
         level: Level::Host,
         section: "cgroup v1 blkio",
         wanted: "an integer from 10 to 1000",
-        platforms: EVERY,
+        platforms: Platforms::Every,
         place: &[
             Step::Member("linux"),
             Step::Member("resources"),
@@ -77,7 +76,7 @@ static RULES_2: [Rule<'static>; 3] = [
         level: Level::Must,
         section: "runtime config-linux.md#block-io",
         wanted: "a weight or a weight of leaves",
-        platforms: EVERY,
+        platforms: Platforms::Every,
         place: &[
             Step::Member("linux"),
             Step::Member("resources"),
@@ -92,7 +91,7 @@ static RULES_2: [Rule<'static>; 3] = [
         level: Level::Must,
         section: "runtime config-linux.md#block-io",
         wanted: "a major and a minor number",
-        platforms: EVERY,
+        platforms: Platforms::Every,
         place: &[
             Step::Member("linux"),
             Step::Member("resources"),
@@ -110,7 +109,7 @@ static RULES_3: [Rule<'static>; 3] = [
         level: Level::Must,
         section: "runtime config-linux.md#block-io",
         wanted: "a major and a minor number",
-        platforms: EVERY,
+        platforms: Platforms::Every,
         place: &[
             Step::Member("linux"),
             Step::Member("resources"),
@@ -125,7 +124,7 @@ static RULES_3: [Rule<'static>; 3] = [
         level: Level::Must,
         section: "runtime config-linux.md#block-io",
         wanted: "a major and a minor number",
-        platforms: EVERY,
+        platforms: Platforms::Every,
         place: &[
             Step::Member("linux"),
             Step::Member("resources"),
@@ -140,7 +139,7 @@ static RULES_3: [Rule<'static>; 3] = [
         level: Level::Must,
         section: "runtime config-linux.md#block-io",
         wanted: "a major and a minor number",
-        platforms: EVERY,
+        platforms: Platforms::Every,
         place: &[
             Step::Member("linux"),
             Step::Member("resources"),
@@ -158,7 +157,7 @@ static RULES_4: [Rule<'static>; 3] = [
         level: Level::Must,
         section: "runtime config-linux.md#block-io",
         wanted: "a major and a minor number",
-        platforms: EVERY,
+        platforms: Platforms::Every,
         place: &[
             Step::Member("linux"),
             Step::Member("resources"),
@@ -173,7 +172,7 @@ static RULES_4: [Rule<'static>; 3] = [
         level: Level::Must,
         section: "runtime config-linux.md#block-io",
         wanted: "a major and a minor number",
-        platforms: EVERY,
+        platforms: Platforms::Every,
         place: &[
             Step::Member("linux"),
             Step::Member("resources"),
@@ -188,7 +187,7 @@ static RULES_4: [Rule<'static>; 3] = [
         level: Level::Must,
         section: "runtime config-linux.md#block-io",
         wanted: "a major and a minor number",
-        platforms: EVERY,
+        platforms: Platforms::Every,
         place: &[
             Step::Member("linux"),
             Step::Member("resources"),
@@ -206,7 +205,7 @@ static RULES_5: [Rule<'static>; 3] = [
         level: Level::Must,
         section: "runtime config-linux.md#block-io",
         wanted: "a major and a minor number",
-        platforms: EVERY,
+        platforms: Platforms::Every,
         place: &[
             Step::Member("linux"),
             Step::Member("resources"),
@@ -221,7 +220,7 @@ static RULES_5: [Rule<'static>; 3] = [
         level: Level::Must,
         section: "runtime config-linux.md#block-io",
         wanted: "a major and a minor number",
-        platforms: EVERY,
+        platforms: Platforms::Every,
         place: &[
             Step::Member("linux"),
             Step::Member("resources"),
@@ -236,7 +235,7 @@ static RULES_5: [Rule<'static>; 3] = [
         level: Level::Must,
         section: "runtime config-linux.md#block-io",
         wanted: "a major and a minor number",
-        platforms: EVERY,
+        platforms: Platforms::Every,
         place: &[
             Step::Member("linux"),
             Step::Member("resources"),
@@ -254,7 +253,7 @@ static RULES_6: [Rule<'static>; 3] = [
         level: Level::Must,
         section: "runtime config-linux.md#block-io",
         wanted: "a rate",
-        platforms: EVERY,
+        platforms: Platforms::Every,
         place: &[
             Step::Member("linux"),
             Step::Member("resources"),
@@ -269,7 +268,7 @@ static RULES_6: [Rule<'static>; 3] = [
         level: Level::Must,
         section: "runtime config-linux.md#block-io",
         wanted: "a rate",
-        platforms: EVERY,
+        platforms: Platforms::Every,
         place: &[
             Step::Member("linux"),
             Step::Member("resources"),
@@ -284,7 +283,7 @@ static RULES_6: [Rule<'static>; 3] = [
         level: Level::Must,
         section: "runtime config-linux.md#block-io",
         wanted: "a rate",
-        platforms: EVERY,
+        platforms: Platforms::Every,
         place: &[
             Step::Member("linux"),
             Step::Member("resources"),
@@ -302,7 +301,7 @@ static RULES_7: [Rule<'static>; 3] = [
         level: Level::Must,
         section: "runtime config-linux.md#block-io",
         wanted: "a rate",
-        platforms: EVERY,
+        platforms: Platforms::Every,
         place: &[
             Step::Member("linux"),
             Step::Member("resources"),
@@ -317,7 +316,7 @@ static RULES_7: [Rule<'static>; 3] = [
         level: Level::Host,
         section: "common practice",
         wanted: "each device once",
-        platforms: EVERY,
+        platforms: Platforms::Every,
         place: &[
             Step::Member("linux"),
             Step::Member("resources"),
@@ -331,7 +330,7 @@ static RULES_7: [Rule<'static>; 3] = [
         level: Level::Host,
         section: "common practice",
         wanted: "each device once",
-        platforms: EVERY,
+        platforms: Platforms::Every,
         place: &[
             Step::Member("linux"),
             Step::Member("resources"),
@@ -348,7 +347,7 @@ static RULES_8: [Rule<'static>; 3] = [
         level: Level::Host,
         section: "common practice",
         wanted: "each device once",
-        platforms: EVERY,
+        platforms: Platforms::Every,
         place: &[
             Step::Member("linux"),
             Step::Member("resources"),
@@ -362,7 +361,7 @@ static RULES_8: [Rule<'static>; 3] = [
         level: Level::Host,
         section: "common practice",
         wanted: "each device once",
-        platforms: EVERY,
+        platforms: Platforms::Every,
         place: &[
             Step::Member("linux"),
             Step::Member("resources"),
@@ -376,7 +375,7 @@ static RULES_8: [Rule<'static>; 3] = [
         level: Level::Host,
         section: "common practice",
         wanted: "each device once",
-        platforms: EVERY,
+        platforms: Platforms::Every,
         place: &[
             Step::Member("linux"),
             Step::Member("resources"),

@@ -5,8 +5,7 @@ ghost use Rattle.std.specs.List.{flat_map};
 ghost use Rattle.oci_rules.specs.Tables.{rule_of};
 ghost use Rattle.oci_rules_runtime.specs.Linux as defined;
 
-use crate::lists::EVERY;
-use oci_rules::{Level, Rule, Step, Test};
+use oci_rules::{Level, Platforms, Rule, Step, Test};
 
 static RULES_1: [Rule<'static>; 3] = [
     Rule {
@@ -14,7 +13,7 @@ static RULES_1: [Rule<'static>; 3] = [
         level: Level::Must,
         section: "runtime config-linux.md#user-namespace-mappings",
         wanted: "the first IDs and the size",
-        platforms: EVERY,
+        platforms: Platforms::Every,
         place: &[Step::Member("uidMappings"), Step::EachItem],
         test: Test::There("containerID"),
     },
@@ -23,7 +22,7 @@ static RULES_1: [Rule<'static>; 3] = [
         level: Level::Must,
         section: "runtime config-linux.md#user-namespace-mappings",
         wanted: "the first IDs and the size",
-        platforms: EVERY,
+        platforms: Platforms::Every,
         place: &[Step::Member("gidMappings"), Step::EachItem],
         test: Test::There("containerID"),
     },
@@ -32,7 +31,7 @@ static RULES_1: [Rule<'static>; 3] = [
         level: Level::Must,
         section: "runtime config-linux.md#user-namespace-mappings",
         wanted: "the first IDs and the size",
-        platforms: EVERY,
+        platforms: Platforms::Every,
         place: &[
             Step::Member("linux"),
             Step::Member("uidMappings"),
@@ -48,7 +47,7 @@ static RULES_2: [Rule<'static>; 3] = [
         level: Level::Must,
         section: "runtime config-linux.md#user-namespace-mappings",
         wanted: "the first IDs and the size",
-        platforms: EVERY,
+        platforms: Platforms::Every,
         place: &[
             Step::Member("linux"),
             Step::Member("gidMappings"),
@@ -61,7 +60,7 @@ static RULES_2: [Rule<'static>; 3] = [
         level: Level::Must,
         section: "runtime config-linux.md#user-namespace-mappings",
         wanted: "the first IDs and the size",
-        platforms: EVERY,
+        platforms: Platforms::Every,
         place: &[
             Step::Member("mounts"),
             Step::EachItem,
@@ -75,7 +74,7 @@ static RULES_2: [Rule<'static>; 3] = [
         level: Level::Must,
         section: "runtime config-linux.md#user-namespace-mappings",
         wanted: "the first IDs and the size",
-        platforms: EVERY,
+        platforms: Platforms::Every,
         place: &[
             Step::Member("mounts"),
             Step::EachItem,
@@ -92,7 +91,7 @@ static RULES_3: [Rule<'static>; 3] = [
         level: Level::Must,
         section: "runtime config-linux.md#user-namespace-mappings",
         wanted: "the first IDs and the size",
-        platforms: EVERY,
+        platforms: Platforms::Every,
         place: &[Step::Member("uidMappings"), Step::EachItem],
         test: Test::There("hostID"),
     },
@@ -101,7 +100,7 @@ static RULES_3: [Rule<'static>; 3] = [
         level: Level::Must,
         section: "runtime config-linux.md#user-namespace-mappings",
         wanted: "the first IDs and the size",
-        platforms: EVERY,
+        platforms: Platforms::Every,
         place: &[Step::Member("gidMappings"), Step::EachItem],
         test: Test::There("hostID"),
     },
@@ -110,7 +109,7 @@ static RULES_3: [Rule<'static>; 3] = [
         level: Level::Must,
         section: "runtime config-linux.md#user-namespace-mappings",
         wanted: "the first IDs and the size",
-        platforms: EVERY,
+        platforms: Platforms::Every,
         place: &[
             Step::Member("linux"),
             Step::Member("uidMappings"),
@@ -126,7 +125,7 @@ static RULES_4: [Rule<'static>; 3] = [
         level: Level::Must,
         section: "runtime config-linux.md#user-namespace-mappings",
         wanted: "the first IDs and the size",
-        platforms: EVERY,
+        platforms: Platforms::Every,
         place: &[
             Step::Member("linux"),
             Step::Member("gidMappings"),
@@ -139,7 +138,7 @@ static RULES_4: [Rule<'static>; 3] = [
         level: Level::Must,
         section: "runtime config-linux.md#user-namespace-mappings",
         wanted: "the first IDs and the size",
-        platforms: EVERY,
+        platforms: Platforms::Every,
         place: &[
             Step::Member("mounts"),
             Step::EachItem,
@@ -153,7 +152,7 @@ static RULES_4: [Rule<'static>; 3] = [
         level: Level::Must,
         section: "runtime config-linux.md#user-namespace-mappings",
         wanted: "the first IDs and the size",
-        platforms: EVERY,
+        platforms: Platforms::Every,
         place: &[
             Step::Member("mounts"),
             Step::EachItem,
@@ -170,7 +169,7 @@ static RULES_5: [Rule<'static>; 3] = [
         level: Level::Must,
         section: "runtime config-linux.md#user-namespace-mappings",
         wanted: "the first IDs and the size",
-        platforms: EVERY,
+        platforms: Platforms::Every,
         place: &[Step::Member("uidMappings"), Step::EachItem],
         test: Test::There("size"),
     },
@@ -179,7 +178,7 @@ static RULES_5: [Rule<'static>; 3] = [
         level: Level::Must,
         section: "runtime config-linux.md#user-namespace-mappings",
         wanted: "the first IDs and the size",
-        platforms: EVERY,
+        platforms: Platforms::Every,
         place: &[Step::Member("gidMappings"), Step::EachItem],
         test: Test::There("size"),
     },
@@ -188,7 +187,7 @@ static RULES_5: [Rule<'static>; 3] = [
         level: Level::Must,
         section: "runtime config-linux.md#user-namespace-mappings",
         wanted: "the first IDs and the size",
-        platforms: EVERY,
+        platforms: Platforms::Every,
         place: &[
             Step::Member("linux"),
             Step::Member("uidMappings"),
@@ -204,7 +203,7 @@ static RULES_6: [Rule<'static>; 3] = [
         level: Level::Must,
         section: "runtime config-linux.md#user-namespace-mappings",
         wanted: "the first IDs and the size",
-        platforms: EVERY,
+        platforms: Platforms::Every,
         place: &[
             Step::Member("linux"),
             Step::Member("gidMappings"),
@@ -217,7 +216,7 @@ static RULES_6: [Rule<'static>; 3] = [
         level: Level::Must,
         section: "runtime config-linux.md#user-namespace-mappings",
         wanted: "the first IDs and the size",
-        platforms: EVERY,
+        platforms: Platforms::Every,
         place: &[
             Step::Member("mounts"),
             Step::EachItem,
@@ -231,7 +230,7 @@ static RULES_6: [Rule<'static>; 3] = [
         level: Level::Must,
         section: "runtime config-linux.md#user-namespace-mappings",
         wanted: "the first IDs and the size",
-        platforms: EVERY,
+        platforms: Platforms::Every,
         place: &[
             Step::Member("mounts"),
             Step::EachItem,
@@ -248,7 +247,7 @@ static RULES_7: [Rule<'static>; 3] = [
         level: Level::Host,
         section: "user_namespaces(7)",
         wanted: "at least one ID",
-        platforms: EVERY,
+        platforms: Platforms::Every,
         place: &[
             Step::Member("uidMappings"),
             Step::EachItem,
@@ -261,7 +260,7 @@ static RULES_7: [Rule<'static>; 3] = [
         level: Level::Host,
         section: "user_namespaces(7)",
         wanted: "at least one ID",
-        platforms: EVERY,
+        platforms: Platforms::Every,
         place: &[
             Step::Member("gidMappings"),
             Step::EachItem,
@@ -274,7 +273,7 @@ static RULES_7: [Rule<'static>; 3] = [
         level: Level::Host,
         section: "user_namespaces(7)",
         wanted: "at least one ID",
-        platforms: EVERY,
+        platforms: Platforms::Every,
         place: &[
             Step::Member("linux"),
             Step::Member("uidMappings"),
@@ -291,7 +290,7 @@ static RULES_8: [Rule<'static>; 3] = [
         level: Level::Host,
         section: "user_namespaces(7)",
         wanted: "at least one ID",
-        platforms: EVERY,
+        platforms: Platforms::Every,
         place: &[
             Step::Member("linux"),
             Step::Member("gidMappings"),
@@ -305,7 +304,7 @@ static RULES_8: [Rule<'static>; 3] = [
         level: Level::Host,
         section: "user_namespaces(7)",
         wanted: "at least one ID",
-        platforms: EVERY,
+        platforms: Platforms::Every,
         place: &[
             Step::Member("mounts"),
             Step::EachItem,
@@ -320,7 +319,7 @@ static RULES_8: [Rule<'static>; 3] = [
         level: Level::Host,
         section: "user_namespaces(7)",
         wanted: "at least one ID",
-        platforms: EVERY,
+        platforms: Platforms::Every,
         place: &[
             Step::Member("mounts"),
             Step::EachItem,

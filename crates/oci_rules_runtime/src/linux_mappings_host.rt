@@ -5,8 +5,7 @@ ghost use Rattle.std.specs.List.{flat_map};
 ghost use Rattle.oci_rules.specs.Tables.{rule_of};
 ghost use Rattle.oci_rules_runtime.specs.Linux as defined;
 
-use crate::lists::EVERY;
-use oci_rules::{Check, Condition, Level, Origin, Rule, Step, Test};
+use oci_rules::{Check, Condition, Level, Origin, Platforms, Rule, Step, Test};
 
 static RULES_1: [Rule<'static>; 3] = [
     Rule {
@@ -14,7 +13,7 @@ static RULES_1: [Rule<'static>; 3] = [
         level: Level::Host,
         section: "user_namespaces(7)",
         wanted: "IDs of 32 bits",
-        platforms: EVERY,
+        platforms: Platforms::Every,
         place: &[Step::Member("uidMappings"), Step::EachItem],
         test: Test::SumAtMost("containerID", "size", 4294967296),
     },
@@ -23,7 +22,7 @@ static RULES_1: [Rule<'static>; 3] = [
         level: Level::Host,
         section: "user_namespaces(7)",
         wanted: "IDs of 32 bits",
-        platforms: EVERY,
+        platforms: Platforms::Every,
         place: &[Step::Member("gidMappings"), Step::EachItem],
         test: Test::SumAtMost("containerID", "size", 4294967296),
     },
@@ -32,7 +31,7 @@ static RULES_1: [Rule<'static>; 3] = [
         level: Level::Host,
         section: "user_namespaces(7)",
         wanted: "IDs of 32 bits",
-        platforms: EVERY,
+        platforms: Platforms::Every,
         place: &[
             Step::Member("linux"),
             Step::Member("uidMappings"),
@@ -48,7 +47,7 @@ static RULES_2: [Rule<'static>; 3] = [
         level: Level::Host,
         section: "user_namespaces(7)",
         wanted: "IDs of 32 bits",
-        platforms: EVERY,
+        platforms: Platforms::Every,
         place: &[
             Step::Member("linux"),
             Step::Member("gidMappings"),
@@ -61,7 +60,7 @@ static RULES_2: [Rule<'static>; 3] = [
         level: Level::Host,
         section: "user_namespaces(7)",
         wanted: "IDs of 32 bits",
-        platforms: EVERY,
+        platforms: Platforms::Every,
         place: &[
             Step::Member("mounts"),
             Step::EachItem,
@@ -75,7 +74,7 @@ static RULES_2: [Rule<'static>; 3] = [
         level: Level::Host,
         section: "user_namespaces(7)",
         wanted: "IDs of 32 bits",
-        platforms: EVERY,
+        platforms: Platforms::Every,
         place: &[
             Step::Member("mounts"),
             Step::EachItem,
@@ -92,7 +91,7 @@ static RULES_3: [Rule<'static>; 3] = [
         level: Level::Host,
         section: "user_namespaces(7)",
         wanted: "IDs of 32 bits",
-        platforms: EVERY,
+        platforms: Platforms::Every,
         place: &[Step::Member("uidMappings"), Step::EachItem],
         test: Test::SumAtMost("hostID", "size", 4294967296),
     },
@@ -101,7 +100,7 @@ static RULES_3: [Rule<'static>; 3] = [
         level: Level::Host,
         section: "user_namespaces(7)",
         wanted: "IDs of 32 bits",
-        platforms: EVERY,
+        platforms: Platforms::Every,
         place: &[Step::Member("gidMappings"), Step::EachItem],
         test: Test::SumAtMost("hostID", "size", 4294967296),
     },
@@ -110,7 +109,7 @@ static RULES_3: [Rule<'static>; 3] = [
         level: Level::Host,
         section: "user_namespaces(7)",
         wanted: "IDs of 32 bits",
-        platforms: EVERY,
+        platforms: Platforms::Every,
         place: &[
             Step::Member("linux"),
             Step::Member("uidMappings"),
@@ -126,7 +125,7 @@ static RULES_4: [Rule<'static>; 3] = [
         level: Level::Host,
         section: "user_namespaces(7)",
         wanted: "IDs of 32 bits",
-        platforms: EVERY,
+        platforms: Platforms::Every,
         place: &[
             Step::Member("linux"),
             Step::Member("gidMappings"),
@@ -139,7 +138,7 @@ static RULES_4: [Rule<'static>; 3] = [
         level: Level::Host,
         section: "user_namespaces(7)",
         wanted: "IDs of 32 bits",
-        platforms: EVERY,
+        platforms: Platforms::Every,
         place: &[
             Step::Member("mounts"),
             Step::EachItem,
@@ -153,7 +152,7 @@ static RULES_4: [Rule<'static>; 3] = [
         level: Level::Host,
         section: "user_namespaces(7)",
         wanted: "IDs of 32 bits",
-        platforms: EVERY,
+        platforms: Platforms::Every,
         place: &[
             Step::Member("mounts"),
             Step::EachItem,
@@ -170,7 +169,7 @@ static RULES_5: [Rule<'static>; 3] = [
         level: Level::Host,
         section: "user_namespaces(7)",
         wanted: "at most 340 entries",
-        platforms: EVERY,
+        platforms: Platforms::Every,
         place: &[Step::Member("uidMappings")],
         test: Test::LengthAtMost(340),
     },
@@ -179,7 +178,7 @@ static RULES_5: [Rule<'static>; 3] = [
         level: Level::Host,
         section: "user_namespaces(7)",
         wanted: "at most 340 entries",
-        platforms: EVERY,
+        platforms: Platforms::Every,
         place: &[Step::Member("gidMappings")],
         test: Test::LengthAtMost(340),
     },
@@ -188,7 +187,7 @@ static RULES_5: [Rule<'static>; 3] = [
         level: Level::Host,
         section: "user_namespaces(7)",
         wanted: "at most 340 entries",
-        platforms: EVERY,
+        platforms: Platforms::Every,
         place: &[Step::Member("linux"), Step::Member("uidMappings")],
         test: Test::LengthAtMost(340),
     },
@@ -200,7 +199,7 @@ static RULES_6: [Rule<'static>; 3] = [
         level: Level::Host,
         section: "user_namespaces(7)",
         wanted: "at most 340 entries",
-        platforms: EVERY,
+        platforms: Platforms::Every,
         place: &[Step::Member("linux"), Step::Member("gidMappings")],
         test: Test::LengthAtMost(340),
     },
@@ -209,7 +208,7 @@ static RULES_6: [Rule<'static>; 3] = [
         level: Level::Host,
         section: "user_namespaces(7)",
         wanted: "at most 340 entries",
-        platforms: EVERY,
+        platforms: Platforms::Every,
         place: &[
             Step::Member("mounts"),
             Step::EachItem,
@@ -222,7 +221,7 @@ static RULES_6: [Rule<'static>; 3] = [
         level: Level::Host,
         section: "user_namespaces(7)",
         wanted: "at most 340 entries",
-        platforms: EVERY,
+        platforms: Platforms::Every,
         place: &[
             Step::Member("mounts"),
             Step::EachItem,
@@ -238,7 +237,7 @@ static RULES_7: [Rule<'static>; 3] = [
         level: Level::Host,
         section: "runtime config-linux.md#user-namespace-mappings",
         wanted: "no mappings without a user namespace",
-        platforms: EVERY,
+        platforms: Platforms::Every,
         place: &[
             Step::When(Condition {
                 origin: Origin::Document,
@@ -255,7 +254,7 @@ static RULES_7: [Rule<'static>; 3] = [
         level: Level::Host,
         section: "runtime config-linux.md#user-namespace-mappings",
         wanted: "no mappings without a user namespace",
-        platforms: EVERY,
+        platforms: Platforms::Every,
         place: &[
             Step::When(Condition {
                 origin: Origin::Document,
@@ -272,7 +271,7 @@ static RULES_7: [Rule<'static>; 3] = [
         level: Level::Host,
         section: "runtime config-linux.md#user-namespace-mappings",
         wanted: "mappings, where a new user namespace is asked for",
-        platforms: EVERY,
+        platforms: Platforms::Every,
         place: &[
             Step::When(Condition {
                 origin: Origin::Document,
@@ -292,7 +291,7 @@ static RULES_8: [Rule<'static>; 3] = [
         level: Level::Host,
         section: "runtime config-linux.md#user-namespace-mappings",
         wanted: "mappings, where a new user namespace is asked for",
-        platforms: EVERY,
+        platforms: Platforms::Every,
         place: &[
             Step::When(Condition {
                 origin: Origin::Document,
@@ -309,7 +308,7 @@ static RULES_8: [Rule<'static>; 3] = [
         level: Level::Host,
         section: "runtime config-linux.md#user-namespace-mappings",
         wanted: "no mappings, where a user namespace is joined",
-        platforms: EVERY,
+        platforms: Platforms::Every,
         place: &[
             Step::When(Condition {
                 origin: Origin::Document,
@@ -326,7 +325,7 @@ static RULES_8: [Rule<'static>; 3] = [
         level: Level::Host,
         section: "runtime config-linux.md#user-namespace-mappings",
         wanted: "no mappings, where a user namespace is joined",
-        platforms: EVERY,
+        platforms: Platforms::Every,
         place: &[
             Step::When(Condition {
                 origin: Origin::Document,

@@ -5,9 +5,8 @@ ghost use Rattle.std.specs.List.{flat_map};
 ghost use Rattle.oci_rules.specs.Tables.{rule_of};
 ghost use Rattle.oci_rules_runtime.specs.Linux as defined;
 
-use crate::lists::EVERY;
 use oci_rule_texts::Grammar;
-use oci_rules::{Check, Condition, Key, Level, Origin, Rule, Step, Test};
+use oci_rules::{Check, Condition, Key, Level, Origin, Platforms, Rule, Step, Test};
 
 static RULES_1: [Rule<'static>; 3] = [
     Rule {
@@ -15,7 +14,7 @@ static RULES_1: [Rule<'static>; 3] = [
         level: Level::Must,
         section: "runtime config-linux.md#allowed-device-list",
         wanted: "whether access is allowed",
-        platforms: EVERY,
+        platforms: Platforms::Every,
         place: &[
             Step::Member("linux"),
             Step::Member("resources"),
@@ -29,7 +28,7 @@ static RULES_1: [Rule<'static>; 3] = [
         level: Level::Stated,
         section: "runtime config-linux.md#allowed-device-list",
         wanted: "a, c or b",
-        platforms: EVERY,
+        platforms: Platforms::Every,
         place: &[
             Step::Member("linux"),
             Step::Member("resources"),
@@ -44,7 +43,7 @@ static RULES_1: [Rule<'static>; 3] = [
         level: Level::Stated,
         section: "runtime config-linux.md#allowed-device-list",
         wanted: "letters of r, w and m, each once",
-        platforms: EVERY,
+        platforms: Platforms::Every,
         place: &[
             Step::Member("linux"),
             Step::Member("resources"),
@@ -62,7 +61,7 @@ static RULES_2: [Rule<'static>; 3] = [
         level: Level::Stated,
         section: "runtime config-linux.md#memory",
         wanted: "a number of bytes, or -1",
-        platforms: EVERY,
+        platforms: Platforms::Every,
         place: &[
             Step::Member("linux"),
             Step::Member("resources"),
@@ -76,7 +75,7 @@ static RULES_2: [Rule<'static>; 3] = [
         level: Level::Stated,
         section: "runtime config-linux.md#memory",
         wanted: "a number of bytes, or -1",
-        platforms: EVERY,
+        platforms: Platforms::Every,
         place: &[
             Step::Member("linux"),
             Step::Member("resources"),
@@ -90,7 +89,7 @@ static RULES_2: [Rule<'static>; 3] = [
         level: Level::Stated,
         section: "runtime config-linux.md#memory",
         wanted: "a number of bytes, or -1",
-        platforms: EVERY,
+        platforms: Platforms::Every,
         place: &[
             Step::Member("linux"),
             Step::Member("resources"),
@@ -107,7 +106,7 @@ static RULES_3: [Rule<'static>; 3] = [
         level: Level::Stated,
         section: "runtime config-linux.md#memory",
         wanted: "a number of bytes, or -1",
-        platforms: EVERY,
+        platforms: Platforms::Every,
         place: &[
             Step::Member("linux"),
             Step::Member("resources"),
@@ -121,7 +120,7 @@ static RULES_3: [Rule<'static>; 3] = [
         level: Level::Stated,
         section: "runtime config-linux.md#memory",
         wanted: "a number of bytes, or -1",
-        platforms: EVERY,
+        platforms: Platforms::Every,
         place: &[
             Step::Member("linux"),
             Step::Member("resources"),
@@ -135,7 +134,7 @@ static RULES_3: [Rule<'static>; 3] = [
         level: Level::Should,
         section: "runtime config-linux.md#memory",
         wanted: "no such member, which is not recommended",
-        platforms: EVERY,
+        platforms: Platforms::Every,
         place: &[
             Step::Member("linux"),
             Step::Member("resources"),
@@ -151,7 +150,7 @@ static RULES_4: [Rule<'static>; 3] = [
         level: Level::Should,
         section: "runtime config-linux.md#memory",
         wanted: "no such member, which is not recommended",
-        platforms: EVERY,
+        platforms: Platforms::Every,
         place: &[
             Step::Member("linux"),
             Step::Member("resources"),
@@ -164,7 +163,7 @@ static RULES_4: [Rule<'static>; 3] = [
         level: Level::Stated,
         section: "runtime config-linux.md#memory",
         wanted: "an integer from 0 to 100",
-        platforms: EVERY,
+        platforms: Platforms::Every,
         place: &[
             Step::Member("linux"),
             Step::Member("resources"),
@@ -178,7 +177,7 @@ static RULES_4: [Rule<'static>; 3] = [
         level: Level::Host,
         section: "cgroup v1 memory",
         wanted: "a limit that is at most that of memory and swap",
-        platforms: EVERY,
+        platforms: Platforms::Every,
         place: &[
             Step::Member("linux"),
             Step::Member("resources"),
@@ -200,7 +199,7 @@ static RULES_5: [Rule<'static>; 3] = [
         level: Level::Host,
         section: "cgroup v1 memory",
         wanted: "a soft limit that is at most the hard one",
-        platforms: EVERY,
+        platforms: Platforms::Every,
         place: &[
             Step::Member("linux"),
             Step::Member("resources"),
@@ -219,7 +218,7 @@ static RULES_5: [Rule<'static>; 3] = [
         level: Level::Host,
         section: "common practice",
         wanted: "a limit of memory, where one of swap stands",
-        platforms: EVERY,
+        platforms: Platforms::Every,
         place: &[
             Step::Member("linux"),
             Step::Member("resources"),
@@ -238,7 +237,7 @@ static RULES_5: [Rule<'static>; 3] = [
         level: Level::Must,
         section: "runtime config-linux.md#cpu",
         wanted: "a burst that is at most the quota",
-        platforms: EVERY,
+        platforms: Platforms::Every,
         place: &[
             Step::Member("linux"),
             Step::Member("resources"),
@@ -260,7 +259,7 @@ static RULES_6: [Rule<'static>; 3] = [
         level: Level::Stated,
         section: "runtime config-linux.md#cpu",
         wanted: "a list of numbers and ranges, as 0-3,7",
-        platforms: EVERY,
+        platforms: Platforms::Every,
         place: &[
             Step::Member("linux"),
             Step::Member("resources"),
@@ -274,7 +273,7 @@ static RULES_6: [Rule<'static>; 3] = [
         level: Level::Stated,
         section: "runtime config-linux.md#cpu",
         wanted: "a list of numbers and ranges, as 0-3,7",
-        platforms: EVERY,
+        platforms: Platforms::Every,
         place: &[
             Step::Member("linux"),
             Step::Member("resources"),
@@ -288,7 +287,7 @@ static RULES_6: [Rule<'static>; 3] = [
         level: Level::Stated,
         section: "runtime config-linux.md#cpu",
         wanted: "0 or 1",
-        platforms: EVERY,
+        platforms: Platforms::Every,
         place: &[
             Step::Member("linux"),
             Step::Member("resources"),
@@ -305,7 +304,7 @@ static RULES_7: [Rule<'static>; 3] = [
         level: Level::Host,
         section: "cgroup v1 cpu",
         wanted: "an integer from 1000 to 1000000",
-        platforms: EVERY,
+        platforms: Platforms::Every,
         place: &[
             Step::Member("linux"),
             Step::Member("resources"),
@@ -319,7 +318,7 @@ static RULES_7: [Rule<'static>; 3] = [
         level: Level::Host,
         section: "cgroup v1 cpu",
         wanted: "a runtime that is at most its period",
-        platforms: EVERY,
+        platforms: Platforms::Every,
         place: &[
             Step::Member("linux"),
             Step::Member("resources"),
@@ -332,7 +331,7 @@ static RULES_7: [Rule<'static>; 3] = [
         level: Level::Must,
         section: "runtime config-linux.md#huge-page-limits",
         wanted: "the size of the pages and a limit",
-        platforms: EVERY,
+        platforms: Platforms::Every,
         place: &[
             Step::Member("linux"),
             Step::Member("resources"),
@@ -349,7 +348,7 @@ static RULES_8: [Rule<'static>; 3] = [
         level: Level::Must,
         section: "runtime config-linux.md#huge-page-limits",
         wanted: "the size of the pages and a limit",
-        platforms: EVERY,
+        platforms: Platforms::Every,
         place: &[
             Step::Member("linux"),
             Step::Member("resources"),
@@ -363,7 +362,7 @@ static RULES_8: [Rule<'static>; 3] = [
         level: Level::Stated,
         section: "runtime config-linux.md#huge-page-limits",
         wanted: "a size of pages, as 64KB, 2MB or 1GB",
-        platforms: EVERY,
+        platforms: Platforms::Every,
         place: &[
             Step::Member("linux"),
             Step::Member("resources"),
@@ -378,7 +377,7 @@ static RULES_8: [Rule<'static>; 3] = [
         level: Level::Host,
         section: "common practice",
         wanted: "each size of pages once",
-        platforms: EVERY,
+        platforms: Platforms::Every,
         place: &[
             Step::Member("linux"),
             Step::Member("resources"),
@@ -394,7 +393,7 @@ static RULES_9: [Rule<'static>; 3] = [
         level: Level::Must,
         section: "runtime config-linux.md#network",
         wanted: "the name of an interface and its priority",
-        platforms: EVERY,
+        platforms: Platforms::Every,
         place: &[
             Step::Member("linux"),
             Step::Member("resources"),
@@ -409,7 +408,7 @@ static RULES_9: [Rule<'static>; 3] = [
         level: Level::Must,
         section: "runtime config-linux.md#network",
         wanted: "the name of an interface and its priority",
-        platforms: EVERY,
+        platforms: Platforms::Every,
         place: &[
             Step::Member("linux"),
             Step::Member("resources"),
@@ -424,7 +423,7 @@ static RULES_9: [Rule<'static>; 3] = [
         level: Level::Host,
         section: "common practice",
         wanted: "each interface once",
-        platforms: EVERY,
+        platforms: Platforms::Every,
         place: &[
             Step::Member("linux"),
             Step::Member("resources"),
@@ -441,7 +440,7 @@ static RULES_10: [Rule<'static>; 3] = [
         level: Level::Must,
         section: "runtime config-linux.md#pids",
         wanted: "a limit",
-        platforms: EVERY,
+        platforms: Platforms::Every,
         place: &[
             Step::Member("linux"),
             Step::Member("resources"),
@@ -454,7 +453,7 @@ static RULES_10: [Rule<'static>; 3] = [
         level: Level::Must,
         section: "runtime config-linux.md#rdma",
         wanted: "a limit of handles or of objects",
-        platforms: EVERY,
+        platforms: Platforms::Every,
         place: &[
             Step::Member("linux"),
             Step::Member("resources"),
@@ -468,7 +467,7 @@ static RULES_10: [Rule<'static>; 3] = [
         level: Level::Stated,
         section: "runtime config-linux.md#unified",
         wanted: "the name of a file of a cgroup",
-        platforms: EVERY,
+        platforms: Platforms::Every,
         place: &[
             Step::Member("linux"),
             Step::Member("resources"),

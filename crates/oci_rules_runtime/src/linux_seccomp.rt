@@ -5,9 +5,8 @@ ghost use Rattle.std.specs.List.{flat_map};
 ghost use Rattle.oci_rules.specs.Tables.{rule_of};
 ghost use Rattle.oci_rules_runtime.specs.Linux as defined;
 
-use crate::lists::EVERY;
 use oci_rule_texts::Grammar;
-use oci_rules::{Check, Condition, Key, Level, Origin, Rule, Step, Test};
+use oci_rules::{Check, Condition, Key, Level, Origin, Platforms, Rule, Step, Test};
 
 static RULES_1: [Rule<'static>; 3] = [
     Rule {
@@ -15,7 +14,7 @@ static RULES_1: [Rule<'static>; 3] = [
         level: Level::Must,
         section: "runtime config-linux.md#seccomp",
         wanted: "SCMP_ACT_ERRNO or SCMP_ACT_TRACE, where an error number stands",
-        platforms: EVERY,
+        platforms: Platforms::Every,
         place: &[
             Step::Member("linux"),
             Step::Member("seccomp"),
@@ -34,7 +33,7 @@ static RULES_1: [Rule<'static>; 3] = [
         level: Level::Must,
         section: "runtime config-linux.md#seccomp",
         wanted: "SCMP_ACT_ERRNO or SCMP_ACT_TRACE, where an error number stands",
-        platforms: EVERY,
+        platforms: Platforms::Every,
         place: &[
             Step::Member("linux"),
             Step::Member("seccomp"),
@@ -55,7 +54,7 @@ static RULES_1: [Rule<'static>; 3] = [
         level: Level::Host,
         section: "errno(3)",
         wanted: "an integer from 0 to 4095",
-        platforms: EVERY,
+        platforms: Platforms::Every,
         place: &[
             Step::Member("linux"),
             Step::Member("seccomp"),
@@ -71,7 +70,7 @@ static RULES_2: [Rule<'static>; 3] = [
         level: Level::Host,
         section: "errno(3)",
         wanted: "an integer from 0 to 4095",
-        platforms: EVERY,
+        platforms: Platforms::Every,
         place: &[
             Step::Member("linux"),
             Step::Member("seccomp"),
@@ -86,7 +85,7 @@ static RULES_2: [Rule<'static>; 3] = [
         level: Level::Must,
         section: "runtime config-linux.md#seccomp",
         wanted: "at least one name",
-        platforms: EVERY,
+        platforms: Platforms::Every,
         place: &[
             Step::Member("linux"),
             Step::Member("seccomp"),
@@ -101,7 +100,7 @@ static RULES_2: [Rule<'static>; 3] = [
         level: Level::Host,
         section: "common practice",
         wanted: "a name that is not empty",
-        platforms: EVERY,
+        platforms: Platforms::Every,
         place: &[
             Step::Member("linux"),
             Step::Member("seccomp"),
@@ -120,7 +119,7 @@ static RULES_3: [Rule<'static>; 3] = [
         level: Level::Must,
         section: "runtime config-linux.md#seccomp",
         wanted: "the path of a listener, where metadata stands",
-        platforms: EVERY,
+        platforms: Platforms::Every,
         place: &[
             Step::Member("linux"),
             Step::Member("seccomp"),
@@ -138,7 +137,7 @@ static RULES_3: [Rule<'static>; 3] = [
         level: Level::Host,
         section: "runtime config-linux.md#seccomp",
         wanted: "the path of a listener, where SCMP_ACT_NOTIFY stands",
-        platforms: EVERY,
+        platforms: Platforms::Every,
         place: &[
             Step::Member("linux"),
             Step::Member("seccomp"),
@@ -156,7 +155,7 @@ static RULES_3: [Rule<'static>; 3] = [
         level: Level::Host,
         section: "runtime config-linux.md#seccomp",
         wanted: "the path of a listener, where SCMP_ACT_NOTIFY stands",
-        platforms: EVERY,
+        platforms: Platforms::Every,
         place: &[
             Step::Member("linux"),
             Step::Member("seccomp"),
@@ -177,7 +176,7 @@ static RULES_4: [Rule<'static>; 3] = [
         level: Level::Host,
         section: "common practice",
         wanted: "an absolute path",
-        platforms: EVERY,
+        platforms: Platforms::Every,
         place: &[
             Step::Member("linux"),
             Step::Member("seccomp"),
@@ -190,7 +189,7 @@ static RULES_4: [Rule<'static>; 3] = [
         level: Level::Host,
         section: "common practice",
         wanted: "another default action than SCMP_ACT_NOTIFY",
-        platforms: EVERY,
+        platforms: Platforms::Every,
         place: &[
             Step::Member("linux"),
             Step::Member("seccomp"),
@@ -203,7 +202,7 @@ static RULES_4: [Rule<'static>; 3] = [
         level: Level::Host,
         section: "common practice",
         wanted: "another call than write, for SCMP_ACT_NOTIFY",
-        platforms: EVERY,
+        platforms: Platforms::Every,
         place: &[
             Step::Member("linux"),
             Step::Member("seccomp"),
@@ -228,7 +227,7 @@ static RULES_5: [Rule<'static>; 3] = [
         level: Level::Stated,
         section: "runtime config-linux.md#seccomp",
         wanted: "at least one rule, where the default action kills",
-        platforms: EVERY,
+        platforms: Platforms::Every,
         place: &[
             Step::Member("linux"),
             Step::Member("seccomp"),
@@ -250,7 +249,7 @@ static RULES_5: [Rule<'static>; 3] = [
         level: Level::Stated,
         section: "runtime config-linux.md#seccomp",
         wanted: "at least one rule, where the default action kills",
-        platforms: EVERY,
+        platforms: Platforms::Every,
         place: &[
             Step::Member("linux"),
             Step::Member("seccomp"),
@@ -273,7 +272,7 @@ static RULES_5: [Rule<'static>; 3] = [
         level: Level::Host,
         section: "seccomp(2)",
         wanted: "an integer from 0 to 5",
-        platforms: EVERY,
+        platforms: Platforms::Every,
         place: &[
             Step::Member("linux"),
             Step::Member("seccomp"),
@@ -293,7 +292,7 @@ static RULES_6: [Rule<'static>; 3] = [
         level: Level::Host,
         section: "seccomp_rule_add(3)",
         wanted: "SCMP_CMP_MASKED_EQ, where a second value stands",
-        platforms: EVERY,
+        platforms: Platforms::Every,
         place: &[
             Step::Member("linux"),
             Step::Member("seccomp"),
@@ -316,7 +315,7 @@ static RULES_6: [Rule<'static>; 3] = [
         level: Level::Host,
         section: "common practice",
         wanted: "each once",
-        platforms: EVERY,
+        platforms: Platforms::Every,
         place: &[
             Step::Member("linux"),
             Step::Member("seccomp"),
@@ -329,7 +328,7 @@ static RULES_6: [Rule<'static>; 3] = [
         level: Level::Host,
         section: "common practice",
         wanted: "each once",
-        platforms: EVERY,
+        platforms: Platforms::Every,
         place: &[
             Step::Member("linux"),
             Step::Member("seccomp"),

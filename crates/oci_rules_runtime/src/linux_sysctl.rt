@@ -5,8 +5,8 @@ ghost use Rattle.std.specs.List.{flat_map};
 ghost use Rattle.oci_rules.specs.Tables.{rule_of};
 ghost use Rattle.oci_rules_runtime.specs.Linux as defined;
 
-use crate::lists::{EVERY, IPC_SYSCTLS};
-use oci_rules::{Check, Condition, Level, Origin, Rule, Step, Test};
+use crate::lists::IPC_SYSCTLS;
+use oci_rules::{Check, Condition, Level, Origin, Platforms, Rule, Step, Test};
 
 static RULES_1: [Rule<'static>; 3] = [
     Rule {
@@ -14,7 +14,7 @@ static RULES_1: [Rule<'static>; 3] = [
         level: Level::Host,
         section: "runtime config-linux.md#sysctl",
         wanted: "no parameter of the network without a network namespace of its own",
-        platforms: EVERY,
+        platforms: Platforms::Every,
         place: &[
             Step::When(Condition {
                 origin: Origin::Document,
@@ -33,7 +33,7 @@ static RULES_1: [Rule<'static>; 3] = [
         level: Level::Host,
         section: "runtime config-linux.md#sysctl",
         wanted: "no parameter of the network without a network namespace of its own",
-        platforms: EVERY,
+        platforms: Platforms::Every,
         place: &[
             Step::When(Condition {
                 origin: Origin::Document,
@@ -52,7 +52,7 @@ static RULES_1: [Rule<'static>; 3] = [
         level: Level::Host,
         section: "runtime config-linux.md#sysctl",
         wanted: "no parameter of IPC without an IPC namespace of its own",
-        platforms: EVERY,
+        platforms: Platforms::Every,
         place: &[
             Step::When(Condition {
                 origin: Origin::Document,
@@ -74,7 +74,7 @@ static RULES_2: [Rule<'static>; 3] = [
         level: Level::Host,
         section: "runtime config-linux.md#sysctl",
         wanted: "no parameter of IPC without an IPC namespace of its own",
-        platforms: EVERY,
+        platforms: Platforms::Every,
         place: &[
             Step::When(Condition {
                 origin: Origin::Document,
@@ -93,7 +93,7 @@ static RULES_2: [Rule<'static>; 3] = [
         level: Level::Host,
         section: "runtime config-linux.md#sysctl",
         wanted: "no name of a domain without a UTS namespace of its own",
-        platforms: EVERY,
+        platforms: Platforms::Every,
         place: &[
             Step::When(Condition {
                 origin: Origin::Document,
@@ -111,7 +111,7 @@ static RULES_2: [Rule<'static>; 3] = [
         level: Level::Host,
         section: "runtime config-linux.md#sysctl",
         wanted: "the member hostname instead of this parameter",
-        platforms: EVERY,
+        platforms: Platforms::Every,
         place: &[Step::Member("linux"), Step::Member("sysctl")],
         test: Test::Absent("kernel.hostname"),
     },

@@ -5,9 +5,8 @@ ghost use Rattle.std.specs.List.{flat_map};
 ghost use Rattle.oci_rules.specs.Tables.{rule_of};
 ghost use Rattle.oci_rules_runtime.specs.Platforms as defined;
 
-use crate::lists::EVERY;
 use oci_rule_texts::Grammar;
-use oci_rules::{Check, Condition, Level, Origin, Rule, Step, Test};
+use oci_rules::{Check, Condition, Level, Origin, Platforms, Rule, Step, Test};
 
 static RULES_1: [Rule<'static>; 3] = [
     Rule {
@@ -15,7 +14,7 @@ static RULES_1: [Rule<'static>; 3] = [
         level: Level::Must,
         section: "runtime config-windows.md#layerfolders",
         wanted: "folders of layers",
-        platforms: EVERY,
+        platforms: Platforms::Every,
         place: &[Step::Member("windows")],
         test: Test::There("layerFolders"),
     },
@@ -24,7 +23,7 @@ static RULES_1: [Rule<'static>; 3] = [
         level: Level::Must,
         section: "runtime config-windows.md#layerfolders",
         wanted: "at least one folder",
-        platforms: EVERY,
+        platforms: Platforms::Every,
         place: &[Step::Member("windows"), Step::Member("layerFolders")],
         test: Test::NotEmpty,
     },
@@ -33,7 +32,7 @@ static RULES_1: [Rule<'static>; 3] = [
         level: Level::Stated,
         section: "runtime config-windows.md#devices",
         wanted: "class",
-        platforms: EVERY,
+        platforms: Platforms::Every,
         place: &[
             Step::Member("windows"),
             Step::Member("devices"),
@@ -50,7 +49,7 @@ static RULES_2: [Rule<'static>; 3] = [
         level: Level::Stated,
         section: "runtime config-windows.md#devices",
         wanted: "a GUID",
-        platforms: EVERY,
+        platforms: Platforms::Every,
         place: &[
             Step::Member("windows"),
             Step::Member("devices"),
@@ -70,7 +69,7 @@ static RULES_2: [Rule<'static>; 3] = [
         level: Level::Stated,
         section: "runtime config-windows.md#cpu",
         wanted: "one of count, shares and maximum",
-        platforms: EVERY,
+        platforms: Platforms::Every,
         place: &[
             Step::Member("windows"),
             Step::Member("resources"),
@@ -89,7 +88,7 @@ static RULES_2: [Rule<'static>; 3] = [
         level: Level::Stated,
         section: "runtime config-windows.md#cpu",
         wanted: "one of count, shares and maximum",
-        platforms: EVERY,
+        platforms: Platforms::Every,
         place: &[
             Step::Member("windows"),
             Step::Member("resources"),
@@ -111,7 +110,7 @@ static RULES_3: [Rule<'static>; 3] = [
         level: Level::Stated,
         section: "runtime config-windows.md#cpu",
         wanted: "one of count, shares and maximum",
-        platforms: EVERY,
+        platforms: Platforms::Every,
         place: &[
             Step::Member("windows"),
             Step::Member("resources"),
@@ -130,7 +129,7 @@ static RULES_3: [Rule<'static>; 3] = [
         level: Level::Stated,
         section: "runtime config-windows.md#cpu",
         wanted: "an integer from 0 to 10000",
-        platforms: EVERY,
+        platforms: Platforms::Every,
         place: &[
             Step::Member("windows"),
             Step::Member("resources"),
@@ -144,7 +143,7 @@ static RULES_3: [Rule<'static>; 3] = [
         level: Level::Stated,
         section: "runtime config-windows.md#cpu",
         wanted: "an integer from 0 to 10000",
-        platforms: EVERY,
+        platforms: Platforms::Every,
         place: &[
             Step::Member("windows"),
             Step::Member("resources"),
@@ -161,7 +160,7 @@ static RULES_4: [Rule<'static>; 3] = [
         level: Level::Stated,
         section: "runtime config-windows.md#network",
         wanted: "no other member beside networkNamespace",
-        platforms: EVERY,
+        platforms: Platforms::Every,
         place: &[
             Step::Member("windows"),
             Step::Member("network"),
@@ -179,7 +178,7 @@ static RULES_4: [Rule<'static>; 3] = [
         level: Level::Stated,
         section: "runtime config-windows.md#network",
         wanted: "no other member beside networkNamespace",
-        platforms: EVERY,
+        platforms: Platforms::Every,
         place: &[
             Step::Member("windows"),
             Step::Member("network"),
@@ -197,7 +196,7 @@ static RULES_4: [Rule<'static>; 3] = [
         level: Level::Stated,
         section: "runtime config-windows.md#network",
         wanted: "no other member beside networkNamespace",
-        platforms: EVERY,
+        platforms: Platforms::Every,
         place: &[
             Step::Member("windows"),
             Step::Member("network"),
@@ -218,7 +217,7 @@ static RULES_5: [Rule<'static>; 3] = [
         level: Level::Stated,
         section: "runtime config-windows.md#network",
         wanted: "no other member beside networkNamespace",
-        platforms: EVERY,
+        platforms: Platforms::Every,
         place: &[
             Step::Member("windows"),
             Step::Member("network"),
@@ -236,7 +235,7 @@ static RULES_5: [Rule<'static>; 3] = [
         level: Level::Must,
         section: "runtime config-vm.md#hypervisor-object",
         wanted: "an absolute path",
-        platforms: EVERY,
+        platforms: Platforms::Every,
         place: &[
             Step::Member("vm"),
             Step::Member("hypervisor"),
@@ -249,7 +248,7 @@ static RULES_5: [Rule<'static>; 3] = [
         level: Level::Must,
         section: "runtime config-vm.md#hypervisor-object",
         wanted: "an absolute path",
-        platforms: EVERY,
+        platforms: Platforms::Every,
         place: &[
             Step::Member("vm"),
             Step::Member("kernel"),
@@ -265,7 +264,7 @@ static RULES_6: [Rule<'static>; 3] = [
         level: Level::Must,
         section: "runtime config-vm.md#hypervisor-object",
         wanted: "an absolute path",
-        platforms: EVERY,
+        platforms: Platforms::Every,
         place: &[
             Step::Member("vm"),
             Step::Member("kernel"),
@@ -278,7 +277,7 @@ static RULES_6: [Rule<'static>; 3] = [
         level: Level::Must,
         section: "runtime config-vm.md#hypervisor-object",
         wanted: "an absolute path",
-        platforms: EVERY,
+        platforms: Platforms::Every,
         place: &[
             Step::Member("vm"),
             Step::Member("image"),
@@ -291,7 +290,7 @@ static RULES_6: [Rule<'static>; 3] = [
         level: Level::Stated,
         section: "runtime config-vm.md#image-object",
         wanted: "raw, qcow2, vdi, vmdk or vhd",
-        platforms: EVERY,
+        platforms: Platforms::Every,
         place: &[
             Step::Member("vm"),
             Step::Member("image"),
@@ -307,7 +306,7 @@ static RULES_7: [Rule<'static>; 3] = [
         level: Level::Stated,
         section: "runtime config-solaris.md#maxshmmemory",
         wanted: "a number, with K, M, G, T or nothing behind it",
-        platforms: EVERY,
+        platforms: Platforms::Every,
         place: &[Step::Member("solaris"), Step::Member("maxShmMemory")],
         test: Test::Text(Grammar::ScaledNumber),
     },
@@ -316,7 +315,7 @@ static RULES_7: [Rule<'static>; 3] = [
         level: Level::Stated,
         section: "runtime config-solaris.md#maxshmmemory",
         wanted: "a number, with K, M, G, T or nothing behind it",
-        platforms: EVERY,
+        platforms: Platforms::Every,
         place: &[
             Step::Member("solaris"),
             Step::Member("cappedMemory"),
@@ -329,7 +328,7 @@ static RULES_7: [Rule<'static>; 3] = [
         level: Level::Stated,
         section: "runtime config-solaris.md#maxshmmemory",
         wanted: "a number, with K, M, G, T or nothing behind it",
-        platforms: EVERY,
+        platforms: Platforms::Every,
         place: &[
             Step::Member("solaris"),
             Step::Member("cappedMemory"),
@@ -344,7 +343,7 @@ static RULES_8: [Rule<'static>; 1] = [Rule {
     level: Level::Stated,
     section: "runtime config-solaris.md#cappedcpu",
     wanted: "a number of processors, as 2, .75 or 1.25",
-    platforms: EVERY,
+    platforms: Platforms::Every,
     place: &[
         Step::Member("solaris"),
         Step::Member("cappedCPU"),

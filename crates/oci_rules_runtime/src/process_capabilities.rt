@@ -5,8 +5,8 @@ ghost use Rattle.std.specs.List.{flat_map};
 ghost use Rattle.oci_rules.specs.Tables.{rule_of};
 ghost use Rattle.oci_rules_runtime.specs.Process as defined;
 
-use crate::lists::{CAPABILITIES, EVERY};
-use oci_rules::{Check, Condition, Key, Level, Origin, Rule, Step, Test};
+use crate::lists::CAPABILITIES;
+use oci_rules::{Check, Condition, Key, Level, Origin, Platforms, Rule, Step, Test};
 
 static RULES_1: [Rule<'static>; 3] = [
     Rule {
@@ -14,7 +14,7 @@ static RULES_1: [Rule<'static>; 3] = [
         level: Level::Host,
         section: "capabilities(7)",
         wanted: "a capability that is permitted",
-        platforms: EVERY,
+        platforms: Platforms::Every,
         place: &[Step::Member("process"), Step::Member("capabilities")],
         test: Test::Among("effective", "permitted"),
     },
@@ -23,7 +23,7 @@ static RULES_1: [Rule<'static>; 3] = [
         level: Level::Host,
         section: "capabilities(7)",
         wanted: "a capability that is permitted",
-        platforms: EVERY,
+        platforms: Platforms::Every,
         place: &[Step::Member("process"), Step::Member("capabilities")],
         test: Test::Among("ambient", "permitted"),
     },
@@ -32,7 +32,7 @@ static RULES_1: [Rule<'static>; 3] = [
         level: Level::Host,
         section: "capabilities(7)",
         wanted: "a capability that is inheritable",
-        platforms: EVERY,
+        platforms: Platforms::Every,
         place: &[Step::Member("process"), Step::Member("capabilities")],
         test: Test::Among("ambient", "inheritable"),
     },
@@ -44,7 +44,7 @@ static RULES_2: [Rule<'static>; 3] = [
         level: Level::Host,
         section: "capabilities(7)",
         wanted: "a capability that is in the bounding set",
-        platforms: EVERY,
+        platforms: Platforms::Every,
         place: &[Step::Member("process"), Step::Member("capabilities")],
         test: Test::Among("permitted", "bounding"),
     },
@@ -53,7 +53,7 @@ static RULES_2: [Rule<'static>; 3] = [
         level: Level::Host,
         section: "capabilities(7)",
         wanted: "a capability that is in the bounding set",
-        platforms: EVERY,
+        platforms: Platforms::Every,
         place: &[Step::Member("process"), Step::Member("capabilities")],
         test: Test::Among("inheritable", "bounding"),
     },
@@ -62,7 +62,7 @@ static RULES_2: [Rule<'static>; 3] = [
         level: Level::Stated,
         section: "runtime config.md#linux-process",
         wanted: "the name of a capability, as CAP_CHOWN",
-        platforms: EVERY,
+        platforms: Platforms::Every,
         place: &[
             Step::Member("process"),
             Step::Member("capabilities"),
@@ -79,7 +79,7 @@ static RULES_3: [Rule<'static>; 3] = [
         level: Level::Stated,
         section: "runtime config.md#linux-process",
         wanted: "the name of a capability, as CAP_CHOWN",
-        platforms: EVERY,
+        platforms: Platforms::Every,
         place: &[
             Step::Member("process"),
             Step::Member("capabilities"),
@@ -93,7 +93,7 @@ static RULES_3: [Rule<'static>; 3] = [
         level: Level::Stated,
         section: "runtime config.md#linux-process",
         wanted: "the name of a capability, as CAP_CHOWN",
-        platforms: EVERY,
+        platforms: Platforms::Every,
         place: &[
             Step::Member("process"),
             Step::Member("capabilities"),
@@ -107,7 +107,7 @@ static RULES_3: [Rule<'static>; 3] = [
         level: Level::Stated,
         section: "runtime config.md#linux-process",
         wanted: "the name of a capability, as CAP_CHOWN",
-        platforms: EVERY,
+        platforms: Platforms::Every,
         place: &[
             Step::Member("process"),
             Step::Member("capabilities"),
@@ -124,7 +124,7 @@ static RULES_4: [Rule<'static>; 3] = [
         level: Level::Stated,
         section: "runtime config.md#linux-process",
         wanted: "the name of a capability, as CAP_CHOWN",
-        platforms: EVERY,
+        platforms: Platforms::Every,
         place: &[
             Step::Member("process"),
             Step::Member("capabilities"),
@@ -138,7 +138,7 @@ static RULES_4: [Rule<'static>; 3] = [
         level: Level::Host,
         section: "common practice",
         wanted: "each capability once",
-        platforms: EVERY,
+        platforms: Platforms::Every,
         place: &[
             Step::Member("process"),
             Step::Member("capabilities"),
@@ -151,7 +151,7 @@ static RULES_4: [Rule<'static>; 3] = [
         level: Level::Host,
         section: "common practice",
         wanted: "each capability once",
-        platforms: EVERY,
+        platforms: Platforms::Every,
         place: &[
             Step::Member("process"),
             Step::Member("capabilities"),
@@ -167,7 +167,7 @@ static RULES_5: [Rule<'static>; 3] = [
         level: Level::Host,
         section: "common practice",
         wanted: "each capability once",
-        platforms: EVERY,
+        platforms: Platforms::Every,
         place: &[
             Step::Member("process"),
             Step::Member("capabilities"),
@@ -180,7 +180,7 @@ static RULES_5: [Rule<'static>; 3] = [
         level: Level::Host,
         section: "common practice",
         wanted: "each capability once",
-        platforms: EVERY,
+        platforms: Platforms::Every,
         place: &[
             Step::Member("process"),
             Step::Member("capabilities"),
@@ -193,7 +193,7 @@ static RULES_5: [Rule<'static>; 3] = [
         level: Level::Host,
         section: "common practice",
         wanted: "each capability once",
-        platforms: EVERY,
+        platforms: Platforms::Every,
         place: &[
             Step::Member("process"),
             Step::Member("capabilities"),
@@ -209,7 +209,7 @@ static RULES_6: [Rule<'static>; 3] = [
         level: Level::Host,
         section: "sched(7)",
         wanted: "an integer from -20 to 19",
-        platforms: EVERY,
+        platforms: Platforms::Every,
         place: &[
             Step::Member("process"),
             Step::Member("scheduler"),
@@ -222,7 +222,7 @@ static RULES_6: [Rule<'static>; 3] = [
         level: Level::Host,
         section: "sched(7)",
         wanted: "0 but for SCHED_OTHER and SCHED_BATCH",
-        platforms: EVERY,
+        platforms: Platforms::Every,
         place: &[
             Step::Member("process"),
             Step::Member("scheduler"),
@@ -241,7 +241,7 @@ static RULES_6: [Rule<'static>; 3] = [
         level: Level::Stated,
         section: "runtime config.md#linux-process",
         wanted: "0 but for SCHED_FIFO and SCHED_RR",
-        platforms: EVERY,
+        platforms: Platforms::Every,
         place: &[
             Step::Member("process"),
             Step::Member("scheduler"),
@@ -263,7 +263,7 @@ static RULES_7: [Rule<'static>; 3] = [
         level: Level::Host,
         section: "sched(7)",
         wanted: "an integer from 1 to 99, for SCHED_FIFO and SCHED_RR",
-        platforms: EVERY,
+        platforms: Platforms::Every,
         place: &[
             Step::Member("process"),
             Step::Member("scheduler"),
@@ -282,7 +282,7 @@ static RULES_7: [Rule<'static>; 3] = [
         level: Level::Stated,
         section: "runtime config.md#linux-process",
         wanted: "0 but for SCHED_DEADLINE",
-        platforms: EVERY,
+        platforms: Platforms::Every,
         place: &[
             Step::Member("process"),
             Step::Member("scheduler"),
@@ -301,7 +301,7 @@ static RULES_7: [Rule<'static>; 3] = [
         level: Level::Stated,
         section: "runtime config.md#linux-process",
         wanted: "0 but for SCHED_DEADLINE",
-        platforms: EVERY,
+        platforms: Platforms::Every,
         place: &[
             Step::Member("process"),
             Step::Member("scheduler"),
@@ -323,7 +323,7 @@ static RULES_8: [Rule<'static>; 3] = [
         level: Level::Stated,
         section: "runtime config.md#linux-process",
         wanted: "0 but for SCHED_DEADLINE",
-        platforms: EVERY,
+        platforms: Platforms::Every,
         place: &[
             Step::Member("process"),
             Step::Member("scheduler"),
@@ -342,7 +342,7 @@ static RULES_8: [Rule<'static>; 3] = [
         level: Level::Host,
         section: "sched_setattr(2)",
         wanted: "a runtime that is at most the deadline, and that at most the period",
-        platforms: EVERY,
+        platforms: Platforms::Every,
         place: &[Step::Member("process"), Step::Member("scheduler")],
         test: Test::AtMost("runtime", "deadline"),
     },
@@ -351,7 +351,7 @@ static RULES_8: [Rule<'static>; 3] = [
         level: Level::Host,
         section: "sched_setattr(2)",
         wanted: "a runtime that is at most the deadline, and that at most the period",
-        platforms: EVERY,
+        platforms: Platforms::Every,
         place: &[
             Step::Member("process"),
             Step::Member("scheduler"),

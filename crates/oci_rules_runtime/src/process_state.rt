@@ -5,9 +5,9 @@ ghost use Rattle.std.specs.List.{flat_map};
 ghost use Rattle.oci_rules.specs.Tables.{rule_of};
 ghost use Rattle.oci_rules_runtime.specs.State as defined;
 
-use crate::lists::{EVERY, OPENCONTAINERS_KEYS};
+use crate::lists::OPENCONTAINERS_KEYS;
 use oci_rule_texts::Grammar;
-use oci_rules::{Check, Condition, Key, Level, Origin, Platform, Rule, Step, Test};
+use oci_rules::{Check, Condition, Key, Level, Origin, Platform, Platforms, Rule, Step, Test};
 
 static RULES_1: [Rule<'static>; 3] = [
     Rule {
@@ -15,7 +15,7 @@ static RULES_1: [Rule<'static>; 3] = [
         level: Level::Must,
         section: "runtime config-linux.md#the-container-process-state",
         wanted: "a version, the ID of a process and a state",
-        platforms: EVERY,
+        platforms: Platforms::Every,
         place: &[],
         test: Test::There("ociVersion"),
     },
@@ -24,7 +24,7 @@ static RULES_1: [Rule<'static>; 3] = [
         level: Level::Must,
         section: "runtime config-linux.md#the-container-process-state",
         wanted: "a version, the ID of a process and a state",
-        platforms: EVERY,
+        platforms: Platforms::Every,
         place: &[],
         test: Test::There("pid"),
     },
@@ -33,7 +33,7 @@ static RULES_1: [Rule<'static>; 3] = [
         level: Level::Must,
         section: "runtime config-linux.md#the-container-process-state",
         wanted: "a version, the ID of a process and a state",
-        platforms: EVERY,
+        platforms: Platforms::Every,
         place: &[],
         test: Test::There("state"),
     },
@@ -45,7 +45,7 @@ static RULES_2: [Rule<'static>; 3] = [
         level: Level::Stated,
         section: "runtime config-linux.md#the-container-process-state",
         wanted: "a version (SemVer 2.0.0)",
-        platforms: EVERY,
+        platforms: Platforms::Every,
         place: &[Step::Member("ociVersion")],
         test: Test::Text(Grammar::SemVer),
     },
@@ -54,7 +54,7 @@ static RULES_2: [Rule<'static>; 3] = [
         level: Level::Host,
         section: "common practice",
         wanted: "each name once",
-        platforms: EVERY,
+        platforms: Platforms::Every,
         place: &[Step::Member("fds")],
         test: Test::Distinct(Key::Itself),
     },
@@ -63,7 +63,7 @@ static RULES_2: [Rule<'static>; 3] = [
         level: Level::Must,
         section: "runtime config-linux.md#seccomp",
         wanted: "seccompFd among the names",
-        platforms: EVERY,
+        platforms: Platforms::Every,
         place: &[],
         test: Test::There("fds"),
     },
@@ -75,7 +75,7 @@ static RULES_3: [Rule<'static>; 3] = [
         level: Level::Must,
         section: "runtime config-linux.md#seccomp",
         wanted: "seccompFd among the names",
-        platforms: EVERY,
+        platforms: Platforms::Every,
         place: &[Step::Member("fds")],
         test: Test::Lists(&["seccompFd"]),
     },
@@ -84,7 +84,7 @@ static RULES_3: [Rule<'static>; 3] = [
         level: Level::Must,
         section: "runtime runtime.md#state",
         wanted: "a version, an ID, a status and a bundle",
-        platforms: EVERY,
+        platforms: Platforms::Every,
         place: &[Step::Member("state")],
         test: Test::There("ociVersion"),
     },
@@ -93,7 +93,7 @@ static RULES_3: [Rule<'static>; 3] = [
         level: Level::Must,
         section: "runtime runtime.md#state",
         wanted: "a version, an ID, a status and a bundle",
-        platforms: EVERY,
+        platforms: Platforms::Every,
         place: &[Step::Member("state")],
         test: Test::There("id"),
     },
@@ -105,7 +105,7 @@ static RULES_4: [Rule<'static>; 3] = [
         level: Level::Must,
         section: "runtime runtime.md#state",
         wanted: "a version, an ID, a status and a bundle",
-        platforms: EVERY,
+        platforms: Platforms::Every,
         place: &[Step::Member("state")],
         test: Test::There("status"),
     },
@@ -114,7 +114,7 @@ static RULES_4: [Rule<'static>; 3] = [
         level: Level::Must,
         section: "runtime runtime.md#state",
         wanted: "a version, an ID, a status and a bundle",
-        platforms: EVERY,
+        platforms: Platforms::Every,
         place: &[Step::Member("state")],
         test: Test::There("bundle"),
     },
@@ -123,7 +123,7 @@ static RULES_4: [Rule<'static>; 3] = [
         level: Level::Stated,
         section: "runtime runtime.md#state",
         wanted: "a version (SemVer 2.0.0)",
-        platforms: EVERY,
+        platforms: Platforms::Every,
         place: &[Step::Member("state"), Step::Member("ociVersion")],
         test: Test::Text(Grammar::SemVer),
     },
@@ -135,7 +135,7 @@ static RULES_5: [Rule<'static>; 3] = [
         level: Level::Stated,
         section: "runtime runtime.md#state",
         wanted: "an ID that is not empty",
-        platforms: EVERY,
+        platforms: Platforms::Every,
         place: &[Step::Member("state"), Step::Member("id")],
         test: Test::NotEmpty,
     },
@@ -144,7 +144,7 @@ static RULES_5: [Rule<'static>; 3] = [
         level: Level::Must,
         section: "runtime runtime.md#state",
         wanted: "the ID of the process, of a container that was created or runs",
-        platforms: &[Platform::Linux],
+        platforms: Platforms::These(&[Platform::Linux]),
         place: &[
             Step::Member("state"),
             Step::When(Condition {
@@ -161,7 +161,7 @@ static RULES_5: [Rule<'static>; 3] = [
         level: Level::Stated,
         section: "runtime runtime.md#state",
         wanted: "an ID that is not negative, and positive of a container that was created or runs",
-        platforms: EVERY,
+        platforms: Platforms::Every,
         place: &[Step::Member("state"), Step::Member("pid")],
         test: Test::Within(0, 18446744073709551615),
     },
@@ -173,7 +173,7 @@ static RULES_6: [Rule<'static>; 3] = [
         level: Level::Stated,
         section: "runtime runtime.md#state",
         wanted: "an ID that is not negative, and positive of a container that was created or runs",
-        platforms: EVERY,
+        platforms: Platforms::Every,
         place: &[
             Step::Member("state"),
             Step::When(Condition {
@@ -191,7 +191,7 @@ static RULES_6: [Rule<'static>; 3] = [
         level: Level::Stated,
         section: "runtime runtime.md#state",
         wanted: "an absolute path",
-        platforms: EVERY,
+        platforms: Platforms::Every,
         place: &[Step::Member("state"), Step::Member("bundle")],
         test: Test::Text(Grammar::AbsolutePath),
     },
@@ -200,7 +200,7 @@ static RULES_6: [Rule<'static>; 3] = [
         level: Level::Must,
         section: "runtime config.md#annotations",
         wanted: "a key that is not empty",
-        platforms: EVERY,
+        platforms: Platforms::Every,
         place: &[
             Step::Member("state"),
             Step::Member("annotations"),
@@ -216,7 +216,7 @@ static RULES_7: [Rule<'static>; 3] = [
         level: Level::Should,
         section: "runtime config.md#annotations",
         wanted: "a key in reverse domain notation, as com.example.myKey",
-        platforms: EVERY,
+        platforms: Platforms::Every,
         place: &[
             Step::Member("state"),
             Step::Member("annotations"),
@@ -229,7 +229,7 @@ static RULES_7: [Rule<'static>; 3] = [
         level: Level::Must,
         section: "runtime config.md#annotations",
         wanted: "below org.opencontainers a key that a specification defines",
-        platforms: EVERY,
+        platforms: Platforms::Every,
         place: &[
             Step::Member("state"),
             Step::Member("annotations"),
@@ -242,7 +242,7 @@ static RULES_7: [Rule<'static>; 3] = [
         level: Level::Must,
         section: "runtime config.md#annotations",
         wanted: "a date and time (RFC 3339), as in an image configuration",
-        platforms: EVERY,
+        platforms: Platforms::Every,
         place: &[
             Step::Member("state"),
             Step::Member("annotations"),
@@ -264,7 +264,7 @@ static RULES_8: [Rule<'static>; 2] = [
         level: Level::Must,
         section: "runtime config.md#annotations",
         wanted: "a signal's name, as SIGKILL or SIGRTMIN+3",
-        platforms: EVERY,
+        platforms: Platforms::Every,
         place: &[
             Step::Member("state"),
             Step::Member("annotations"),
@@ -283,7 +283,7 @@ static RULES_8: [Rule<'static>; 2] = [
         level: Level::Stated,
         section: "image annotations.md#back-compatibility-with-label-schema",
         wanted: "the key below org.opencontainers.image that superseded this one",
-        platforms: EVERY,
+        platforms: Platforms::Every,
         place: &[
             Step::Member("state"),
             Step::Member("annotations"),

@@ -5,9 +5,9 @@ ghost use Rattle.std.specs.List.{flat_map};
 ghost use Rattle.oci_rules.specs.Tables.{rule_of};
 ghost use Rattle.oci_rules_runtime.specs.Spec as defined;
 
-use crate::lists::{EVERY, POSIX};
+use crate::lists::POSIX;
 use oci_rule_texts::Grammar;
-use oci_rules::{Check, Condition, Level, Origin, Platform, Rule, Step, Test};
+use oci_rules::{Check, Condition, Level, Origin, Platform, Platforms, Rule, Step, Test};
 
 static RULES_1: [Rule<'static>; 3] = [
     Rule {
@@ -15,7 +15,7 @@ static RULES_1: [Rule<'static>; 3] = [
         level: Level::Must,
         section: "runtime config.md#posix-platform-hooks",
         wanted: "an absolute path",
-        platforms: POSIX,
+        platforms: Platforms::These(POSIX),
         place: &[
             Step::Member("hooks"),
             Step::Member("prestart"),
@@ -29,7 +29,7 @@ static RULES_1: [Rule<'static>; 3] = [
         level: Level::Must,
         section: "runtime config.md#posix-platform-hooks",
         wanted: "an absolute path",
-        platforms: POSIX,
+        platforms: Platforms::These(POSIX),
         place: &[
             Step::Member("hooks"),
             Step::Member("createRuntime"),
@@ -43,7 +43,7 @@ static RULES_1: [Rule<'static>; 3] = [
         level: Level::Must,
         section: "runtime config.md#posix-platform-hooks",
         wanted: "an absolute path",
-        platforms: POSIX,
+        platforms: Platforms::These(POSIX),
         place: &[
             Step::Member("hooks"),
             Step::Member("createContainer"),
@@ -60,7 +60,7 @@ static RULES_2: [Rule<'static>; 3] = [
         level: Level::Must,
         section: "runtime config.md#posix-platform-hooks",
         wanted: "an absolute path",
-        platforms: POSIX,
+        platforms: Platforms::These(POSIX),
         place: &[
             Step::Member("hooks"),
             Step::Member("startContainer"),
@@ -74,7 +74,7 @@ static RULES_2: [Rule<'static>; 3] = [
         level: Level::Must,
         section: "runtime config.md#posix-platform-hooks",
         wanted: "an absolute path",
-        platforms: POSIX,
+        platforms: Platforms::These(POSIX),
         place: &[
             Step::Member("hooks"),
             Step::Member("poststart"),
@@ -88,7 +88,7 @@ static RULES_2: [Rule<'static>; 3] = [
         level: Level::Must,
         section: "runtime config.md#posix-platform-hooks",
         wanted: "an absolute path",
-        platforms: POSIX,
+        platforms: Platforms::These(POSIX),
         place: &[
             Step::Member("hooks"),
             Step::Member("poststop"),
@@ -105,7 +105,7 @@ static RULES_3: [Rule<'static>; 3] = [
         level: Level::Must,
         section: "runtime config.md#posix-platform-hooks",
         wanted: "a number of seconds more than 0",
-        platforms: EVERY,
+        platforms: Platforms::Every,
         place: &[
             Step::Member("hooks"),
             Step::Member("prestart"),
@@ -119,7 +119,7 @@ static RULES_3: [Rule<'static>; 3] = [
         level: Level::Must,
         section: "runtime config.md#posix-platform-hooks",
         wanted: "a number of seconds more than 0",
-        platforms: EVERY,
+        platforms: Platforms::Every,
         place: &[
             Step::Member("hooks"),
             Step::Member("createRuntime"),
@@ -133,7 +133,7 @@ static RULES_3: [Rule<'static>; 3] = [
         level: Level::Must,
         section: "runtime config.md#posix-platform-hooks",
         wanted: "a number of seconds more than 0",
-        platforms: EVERY,
+        platforms: Platforms::Every,
         place: &[
             Step::Member("hooks"),
             Step::Member("createContainer"),
@@ -150,7 +150,7 @@ static RULES_4: [Rule<'static>; 3] = [
         level: Level::Must,
         section: "runtime config.md#posix-platform-hooks",
         wanted: "a number of seconds more than 0",
-        platforms: EVERY,
+        platforms: Platforms::Every,
         place: &[
             Step::Member("hooks"),
             Step::Member("startContainer"),
@@ -164,7 +164,7 @@ static RULES_4: [Rule<'static>; 3] = [
         level: Level::Must,
         section: "runtime config.md#posix-platform-hooks",
         wanted: "a number of seconds more than 0",
-        platforms: EVERY,
+        platforms: Platforms::Every,
         place: &[
             Step::Member("hooks"),
             Step::Member("poststart"),
@@ -178,7 +178,7 @@ static RULES_4: [Rule<'static>; 3] = [
         level: Level::Must,
         section: "runtime config.md#posix-platform-hooks",
         wanted: "a number of seconds more than 0",
-        platforms: EVERY,
+        platforms: Platforms::Every,
         place: &[
             Step::Member("hooks"),
             Step::Member("poststop"),
@@ -195,7 +195,7 @@ static RULES_5: [Rule<'static>; 3] = [
         level: Level::Stated,
         section: "runtime config.md#posix-platform-hooks",
         wanted: "a name, =, and a value",
-        platforms: EVERY,
+        platforms: Platforms::Every,
         place: &[
             Step::Member("hooks"),
             Step::Member("prestart"),
@@ -210,7 +210,7 @@ static RULES_5: [Rule<'static>; 3] = [
         level: Level::Stated,
         section: "runtime config.md#posix-platform-hooks",
         wanted: "a name, =, and a value",
-        platforms: EVERY,
+        platforms: Platforms::Every,
         place: &[
             Step::Member("hooks"),
             Step::Member("createRuntime"),
@@ -225,7 +225,7 @@ static RULES_5: [Rule<'static>; 3] = [
         level: Level::Stated,
         section: "runtime config.md#posix-platform-hooks",
         wanted: "a name, =, and a value",
-        platforms: EVERY,
+        platforms: Platforms::Every,
         place: &[
             Step::Member("hooks"),
             Step::Member("createContainer"),
@@ -243,7 +243,7 @@ static RULES_6: [Rule<'static>; 3] = [
         level: Level::Stated,
         section: "runtime config.md#posix-platform-hooks",
         wanted: "a name, =, and a value",
-        platforms: EVERY,
+        platforms: Platforms::Every,
         place: &[
             Step::Member("hooks"),
             Step::Member("startContainer"),
@@ -258,7 +258,7 @@ static RULES_6: [Rule<'static>; 3] = [
         level: Level::Stated,
         section: "runtime config.md#posix-platform-hooks",
         wanted: "a name, =, and a value",
-        platforms: EVERY,
+        platforms: Platforms::Every,
         place: &[
             Step::Member("hooks"),
             Step::Member("poststart"),
@@ -273,7 +273,7 @@ static RULES_6: [Rule<'static>; 3] = [
         level: Level::Stated,
         section: "runtime config.md#posix-platform-hooks",
         wanted: "a name, =, and a value",
-        platforms: EVERY,
+        platforms: Platforms::Every,
         place: &[
             Step::Member("hooks"),
             Step::Member("poststop"),
@@ -291,7 +291,7 @@ static RULES_7: [Rule<'static>; 3] = [
         level: Level::Host,
         section: "execv(3)",
         wanted: "at least one argument",
-        platforms: EVERY,
+        platforms: Platforms::Every,
         place: &[
             Step::Member("hooks"),
             Step::Member("prestart"),
@@ -305,7 +305,7 @@ static RULES_7: [Rule<'static>; 3] = [
         level: Level::Host,
         section: "execv(3)",
         wanted: "at least one argument",
-        platforms: EVERY,
+        platforms: Platforms::Every,
         place: &[
             Step::Member("hooks"),
             Step::Member("createRuntime"),
@@ -319,7 +319,7 @@ static RULES_7: [Rule<'static>; 3] = [
         level: Level::Host,
         section: "execv(3)",
         wanted: "at least one argument",
-        platforms: EVERY,
+        platforms: Platforms::Every,
         place: &[
             Step::Member("hooks"),
             Step::Member("createContainer"),
@@ -336,7 +336,7 @@ static RULES_8: [Rule<'static>; 3] = [
         level: Level::Host,
         section: "execv(3)",
         wanted: "at least one argument",
-        platforms: EVERY,
+        platforms: Platforms::Every,
         place: &[
             Step::Member("hooks"),
             Step::Member("startContainer"),
@@ -350,7 +350,7 @@ static RULES_8: [Rule<'static>; 3] = [
         level: Level::Host,
         section: "execv(3)",
         wanted: "at least one argument",
-        platforms: EVERY,
+        platforms: Platforms::Every,
         place: &[
             Step::Member("hooks"),
             Step::Member("poststart"),
@@ -364,7 +364,7 @@ static RULES_8: [Rule<'static>; 3] = [
         level: Level::Host,
         section: "execv(3)",
         wanted: "at least one argument",
-        platforms: EVERY,
+        platforms: Platforms::Every,
         place: &[
             Step::Member("hooks"),
             Step::Member("poststop"),
@@ -381,7 +381,7 @@ static RULES_9: [Rule<'static>; 3] = [
         level: Level::Should,
         section: "runtime config.md#posix-platform-hooks",
         wanted: "no such member, which is deprecated",
-        platforms: EVERY,
+        platforms: Platforms::Every,
         place: &[Step::Member("hooks")],
         test: Test::Absent("prestart"),
     },
@@ -390,7 +390,7 @@ static RULES_9: [Rule<'static>; 3] = [
         level: Level::Stated,
         section: "runtime config.md#posix-platform-hooks",
         wanted: "no hooks on Windows",
-        platforms: &[Platform::Windows],
+        platforms: Platforms::These(&[Platform::Windows]),
         place: &[],
         test: Test::Absent("hooks"),
     },
@@ -399,7 +399,7 @@ static RULES_9: [Rule<'static>; 3] = [
         level: Level::Host,
         section: "runtime config.md#hostname",
         wanted: "no name of a host without a UTS namespace of its own",
-        platforms: &[Platform::Linux],
+        platforms: Platforms::These(&[Platform::Linux]),
         place: &[Step::When(Condition {
             origin: Origin::Document,
             way: &["linux", "namespaces"],
@@ -416,7 +416,7 @@ static RULES_10: [Rule<'static>; 3] = [
         level: Level::Host,
         section: "runtime config.md#domainname",
         wanted: "no name of a domain without a UTS namespace of its own",
-        platforms: &[Platform::Linux],
+        platforms: Platforms::These(&[Platform::Linux]),
         place: &[Step::When(Condition {
             origin: Origin::Document,
             way: &["linux", "namespaces"],
@@ -430,7 +430,7 @@ static RULES_10: [Rule<'static>; 3] = [
         level: Level::Host,
         section: "sethostname(2)",
         wanted: "at most 64 bytes",
-        platforms: EVERY,
+        platforms: Platforms::Every,
         place: &[Step::Member("hostname")],
         test: Test::LengthAtMost(64),
     },
@@ -439,7 +439,7 @@ static RULES_10: [Rule<'static>; 3] = [
         level: Level::Host,
         section: "sethostname(2)",
         wanted: "at most 64 bytes",
-        platforms: EVERY,
+        platforms: Platforms::Every,
         place: &[Step::Member("domainname")],
         test: Test::LengthAtMost(64),
     },

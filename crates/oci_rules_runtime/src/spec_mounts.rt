@@ -5,9 +5,8 @@ ghost use Rattle.std.specs.List.{flat_map};
 ghost use Rattle.oci_rules.specs.Tables.{rule_of};
 ghost use Rattle.oci_rules_runtime.specs.Spec as defined;
 
-use crate::lists::EVERY;
 use oci_rule_texts::Grammar;
-use oci_rules::{Check, Condition, Level, Origin, Platform, Rule, Step, Test};
+use oci_rules::{Check, Condition, Level, Origin, Platform, Platforms, Rule, Step, Test};
 
 static RULES_1: [Rule<'static>; 3] = [
     Rule {
@@ -15,7 +14,7 @@ static RULES_1: [Rule<'static>; 3] = [
         level: Level::Should,
         section: "runtime config.md#mounts",
         wanted: "an absolute path",
-        platforms: &[Platform::Linux],
+        platforms: Platforms::These(&[Platform::Linux]),
         place: &[
             Step::Member("mounts"),
             Step::EachItem,
@@ -28,12 +27,12 @@ static RULES_1: [Rule<'static>; 3] = [
         level: Level::Must,
         section: "runtime config.md#mounts",
         wanted: "an absolute path",
-        platforms: &[
+        platforms: Platforms::These(&[
             Platform::Solaris,
             Platform::Zos,
             Platform::Vm,
             Platform::FreeBsd,
-        ],
+        ]),
         place: &[
             Step::Member("mounts"),
             Step::EachItem,
@@ -46,7 +45,7 @@ static RULES_1: [Rule<'static>; 3] = [
         level: Level::Must,
         section: "runtime config.md#mounts",
         wanted: "an absolute path",
-        platforms: &[Platform::Windows],
+        platforms: Platforms::These(&[Platform::Windows]),
         place: &[
             Step::Member("mounts"),
             Step::EachItem,
@@ -62,7 +61,7 @@ static RULES_2: [Rule<'static>; 3] = [
         level: Level::Stated,
         section: "runtime config.md#mounts",
         wanted: "a local directory",
-        platforms: &[Platform::Windows],
+        platforms: Platforms::These(&[Platform::Windows]),
         place: &[
             Step::Member("mounts"),
             Step::EachItem,
@@ -75,7 +74,7 @@ static RULES_2: [Rule<'static>; 3] = [
         level: Level::Must,
         section: "runtime config.md#posix-platform-mounts",
         wanted: "mappings of users and of groups, or none",
-        platforms: EVERY,
+        platforms: Platforms::Every,
         place: &[
             Step::Member("mounts"),
             Step::EachItem,
@@ -93,7 +92,7 @@ static RULES_2: [Rule<'static>; 3] = [
         level: Level::Must,
         section: "runtime config.md#posix-platform-mounts",
         wanted: "mappings of users and of groups, or none",
-        platforms: EVERY,
+        platforms: Platforms::Every,
         place: &[
             Step::Member("mounts"),
             Step::EachItem,
@@ -114,7 +113,7 @@ static RULES_3: [Rule<'static>; 3] = [
         level: Level::Should,
         section: "runtime config.md#posix-platform-mounts",
         wanted: "the option idmap or ridmap, where mappings stand",
-        platforms: EVERY,
+        platforms: Platforms::Every,
         place: &[
             Step::Member("mounts"),
             Step::EachItem,
@@ -132,7 +131,7 @@ static RULES_3: [Rule<'static>; 3] = [
         level: Level::Should,
         section: "runtime config.md#posix-platform-mounts",
         wanted: "the option idmap or ridmap, where mappings stand",
-        platforms: EVERY,
+        platforms: Platforms::Every,
         place: &[
             Step::Member("mounts"),
             Step::EachItem,
@@ -151,7 +150,7 @@ static RULES_3: [Rule<'static>; 3] = [
         level: Level::Must,
         section: "runtime config.md#linux-mount-options",
         wanted: "mappings, where the option idmap or ridmap stands and no user namespace",
-        platforms: EVERY,
+        platforms: Platforms::Every,
         place: &[
             Step::When(Condition {
                 origin: Origin::Document,
@@ -178,7 +177,7 @@ static RULES_4: [Rule<'static>; 3] = [
         level: Level::Stated,
         section: "runtime config.md#linux-mount-options",
         wanted: "the type tmpfs, where the option tmpcopyup stands",
-        platforms: EVERY,
+        platforms: Platforms::Every,
         place: &[
             Step::Member("mounts"),
             Step::EachItem,
@@ -196,7 +195,7 @@ static RULES_4: [Rule<'static>; 3] = [
         level: Level::Stated,
         section: "runtime config.md#linux-mount-options",
         wanted: "the type tmpfs, where the option tmpcopyup stands",
-        platforms: EVERY,
+        platforms: Platforms::Every,
         place: &[
             Step::Member("mounts"),
             Step::EachItem,
@@ -215,7 +214,7 @@ static RULES_4: [Rule<'static>; 3] = [
         level: Level::Host,
         section: "mount(2)",
         wanted: "a type, where no bind mount is asked for",
-        platforms: &[Platform::Linux],
+        platforms: Platforms::These(&[Platform::Linux]),
         place: &[
             Step::Member("mounts"),
             Step::EachItem,
@@ -236,7 +235,7 @@ static RULES_5: [Rule<'static>; 3] = [
         level: Level::Host,
         section: "common practice",
         wanted: "a string without NUL",
-        platforms: EVERY,
+        platforms: Platforms::Every,
         place: &[
             Step::Member("mounts"),
             Step::EachItem,
@@ -249,7 +248,7 @@ static RULES_5: [Rule<'static>; 3] = [
         level: Level::Host,
         section: "common practice",
         wanted: "a string without NUL",
-        platforms: EVERY,
+        platforms: Platforms::Every,
         place: &[
             Step::Member("mounts"),
             Step::EachItem,
@@ -262,7 +261,7 @@ static RULES_5: [Rule<'static>; 3] = [
         level: Level::Host,
         section: "common practice",
         wanted: "a string without NUL",
-        platforms: EVERY,
+        platforms: Platforms::Every,
         place: &[Step::Member("mounts"), Step::EachItem, Step::Member("type")],
         test: Test::Text(Grammar::NoNul),
     },
@@ -274,7 +273,7 @@ static RULES_6: [Rule<'static>; 3] = [
         level: Level::Host,
         section: "mount(8)",
         wanted: "no option that takes another one back",
-        platforms: EVERY,
+        platforms: Platforms::Every,
         place: &[
             Step::Member("mounts"),
             Step::EachItem,
@@ -294,7 +293,7 @@ static RULES_6: [Rule<'static>; 3] = [
         level: Level::Host,
         section: "mount(8)",
         wanted: "no option that takes another one back",
-        platforms: EVERY,
+        platforms: Platforms::Every,
         place: &[
             Step::Member("mounts"),
             Step::EachItem,
@@ -314,7 +313,7 @@ static RULES_6: [Rule<'static>; 3] = [
         level: Level::Host,
         section: "mount(8)",
         wanted: "no option that takes another one back",
-        platforms: EVERY,
+        platforms: Platforms::Every,
         place: &[
             Step::Member("mounts"),
             Step::EachItem,
@@ -337,7 +336,7 @@ static RULES_7: [Rule<'static>; 3] = [
         level: Level::Host,
         section: "mount(8)",
         wanted: "no option that takes another one back",
-        platforms: EVERY,
+        platforms: Platforms::Every,
         place: &[
             Step::Member("mounts"),
             Step::EachItem,
@@ -357,7 +356,7 @@ static RULES_7: [Rule<'static>; 3] = [
         level: Level::Host,
         section: "mount(8)",
         wanted: "no option that takes another one back",
-        platforms: EVERY,
+        platforms: Platforms::Every,
         place: &[
             Step::Member("mounts"),
             Step::EachItem,
@@ -377,7 +376,7 @@ static RULES_7: [Rule<'static>; 3] = [
         level: Level::Should,
         section: "runtime config-linux.md#default-filesystems",
         wanted: "mounts of /proc, /sys, /dev/pts and /dev/shm",
-        platforms: &[Platform::Linux],
+        platforms: Platforms::These(&[Platform::Linux]),
         place: &[],
         test: Test::There("mounts"),
     },
@@ -389,7 +388,7 @@ static RULES_8: [Rule<'static>; 3] = [
         level: Level::Should,
         section: "runtime config-linux.md#default-filesystems",
         wanted: "mounts of /proc, /sys, /dev/pts and /dev/shm",
-        platforms: &[Platform::Linux],
+        platforms: Platforms::These(&[Platform::Linux]),
         place: &[Step::Member("mounts")],
         test: Test::ListsItem("destination", "/proc"),
     },
@@ -398,7 +397,7 @@ static RULES_8: [Rule<'static>; 3] = [
         level: Level::Should,
         section: "runtime config-linux.md#default-filesystems",
         wanted: "mounts of /proc, /sys, /dev/pts and /dev/shm",
-        platforms: &[Platform::Linux],
+        platforms: Platforms::These(&[Platform::Linux]),
         place: &[Step::Member("mounts")],
         test: Test::ListsItem("destination", "/sys"),
     },
@@ -407,7 +406,7 @@ static RULES_8: [Rule<'static>; 3] = [
         level: Level::Should,
         section: "runtime config-linux.md#default-filesystems",
         wanted: "mounts of /proc, /sys, /dev/pts and /dev/shm",
-        platforms: &[Platform::Linux],
+        platforms: Platforms::These(&[Platform::Linux]),
         place: &[Step::Member("mounts")],
         test: Test::ListsItem("destination", "/dev/pts"),
     },
@@ -418,7 +417,7 @@ static RULES_9: [Rule<'static>; 1] = [Rule {
     level: Level::Should,
     section: "runtime config-linux.md#default-filesystems",
     wanted: "mounts of /proc, /sys, /dev/pts and /dev/shm",
-    platforms: &[Platform::Linux],
+    platforms: Platforms::These(&[Platform::Linux]),
     place: &[Step::Member("mounts")],
     test: Test::ListsItem("destination", "/dev/shm"),
 }];

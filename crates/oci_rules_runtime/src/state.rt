@@ -5,9 +5,9 @@ ghost use Rattle.std.specs.List.{flat_map};
 ghost use Rattle.oci_rules.specs.Tables.{rule_of};
 ghost use Rattle.oci_rules_runtime.specs.State as defined;
 
-use crate::lists::{EVERY, OPENCONTAINERS_KEYS};
+use crate::lists::OPENCONTAINERS_KEYS;
 use oci_rule_texts::Grammar;
-use oci_rules::{Check, Condition, Level, Origin, Platform, Rule, Step, Test};
+use oci_rules::{Check, Condition, Level, Origin, Platform, Platforms, Rule, Step, Test};
 
 static RULES_1: [Rule<'static>; 3] = [
     Rule {
@@ -15,7 +15,7 @@ static RULES_1: [Rule<'static>; 3] = [
         level: Level::Must,
         section: "runtime runtime.md#state",
         wanted: "a version, an ID, a status and a bundle",
-        platforms: EVERY,
+        platforms: Platforms::Every,
         place: &[],
         test: Test::There("ociVersion"),
     },
@@ -24,7 +24,7 @@ static RULES_1: [Rule<'static>; 3] = [
         level: Level::Must,
         section: "runtime runtime.md#state",
         wanted: "a version, an ID, a status and a bundle",
-        platforms: EVERY,
+        platforms: Platforms::Every,
         place: &[],
         test: Test::There("id"),
     },
@@ -33,7 +33,7 @@ static RULES_1: [Rule<'static>; 3] = [
         level: Level::Must,
         section: "runtime runtime.md#state",
         wanted: "a version, an ID, a status and a bundle",
-        platforms: EVERY,
+        platforms: Platforms::Every,
         place: &[],
         test: Test::There("status"),
     },
@@ -45,7 +45,7 @@ static RULES_2: [Rule<'static>; 3] = [
         level: Level::Must,
         section: "runtime runtime.md#state",
         wanted: "a version, an ID, a status and a bundle",
-        platforms: EVERY,
+        platforms: Platforms::Every,
         place: &[],
         test: Test::There("bundle"),
     },
@@ -54,7 +54,7 @@ static RULES_2: [Rule<'static>; 3] = [
         level: Level::Stated,
         section: "runtime runtime.md#state",
         wanted: "a version (SemVer 2.0.0)",
-        platforms: EVERY,
+        platforms: Platforms::Every,
         place: &[Step::Member("ociVersion")],
         test: Test::Text(Grammar::SemVer),
     },
@@ -63,7 +63,7 @@ static RULES_2: [Rule<'static>; 3] = [
         level: Level::Stated,
         section: "runtime runtime.md#state",
         wanted: "an ID that is not empty",
-        platforms: EVERY,
+        platforms: Platforms::Every,
         place: &[Step::Member("id")],
         test: Test::NotEmpty,
     },
@@ -75,7 +75,7 @@ static RULES_3: [Rule<'static>; 3] = [
         level: Level::Must,
         section: "runtime runtime.md#state",
         wanted: "the ID of the process, of a container that was created or runs",
-        platforms: &[Platform::Linux],
+        platforms: Platforms::These(&[Platform::Linux]),
         place: &[Step::When(Condition {
             origin: Origin::Part,
             way: &["status"],
@@ -89,7 +89,7 @@ static RULES_3: [Rule<'static>; 3] = [
         level: Level::Stated,
         section: "runtime runtime.md#state",
         wanted: "an ID that is not negative, and positive of a container that was created or runs",
-        platforms: EVERY,
+        platforms: Platforms::Every,
         place: &[Step::Member("pid")],
         test: Test::Within(0, 18446744073709551615),
     },
@@ -98,7 +98,7 @@ static RULES_3: [Rule<'static>; 3] = [
         level: Level::Stated,
         section: "runtime runtime.md#state",
         wanted: "an ID that is not negative, and positive of a container that was created or runs",
-        platforms: EVERY,
+        platforms: Platforms::Every,
         place: &[
             Step::When(Condition {
                 origin: Origin::Part,
@@ -118,7 +118,7 @@ static RULES_4: [Rule<'static>; 3] = [
         level: Level::Stated,
         section: "runtime runtime.md#state",
         wanted: "an absolute path",
-        platforms: EVERY,
+        platforms: Platforms::Every,
         place: &[Step::Member("bundle")],
         test: Test::Text(Grammar::AbsolutePath),
     },
@@ -127,7 +127,7 @@ static RULES_4: [Rule<'static>; 3] = [
         level: Level::Must,
         section: "runtime config.md#annotations",
         wanted: "a key that is not empty",
-        platforms: EVERY,
+        platforms: Platforms::Every,
         place: &[Step::Member("annotations"), Step::EachName],
         test: Test::NotEmpty,
     },
@@ -136,7 +136,7 @@ static RULES_4: [Rule<'static>; 3] = [
         level: Level::Should,
         section: "runtime config.md#annotations",
         wanted: "a key in reverse domain notation, as com.example.myKey",
-        platforms: EVERY,
+        platforms: Platforms::Every,
         place: &[Step::Member("annotations"), Step::EachName],
         test: Test::Text(Grammar::ReverseDomain),
     },
@@ -148,7 +148,7 @@ static RULES_5: [Rule<'static>; 3] = [
         level: Level::Must,
         section: "runtime config.md#annotations",
         wanted: "below org.opencontainers a key that a specification defines",
-        platforms: EVERY,
+        platforms: Platforms::Every,
         place: &[Step::Member("annotations"), Step::EachName],
         test: Test::Reserved("org.opencontainers.", OPENCONTAINERS_KEYS),
     },
@@ -157,7 +157,7 @@ static RULES_5: [Rule<'static>; 3] = [
         level: Level::Must,
         section: "runtime config.md#annotations",
         wanted: "a date and time (RFC 3339), as in an image configuration",
-        platforms: EVERY,
+        platforms: Platforms::Every,
         place: &[
             Step::Member("annotations"),
             Step::Member("org.opencontainers.image.created"),
@@ -175,7 +175,7 @@ static RULES_5: [Rule<'static>; 3] = [
         level: Level::Must,
         section: "runtime config.md#annotations",
         wanted: "a signal's name, as SIGKILL or SIGRTMIN+3",
-        platforms: EVERY,
+        platforms: Platforms::Every,
         place: &[
             Step::Member("annotations"),
             Step::Member("org.opencontainers.image.stopSignal"),
@@ -195,7 +195,7 @@ static RULES_6: [Rule<'static>; 1] = [Rule {
     level: Level::Stated,
     section: "image annotations.md#back-compatibility-with-label-schema",
     wanted: "the key below org.opencontainers.image that superseded this one",
-    platforms: EVERY,
+    platforms: Platforms::Every,
     place: &[Step::Member("annotations"), Step::EachName],
     test: Test::Reserved("org.label-schema.", &[]),
 }];

@@ -6,6 +6,6 @@ pub use oci_policies::{Bump, Policy, PolicyError, Reason};
 pub use oci_rule_books::rules_of;
 pub use oci_rule_texts::Grammar;
 pub use oci_rules::{
-    Broken, Check, Condition, Key, Level, Origin, Platform, Rule, Step, Test, broken, broken_in,
-    platform_of_document,
+    Broken, Check, Condition, Key, Level, Origin, Platform, Platforms, Rule, Step, Test, broken,
+    broken_in, platform_of_document,
 };

@@ -3,7 +3,7 @@ use oci_check::RuleBooks;
 use oci_kinds::Kind;
 use oci_report::render::word_of;
 use oci_report::{KINDS, title_of};
-use oci_rules::{Platform, Rule, Step};
+use oci_rules::{Platform, Platforms, Rule, Step};
 use std::alloc::{AllocError, Global};
 
 /// How many platforms there are.
@@ -135,8 +135,11 @@ fn push_head(
 fn place_line(rule: &Rule<'_>, alloc: Global) -> Result<String, AllocError> {
     let mut line = String::from_str(alloc, "    at /")?;
     push_place(&mut line, rule.place)?;
-    if rule.platforms.len() < PLATFORMS {
-        push_platforms(&mut line, rule.platforms)?;
+    match rule.platforms {
+        Platforms::These(platforms) if platforms.len() < PLATFORMS => {
+            push_platforms(&mut line, platforms)?;
+        }
+        _ => {}
     }
     line.push_str("\n")?;
     Ok(line)
