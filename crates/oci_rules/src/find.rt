@@ -56,7 +56,7 @@ fn add_rule<'a>(
 ) -> Result<(), AllocError>
     ensures { OnOk result (map told found.new.items ≡ map told found.old.items ++ when (is_among (platform_of platform) (platforms_of rule.now.platforms)) (told_of (rule_of rule.now) (view value.now))) }
 {
-    if is_for(platform, rule.platforms) {
+    if is_for(platform, &rule.platforms) {
         add_at(rule.place, rule, value, value, "", found, alloc)
     } else {
         Ok(())
@@ -65,8 +65,8 @@ fn add_rule<'a>(
 
 /// Whether the platform is one of those of a rule.
 #[tactic(auto, using(crate::proofs::AllPlatforms::each_is_one))]
-fn is_for(platform: Platform, platforms: Platforms<'_>) -> bool
-    ensures { result ≡ is_among (platform_of platform) (platforms_of platforms) }
+fn is_for(platform: Platform, platforms: &Platforms<'_>) -> bool
+    ensures { result ≡ is_among (platform_of platform) (platforms_of platforms.now) }
 {
     match platforms {
         Platforms::Every => true,

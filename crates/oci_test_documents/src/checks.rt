@@ -5,6 +5,7 @@ use oci_json_model::OciRecord;
 use oci_test_harness::Harness;
 use oci_text_base::{OciSpecError, Result, SerDeError};
 use std::alloc::{AllocError, Global};
+use std::io::ErrorKind;
 
 /// A text that a call answers; or the kind of its refusal and what it names, of a document's the record and its member.
 pub type Answer<'a> = std::result::Result<&'a str, (&'a str, &'a str)>;
@@ -20,25 +21,44 @@ fn refusal(error: &OciSpecError) -> (&str, &str) {
     }
 }
 
+/// Whether a call answers what was expected.
+fn is_answer(found: &Result<String>, expected: Answer<'_>) -> bool {
+    match found {
+        Ok(text) => expected == Ok(text.as_str()),
+        Err(error) => expected == Err(refusal(error)),
+    }
+}
+
 /// Counts a call that answers what was expected.
-pub fn check(harness: &mut Harness<'_>, case: &str, found: &Result<String>, expected: Answer<'_>) {
-    let found = match found {
-        Ok(text) => Ok(text.as_str()),
-        Err(error) => Err(refusal(error)),
-    };
-    harness.count(case, 0, found == expected);
+pub fn check(harness: &mut Harness<'_>, case: &str, found: Result<String>, expected: Answer<'_>) {
+    let kept = is_answer(&found, expected);
+    harness.count(case, 0, kept);
 }
 
 /// Counts a call that is refused as was expected.
 pub fn check_refused(
     harness: &mut Harness<'_>,
     case: &str,
-    found: &Result<()>,
+    found: Result<()>,
     expected: (&str, &str),
 ) {
-    let kept = match found {
+    let kept = match &found {
         Ok(()) => false,
         Err(error) => refusal(error) == expected,
+    };
+    harness.count(case, 0, kept);
+}
+
+/// Counts a call that fails with this error of a stream.
+pub fn check_io<T: Drop>(
+    harness: &mut Harness<'_>,
+    case: &str,
+    found: Result<T>,
+    expected: ErrorKind,
+) {
+    let kept = match &found {
+        Err(OciSpecError::Io(fault)) => fault.kind() == expected,
+        _ => false,
     };
     harness.count(case, 0, kept);
 }

@@ -71,7 +71,7 @@ fn copied(alloc: Global, document: Document) -> Result<String> {
 pub fn all(harness: &mut Harness<'_>) {
     let alloc = harness.rt.alloc();
     for (document, text) in &COPIES {
-        check(harness, text, &copied(alloc, *document), Ok(*text));
+        check(harness, text, copied(alloc, *document), Ok(*text));
     }
     harness.end("distribution", "copies");
 }

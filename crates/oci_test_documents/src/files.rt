@@ -124,7 +124,7 @@ macro_rules! check_files {
             Err(_) => $harness.count(stringify!($record), 0, false),
         }
         let read = written(alloc, $record::from_file(rt, alloc, PATH));
-        check($harness, stringify!($record), &read, Ok($texts.compact));
+        check($harness, stringify!($record), read, Ok($texts.compact));
     };
 }
 

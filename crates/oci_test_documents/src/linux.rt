@@ -30,13 +30,13 @@ fn rule_of_device(alloc: Global) -> Result<LinuxDeviceCgroup> {
 fn lines_of_control_groups(harness: &mut Harness<'_>) {
     let alloc = harness.rt.alloc();
     let found = shown(alloc, rule_of_device(alloc));
-    check(harness, "of a device", &found, Ok("c 1:3 rwm"));
+    check(harness, "of a device", found, Ok("c 1:3 rwm"));
     let rule = LinuxDeviceCgroupBuilder::default();
     let found = shown(alloc, rule.build(alloc));
-    check(harness, "of all devices", &found, Ok("a *:* "));
+    check(harness, "of all devices", found, Ok("a *:* "));
     let rule = LinuxDeviceCgroupBuilder::default().major(-1).minor(9);
     let found = shown(alloc, rule.build(alloc));
-    check(harness, "of numbers", &found, Ok("a -1:9 "));
+    check(harness, "of numbers", found, Ok("a -1:9 "));
 }
 
 fn priority(alloc: Global) -> Result<LinuxInterfacePriority> {
@@ -51,6 +51,6 @@ pub fn all(harness: &mut Harness<'_>) {
     lines_of_control_groups(harness);
     let alloc = harness.rt.alloc();
     let found = shown(alloc, priority(alloc));
-    check(harness, "priority", &found, Ok("eth0 7\n"));
+    check(harness, "priority", found, Ok("eth0 7\n"));
     harness.end("linux", "texts displayed");
 }

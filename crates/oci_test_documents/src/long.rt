@@ -90,11 +90,11 @@ fn violated(alloc: Global, text: &str) -> Result<String> {
 /// All ways.
 fn check_ways(harness: &mut Harness<'_>, text: &str, pretty: &str) {
     let alloc = harness.rt.alloc();
-    check(harness, "compact", &compact_of(alloc, text), Ok(text));
-    check(harness, "pretty", &pretty_of(alloc, text), Ok(pretty));
-    check(harness, "displayed", &displayed(alloc, text), Ok(pretty));
+    check(harness, "compact", compact_of(alloc, text), Ok(text));
+    check(harness, "pretty", pretty_of(alloc, text), Ok(pretty));
+    check(harness, "displayed", displayed(alloc, text), Ok(pretty));
     streamed(harness, text, pretty);
-    check(harness, "violations", &violated(alloc, text), Ok("true"));
+    check(harness, "violations", violated(alloc, text), Ok("true"));
 }
 
 fn check_text(harness: &mut Harness<'_>, text: &str) {
@@ -116,7 +116,7 @@ pub fn all(harness: &mut Harness<'_>) -> std::result::Result<(), HarnessOutOfMem
     check(
         harness,
         "violations",
-        &found,
+        found,
         Ok("false /rootfs/diff_ids/99999"),
     );
     harness.end("long documents", "calls");

@@ -41,7 +41,7 @@ fn is_told_apart(alloc: Global) -> bool {
 fn null_credentials(harness: &mut Harness<'_>) {
     let alloc = harness.rt.alloc();
     let text = r#"{"credentialSpec":{"a":null}}"#;
-    check(harness, text, &written(alloc, copied(alloc)), Ok(text));
+    check(harness, text, written(alloc, copied(alloc)), Ok(text));
     harness.same("copy", copied(alloc), windows(alloc, Some(Value::Null)));
     harness.same("read back", read_back(alloc), windows(alloc, None));
     harness.count("set and none", 0, is_told_apart(alloc));
@@ -55,7 +55,7 @@ fn of_number(alloc: Global, text: &str) -> Result<Windows> {
 fn other_numbers_in_credentials(harness: &mut Harness<'_>) {
     let alloc = harness.rt.alloc();
     let found = written(alloc, of_number(alloc, "[1.5]"));
-    check(harness, "[1.5]", &found, Err(("Windows", "credentialSpec")));
+    check(harness, "[1.5]", found, Err(("Windows", "credentialSpec")));
     harness.same(
         "[1e300]",
         of_number(alloc, "[1.5]"),

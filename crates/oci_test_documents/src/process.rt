@@ -68,7 +68,7 @@ fn affinities(harness: &mut Harness<'_>) {
     let alloc = harness.rt.alloc();
     for (initial, last, expected) in &AFFINITIES {
         let found = written(alloc, made(alloc, *initial, *last));
-        check(harness, initial.unwrap_or("none"), &found, *expected);
+        check(harness, initial.unwrap_or("none"), found, *expected);
     }
 }
 
@@ -88,10 +88,10 @@ fn put<W: Write>(alloc: Global, output: &mut W) -> Result<()> {
 fn unwritable_affinity(harness: &mut Harness<'_>) {
     let (alloc, place) = (harness.rt.alloc(), ("ExecCPUAffinity", "initial"));
     let found = written(alloc, unwritable(alloc));
-    check(harness, "unwritable", &found, Err(place));
+    check(harness, "unwritable", found, Err(place));
     harness.output.begin(Manner::AMPLE);
     let refused = put(alloc, &mut harness.output);
-    check_refused(harness, "unwritable", &refused, place);
+    check_refused(harness, "unwritable", refused, place);
     let kept = harness.output.is_untouched();
     harness.count("nothing written", 0, kept);
 }

@@ -90,15 +90,15 @@ fn pinned(alloc: Global, reference: &Reference) -> Result<String> {
 fn mirrored(harness: &mut Harness<'_>, reference: &Reference) {
     let alloc = harness.rt.alloc();
     let expected = "test.com/repo:tag of test.com, from docker.mirror.io";
-    check(harness, "copy", &copied(alloc, reference), Ok(expected));
+    check(harness, "copy", copied(alloc, reference), Ok(expected));
     let expected = "test.com/repo@foo:bar of test.com, from docker.mirror.io";
     check(
         harness,
         "digest",
-        &with_digest(alloc, reference),
+        with_digest(alloc, reference),
         Ok(expected),
     );
-    check(harness, "pin", &pinned(alloc, reference), Ok(expected));
+    check(harness, "pin", pinned(alloc, reference), Ok(expected));
 }
 
 pub fn all(harness: &mut Harness<'_>) -> std::result::Result<(), HarnessOutOfMemory> {

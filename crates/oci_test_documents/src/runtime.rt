@@ -43,23 +43,18 @@ fn mappings(harness: &mut Harness<'_>) {
     check(
         harness,
         "of users",
-        &written(alloc, of_users(alloc)),
+        written(alloc, of_users(alloc)),
         refused,
     );
     check(
         harness,
         "of groups",
-        &written(alloc, of_groups(alloc)),
+        written(alloc, of_groups(alloc)),
         refused,
     );
     let text =
         r#"{"destination":"","gidMappings":[{"containerID":0,"hostID":0,"size":1}],"uidMappings":[{"containerID":0,"hostID":0,"size":1}]}"#;
-    check(
-        harness,
-        "of both",
-        &written(alloc, of_both(alloc)),
-        Ok(text),
-    );
+    check(harness, "of both", written(alloc, of_both(alloc)), Ok(text));
 }
 
 /// What a resolver answers.
@@ -186,7 +181,7 @@ fn canonical(alloc: Global, row: &Row) -> Result<String> {
 fn roots(harness: &mut Harness<'_>) {
     let alloc = harness.rt.alloc();
     for row in &ROOTS {
-        check(harness, "root", &canonical(alloc, row), row.4);
+        check(harness, "root", canonical(alloc, row), row.4);
     }
 }
 

@@ -98,11 +98,11 @@ impl<'a> Harness<'a> {
 
     /// Counts a call that writes this text, spaces and line feeds not looked at where it is a pretty one, or nothing and is refused
     /// with `Memory`.
-    pub fn wrote(&mut self, call: &str, answer: &Result<()>, text: &str, is_pretty: bool) {
+    pub fn wrote(&mut self, call: &str, answer: Result<()>, text: &str, is_pretty: bool) {
         if is_pretty {
             self.output.strip_layout();
         }
-        let kept = match answer {
+        let kept = match &answer {
             Ok(()) => self.output.taken() == text.as_bytes(),
             Err(OciSpecError::Memory) => {
                 self.count_memory();
@@ -114,8 +114,8 @@ impl<'a> Harness<'a> {
     }
 
     /// Counts a call: it answers this text, or is refused with it as `Other`; or with `Memory` in the place of either.
-    pub fn answer(&mut self, call: &str, found: &Result<String>, expected: Answer<'_>) {
-        let kept = match (found, expected) {
+    pub fn answer(&mut self, call: &str, found: Result<String>, expected: Answer<'_>) {
+        let kept = match (&found, expected) {
             (Ok(text), Ok(expected)) => text.as_str() == expected,
             (Err(OciSpecError::Other(why)), Err(expected)) => why.as_str() == expected,
             (Err(OciSpecError::Memory), _) => {

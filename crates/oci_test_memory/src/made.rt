@@ -275,17 +275,17 @@ fn refused(harness: &mut Harness<'_>) {
     let alloc = harness.rt.alloc();
     harness.answer(
         "ExecCPUAffinityBuilder",
-        &affinity(alloc),
+        affinity(alloc),
         Err("Invalid execCPUAffinity format: x"),
     );
     harness.answer(
         "MountBuilder",
-        &mount(alloc),
+        mount(alloc),
         Err("Mount.uidMappings and Mount.gidMappings must be specified together"),
     );
     harness.answer(
         "ZOSNamespaceType",
-        &namespace(alloc),
+        namespace(alloc),
         Err("unknown z/OS namespace x, could not convert"),
     );
 }

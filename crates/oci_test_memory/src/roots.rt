@@ -56,9 +56,9 @@ fn wholes(harness: &mut Harness<'_>) {
         Spec::rootless(alloc, 1000, 100),
         Spec::rootless(alloc, 1000, 100),
     );
-    harness.answer("version", &distribution::version(alloc), Ok("1.0.0"));
-    harness.answer("version", &image::version(alloc), Ok("1.0.1"));
-    harness.answer("version", &runtime::version(alloc), Ok("1.1.0"));
+    harness.answer("version", distribution::version(alloc), Ok("1.0.0"));
+    harness.answer("version", image::version(alloc), Ok("1.0.1"));
+    harness.answer("version", runtime::version(alloc), Ok("1.1.0"));
 }
 
 /// The default specification with a root of this path, or with none.
@@ -125,7 +125,7 @@ fn resolved(
     let questions = Rc::new(alloc, Cell::new(0u64))?;
     let made = made_canonical(alloc, path, &questions);
     let kept = matches!(made, Err(OciSpecError::Memory)) || questions.get() == count;
-    harness.answer("canonicalize_rootfs", &made, text);
+    harness.answer("canonicalize_rootfs", made, text);
     harness.count("resolver", 0, kept);
     Ok(())
 }

@@ -219,7 +219,7 @@ static REFUSED: [(&str, ParseError); 13] = [
 pub fn all(harness: &mut Harness<'_>) {
     let alloc = harness.rt.alloc();
     for (call, text, expected) in &CALLS {
-        harness.answer(text, &of_digest(alloc, *call, text), *expected);
+        harness.answer(text, of_digest(alloc, *call, text), *expected);
     }
     harness.end("texts", "calls");
     for (text, expected) in &REFUSED {

@@ -1,5 +1,4 @@
-use super::check_io;
-use crate::checks::check_refused;
+use crate::checks::{check_io, check_refused};
 use crate::distribution::reply;
 use oci_distribution::ErrorResponse;
 use oci_json::{from_file, to_file, to_file_pretty};
@@ -12,7 +11,7 @@ use std::io::ErrorKind;
 fn unwritable(harness: &mut Harness<'_>) -> std::result::Result<(), HarnessOutOfMemory> {
     let path = "unwritable.json";
     let refused = put(harness.rt, "abcd", path);
-    check_refused(harness, path, &refused, ("ErrorInfo", "detail"));
+    check_refused(harness, path, refused, ("ErrorInfo", "detail"));
     let left = fs::exists(harness.rt, path)?;
     harness.count(path, 0, !left);
     Ok(())
@@ -30,16 +29,11 @@ fn put_pretty(rt: &HostRuntime, path: &str) -> Result<()> {
 fn missing_files(harness: &mut Harness<'_>) {
     let (rt, path) = (harness.rt, "missing/reply.json");
     let found: Result<ErrorResponse> = from_file(rt, rt.alloc(), "missing.json");
-    check_io(
-        harness,
-        "missing.json",
-        found.as_ref().err(),
-        ErrorKind::NotFound,
-    );
+    check_io(harness, "missing.json", found, ErrorKind::NotFound);
     let put = put(rt, "5", path);
-    check_io(harness, path, put.as_ref().err(), ErrorKind::NotFound);
+    check_io(harness, path, put, ErrorKind::NotFound);
     let pretty = put_pretty(rt, path);
-    check_io(harness, path, pretty.as_ref().err(), ErrorKind::NotFound);
+    check_io(harness, path, pretty, ErrorKind::NotFound);
 }
 
 pub fn all(harness: &mut Harness<'_>) -> std::result::Result<(), HarnessOutOfMemory> {

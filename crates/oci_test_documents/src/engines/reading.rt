@@ -1,6 +1,5 @@
-use super::check_io;
 use super::rows::{FAILING_READERS, LISTS};
-use crate::checks::{Answer, check, repeated, written};
+use crate::checks::{Answer, check, check_io, repeated, written};
 use oci_distribution::RepositoryList;
 use oci_json::{from_reader, from_slice, normalize};
 use oci_json_model::optional_either;
@@ -23,14 +22,14 @@ fn by_reader(alloc: Global, input: Input<'_>) -> Result<String> {
 /// The same answer by a slice, and by readers that give little and much at once.
 fn check_reading(harness: &mut Harness<'_>, case: &str, bytes: &[u8], expected: Answer<'_>) {
     let alloc = harness.rt.alloc();
-    check(harness, case, &by_slice(alloc, bytes), expected);
+    check(harness, case, by_slice(alloc, bytes), expected);
     for most_read in [1, 7, usize::MAX] {
         let manner = Manner {
             most_read,
             ..Manner::AMPLE
         };
         let found = by_reader(alloc, Input::new(bytes, manner));
-        check(harness, case, &found, expected);
+        check(harness, case, found, expected);
     }
 }
 
@@ -95,11 +94,11 @@ fn failing<'a>(text: &'a str, row: &(usize, usize, ErrorKind)) -> Input<'a> {
 fn check_failing(harness: &mut Harness<'_>, text: &str, row: &(usize, usize, ErrorKind)) {
     let alloc = harness.rt.alloc();
     let read = by_reader(alloc, failing(text, row));
-    check_io(harness, text, read.as_ref().err(), row.2);
+    check_io(harness, text, read, row.2);
     harness.output.begin(Manner::AMPLE);
     let input = failing(text, row);
     let answer = normalize::<RepositoryList, _, _>(alloc, input, &mut harness.output);
-    check_io(harness, text, answer.as_ref().err(), row.2);
+    check_io(harness, text, answer, row.2);
     let kept = harness.output.is_untouched();
     harness.count(text, row.1, kept);
 }
@@ -134,7 +133,7 @@ fn either(alloc: Global, text: &str) -> Result<String> {
 fn second_names(harness: &mut Harness<'_>) {
     let alloc = harness.rt.alloc();
     for (text, expected) in &SECOND_NAMES {
-        check(harness, text, &either(alloc, text), *expected);
+        check(harness, text, either(alloc, text), *expected);
     }
     harness.end("engines", "second names");
 }

@@ -11,18 +11,13 @@ const PLACE: (&str, &str) = ("ErrorInfo", "detail");
 /// Each engine refuses the document, and writes nothing.
 fn check_unwritable<T: OciRecord>(harness: &mut Harness<'_>, case: &str, document: &T) {
     let alloc = harness.rt.alloc();
-    check(harness, case, &to_string(document, alloc), Err(PLACE));
-    check(
-        harness,
-        case,
-        &to_string_pretty(document, alloc),
-        Err(PLACE),
-    );
+    check(harness, case, to_string(document, alloc), Err(PLACE));
+    check(harness, case, to_string_pretty(document, alloc), Err(PLACE));
     harness.output.begin(Manner::AMPLE);
     let compact = to_writer(document, alloc, &mut harness.output);
-    check_refused(harness, case, &compact, PLACE);
+    check_refused(harness, case, compact, PLACE);
     let pretty = to_writer_pretty(document, alloc, &mut harness.output);
-    check_refused(harness, case, &pretty, PLACE);
+    check_refused(harness, case, pretty, PLACE);
     let kept = harness.output.is_untouched();
     harness.count(case, 0, kept);
 }
@@ -42,7 +37,7 @@ pub fn all(harness: &mut Harness<'_>) {
         check(
             harness,
             detail,
-            &written(alloc, info(alloc, detail)),
+            written(alloc, info(alloc, detail)),
             *expected,
         );
         if expected.is_err() {

@@ -1,6 +1,5 @@
-use super::check_io;
 use super::rows::{FAILING_WRITERS, REPLIES};
-use crate::checks::check;
+use crate::checks::{check, check_io};
 use oci_distribution::ErrorResponse;
 use oci_json::{from_slice, normalize, to_string, to_string_pretty, to_writer, to_writer_pretty};
 use oci_test_harness::{Harness, Manner};
@@ -33,8 +32,8 @@ fn pretty_of(alloc: Global, text: &str) -> Result<String> {
 fn texts(harness: &mut Harness<'_>) {
     let alloc = harness.rt.alloc();
     for (text, compact, pretty) in &REPLIES {
-        check(harness, text, &compact_of(alloc, text), Ok(*compact));
-        check(harness, text, &pretty_of(alloc, text), Ok(*pretty));
+        check(harness, text, compact_of(alloc, text), Ok(*compact));
+        check(harness, text, pretty_of(alloc, text), Ok(*pretty));
     }
 }
 
@@ -102,7 +101,7 @@ fn check_begun(
         ..Manner::AMPLE
     };
     let answer = write_by(harness, engine, REPLIES[1].0, manner);
-    check_io(harness, "failing writer", answer.as_ref().err(), fault);
+    check_io(harness, "failing writer", answer, fault);
     let expected = expected_by(engine, &REPLIES[1]).as_bytes();
     let begun = expected.get(..count.min(expected.len()));
     let kept = Some(harness.output.taken()) == begun;

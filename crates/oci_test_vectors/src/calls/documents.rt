@@ -83,7 +83,7 @@ fn of_kind(alloc: Global, kind: Kind, way: &Way, text: &[u8]) -> Result<String> 
 pub fn all(harness: &mut Harness<'_>, kind: Kind, sample: &Sample<'_>) {
     for (way, call) in &WAYS {
         let answer = of_kind(harness.rt.alloc(), kind, way, sample.text.as_bytes());
-        harness.answer(call, &answer, Ok(sample.compact));
+        harness.answer(call, answer, Ok(sample.compact));
     }
     harness.end(sample.kind, "calls of documents");
 }

@@ -144,7 +144,7 @@ pub fn all(harness: &mut Harness<'_>) -> std::result::Result<(), HarnessOutOfMem
     let state = State::try_default(harness.rt.alloc());
     harness.same("save and load", loaded_state(harness.rt), state);
     fs::write(harness.rt, PATH, REPLY)?;
-    harness.answer("from_file", &read(harness.rt), Ok(REPLY));
+    harness.answer("from_file", read(harness.rt), Ok(REPLY));
     fs::remove_file(harness.rt, PATH)?;
     harness.end("files", "calls");
     Ok(())

@@ -108,7 +108,7 @@ pub fn all(harness: &mut Harness<'_>, kind: Kind, sample: &Sample<'_>) {
             harness.output.begin(Manner::AMPLE);
             let input = Input::new(sample.text.as_bytes(), Manner::AMPLE);
             let answer = of_kind(harness.rt.alloc(), kind, call, input, &mut harness.output);
-            harness.wrote(name, &answer, sample.compact, *is_pretty);
+            harness.wrote(name, answer, sample.compact, *is_pretty);
         }
     }
     if has_call(kind, &Call::Text) {
