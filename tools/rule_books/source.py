@@ -99,8 +99,7 @@ def lists(model, crate):
 
 
 ABOUT = {
-    "oci_rules_image": "The books of rules of image and distribution documents.",
-    "oci_rules_runtime": "The books of rules of containers' configurations, states and features.",
+    "oci_rule_tables": "The books of rules: of image and distribution documents, and of containers' configurations, states and features.",
 }
 
 

@@ -9,24 +9,22 @@ ghost use Rattle.oci_rule_books.specs.Kinds as kinds;
 ghost use Rattle.oci_kinds.specs.declared.kind.Kind.TheVariants as kind;
 
 use oci_kinds::Kind;
-use oci_rules::Rule;
-use oci_rules_image::{
+use oci_rule_tables::{
     artifact_annotations_rules, artifact_blobs_annotations_rules, artifact_blobs_rules,
     artifact_rules, artifact_subject_annotations_rules, artifact_subject_rules,
     config_combinations_rules, config_labels_rules, config_rules, descriptor_annotations_rules,
-    descriptor_rules, error_rules, index_annotations_rules, index_combinations_rules,
-    index_manifests_annotations_rules, index_manifests_rules, index_rules,
-    index_subject_annotations_rules, index_subject_rules, layout_rules, manifest_annotations_rules,
+    descriptor_rules, error_rules, features_rules, index_annotations_rules,
+    index_combinations_rules, index_manifests_annotations_rules, index_manifests_rules,
+    index_rules, index_subject_annotations_rules, index_subject_rules, layout_rules,
+    linux_block_rules, linux_mappings_host_rules, linux_mappings_rules, linux_resources_rules,
+    linux_rules, linux_seccomp_rules, linux_sysctl_rules, manifest_annotations_rules,
     manifest_config_annotations_rules, manifest_config_rules, manifest_layers_annotations_rules,
     manifest_layers_rules, manifest_rules, manifest_subject_annotations_rules,
-    manifest_subject_rules, reference_rules, repositories_rules, tags_rules,
+    manifest_subject_rules, platforms_rules, process_capabilities_rules, process_rules,
+    process_state_rules, reference_rules, repositories_rules, spec_hooks_rules, spec_mounts_rules,
+    spec_rules, state_rules, tags_rules,
 };
-use oci_rules_runtime::{
-    features_rules, linux_block_rules, linux_mappings_host_rules, linux_mappings_rules,
-    linux_resources_rules, linux_rules, linux_seccomp_rules, linux_sysctl_rules, platforms_rules,
-    process_capabilities_rules, process_rules, process_state_rules, spec_hooks_rules,
-    spec_mounts_rules, spec_rules, state_rules,
-};
+use oci_rules::Rule;
 use std::alloc::{AllocError, Global};
 
 /// Returns the rules of a kind of documents, in the order of its books, a few in each slice. Fails if out of memory.
