@@ -1,6 +1,13 @@
 -- A digest is one that is cut at its first colon, and has no other reading.
-use Rattle.std.proofs.Common.{◌≡◌, ℕ, List, ◌∷◌, ◌+◌, drop, length, sym, ap, ◌∙◌, subst}
+use Rattle.std.proofs.Common.{◌≡◌, ℕ, List, ◌∷◌, ◌+◌, drop, length, Some, Result, Ok, Err, sym, ap, ◌∙◌, subst}
 use Rattle.std.proofs.Math.Seq.{drop-append-add}
+use Rattle.std.specs.Result.{IfOk}
+use Rattle.serde_json.specs.Data.{Data}
+use Rattle.serde_json.specs.Find.{as_str}
+use Rattle.oci_json_model.specs.Means.{Means}
+use Rattle.oci_json_model.specs.Plain as plain
+use Rattle.oci_json_model.specs.Shape as shape
+use Rattle.oci_text_base.specs.declared.error.OciSpecError.{OciSpecError}
 use Rattle.oci_text_base.specs.Classes.{until, after, colon}
 use Rattle.oci_text_base.specs.Digest.{IsDigest, IsDigestText}
 use Rattle.oci_text_base.specs.Names.{Name, opened}
@@ -23,3 +30,8 @@ pub of_encoded : (t rest : List ℕ) (split : ℕ) → split ≡ length (until c
 of_encoded t rest split at is a e d =
     let same : split ≡ length a = at ∙ ap length (digest_cut t a e d).0 in
     is ∙ ap (λ i. drop (i + 1) t) same ∙ ap (drop (length a + 1)) d.spelled ∙ drop-append-add a (colon ∷ e) 1
+
+-- a digest of the text that stands there is what the text means
+pub digest_means : (t : List ℕ) (d : Data) (r : Result (List ℕ) OciSpecError) → Some t ≡ as_str d → IsDigestText t → IfOk r (λ x. x ≡ t) → IfOk r (λ x. Means shape.digest_text d (plain.text x))
+digest_means t d (Ok x) found is told = let same : x ≡ t = told in (t, sym found, ap plain.text same, is)
+digest_means t d (Err e) found is told = tt

@@ -3,6 +3,7 @@ pub mod Components
 pub mod CpuLists
 pub mod CutDigests
 pub mod ErrorTexts
+pub mod Memory
 pub mod NamedArchitectures
 pub mod NamedMediaTypes
 pub mod NamedSystems

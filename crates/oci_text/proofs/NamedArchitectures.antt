@@ -1,5 +1,5 @@
 -- The architectures of platforms (image specification, "Image Index", `architecture`; Go, `GOARCH`).
-use Rattle.std.proofs.Common.{◌≡◌, false, refl}
+use Rattle.std.proofs.Common.{◌≡◌, String, Global, false, refl}
 use Rattle.oci_text_base.specs.Names.{is_other, name_text, opened}
 use Rattle.oci_json_model.specs.Fits.{FitsOpen}
 use Rattle.oci_json_model.specs.Types.{name_plain}
@@ -39,3 +39,8 @@ arch_back (Other text) h = cc h
 -- what is written is listed, or an other text
 pub arch_fits : (m : Arch) → FitsOpen arches (name_plain (arch_name m))
 arch_fits m = fits arches (arch_name m) (arch_back m)
+
+-- what is no other text is named
+pub arch_named : (m : Arch) → ((text : String Global) → m ≡ Other text → ⊥) → is_other (arch_name m) ≡ false
+arch_named (Other text) out = absurd (out text refl)
+arch_named m out = refl

@@ -1,5 +1,5 @@
 -- The media types (image specification, "Media Types").
-use Rattle.std.proofs.Common.{◌≡◌, false, refl}
+use Rattle.std.proofs.Common.{◌≡◌, String, Global, false, refl}
 use Rattle.oci_text_base.specs.Names.{is_other, name_text, opened}
 use Rattle.oci_json_model.specs.Fits.{FitsOpen}
 use Rattle.oci_json_model.specs.Types.{name_plain}
@@ -28,3 +28,8 @@ media_type_back (Other text) h = cc h
 -- what is written is listed, or an other text
 pub media_type_fits : (m : MediaType) → FitsOpen media_types (name_plain (media_type_name m))
 media_type_fits m = fits media_types (media_type_name m) (media_type_back m)
+
+-- what is no other text is named
+pub media_type_named : (m : MediaType) → ((text : String Global) → m ≡ Other text → ⊥) → is_other (media_type_name m) ≡ false
+media_type_named (Other text) out = absurd (out text refl)
+media_type_named m out = refl

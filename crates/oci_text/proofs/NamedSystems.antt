@@ -1,5 +1,5 @@
 -- The operating systems of platforms (image specification, "Image Index", `os`; Go, `GOOS`).
-use Rattle.std.proofs.Common.{◌≡◌, false, refl}
+use Rattle.std.proofs.Common.{◌≡◌, String, Global, false, refl}
 use Rattle.oci_text_base.specs.Names.{is_other, name_text, opened}
 use Rattle.oci_json_model.specs.Fits.{FitsOpen}
 use Rattle.oci_json_model.specs.Types.{name_plain}
@@ -32,3 +32,8 @@ os_back (Other text) h = cc h
 -- what is written is listed, or an other text
 pub os_fits : (m : Os) → FitsOpen oses (name_plain (os_name m))
 os_fits m = fits oses (os_name m) (os_back m)
+
+-- what is no other text is named
+pub os_named : (m : Os) → ((text : String Global) → m ≡ Other text → ⊥) → is_other (os_name m) ≡ false
+os_named (Other text) out = absurd (out text refl)
+os_named m out = refl

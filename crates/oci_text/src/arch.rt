@@ -246,7 +246,6 @@ impl Arch {
     }
 
     /// An equal architecture.
-    #[tactic(auto, using(crate::proofs::NamedArchitectures::arch_back))]
     pub fn clone(&self, alloc: Global) -> Result<Arch>
         ensures ok { IfOk result (λ m. arch_name m ≡ arch_name self.now) }
         ensures err { IfErr result (λ e. e ≡ OciSpecError.Memory) }

@@ -91,7 +91,7 @@ impl Digest {
         ensures err { IfErr result (Refuses (digest_refusal text.now)) }
     {
         match digest_fault(text) {
-            Some(fault) => Err(OciSpecError::Other(fault.message(alloc)?)),
+            Some(fault) => Err(fault.refusal(alloc)),
             None => Digest::sound(String::from_str(alloc, text)?),
         }
     }
@@ -105,7 +105,7 @@ impl Digest {
     {
         let alloc = *text.allocator();
         match digest_fault(text.as_str()) {
-            Some(fault) => Err(OciSpecError::Other(fault.message(alloc)?)),
+            Some(fault) => Err(fault.refusal(alloc)),
             None => Digest::sound(text),
         }
     }

@@ -1,10 +1,12 @@
 //! Why a text is no digest (image specification, "Content Descriptors", "Digests").
-ghost use Rattle.std.specs.Prelude.{◌≡◌, ◌++◌, option_map, IfOk, string_bytes, position, codes, decimal};
+ghost use Rattle.std.specs.Prelude.{◌≡◌, ◌++◌, option_map, Some, IfOk, string_bytes, position, codes, decimal};
 ghost use Rattle.std.specs.List.{list_all, slice_split};
 ghost use Rattle.oci_text_base.specs.Classes.{is_lower, is_lower_hex, is_encoded_byte, is_joint};
 ghost use Rattle.oci_text_base.specs.Digest.{component_refusal, part_refusal, sha_refusal, digits_refusal, encoded_refusal, digest_refusal};
+ghost use Rattle.oci_text_base.specs.Refused.{Refuses};
 ghost use Rattle.oci_text.specs.Faults.{fault_text};
 
+use oci_text_base::OciSpecError;
 use oci_text_base::classes::{is_encoded_byte, is_joint, is_lower, is_lower_hex};
 use std::alloc::{AllocError, Global};
 
@@ -35,6 +37,16 @@ impl<'a> Fault<'a> {
             Fault::NotHex(encoded) => {
                 format!(in alloc; "Invalid non-hexadecimal character in digest: {encoded}")
             }
+        }
+    }
+
+    /// The refusal: `Other` of what it says, or `Memory`.
+    pub(crate) fn refusal(self, alloc: Global) -> OciSpecError
+        ensures { Refuses (Some (fault_text self.entry)) result }
+    {
+        match self.message(alloc) {
+            Ok(text) => OciSpecError::Other(text),
+            Err(_) => OciSpecError::Memory,
         }
     }
 }

@@ -192,7 +192,6 @@ impl MediaType {
     }
 
     /// An equal media type.
-    #[tactic(auto, using(crate::proofs::NamedMediaTypes::media_type_back))]
     pub fn clone(&self, alloc: Global) -> Result<MediaType>
         ensures ok { IfOk result (λ m. media_type_name m ≡ media_type_name self.now) }
         ensures err { IfErr result (λ e. e ≡ OciSpecError.Memory) }

@@ -194,7 +194,6 @@ impl Os {
     }
 
     /// An equal operating system.
-    #[tactic(auto, using(crate::proofs::NamedSystems::os_back))]
     pub fn clone(&self, alloc: Global) -> Result<Os>
         ensures ok { IfOk result (λ m. os_name m ≡ os_name self.now) }
         ensures err { IfErr result (λ e. e ≡ OciSpecError.Memory) }

@@ -80,7 +80,7 @@ impl Sha256Digest {
     {
         let text = format!(in alloc; "sha256:{digits}")?;
         match digest_fault(text.as_str()) {
-            Some(fault) => Err(OciSpecError::Other(fault.message(alloc)?)),
+            Some(fault) => Err(fault.refusal(alloc)),
             None => Ok(Sha256Digest {
                 digits: String::from_str(alloc, digits)?,
             }),

@@ -1,0 +1,12 @@
+-- A named one is read from its own text.
+use Rattle.std.proofs.Common.{◌≡◌, ap, ◌∙◌, subst}
+use Rattle.std.specs.Result.{IfOk}
+use Rattle.oci_text_base.specs.Names.{opened}
+use Rattle.oci_text.specs.Arch.{arch_name, arches}
+use Rattle.oci_text.proofs.NamedArchitectures.{arch_back, arch_named}
+use Rattle.oci_text.proofs.arch.Arch.clone.Goals as goal
+
+pub returns-in_default : goal.returns-in_default
+returns-in_default c =
+    let back = ap (opened arches) c.as_ref.ensures ∙ arch_back c.args.self.now (arch_named c.args.self.now c.in_default.not-Other) in
+    record { ok = subst (λ n. IfOk c.from_text.result (λ m. arch_name m ≡ n)) back c.from_text.ensures.ok; err = c.from_text.ensures.err }
