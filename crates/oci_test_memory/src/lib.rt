@@ -5,13 +5,17 @@
 mod made;
 mod references;
 mod roots;
+mod scanner;
 mod texts;
 
 use oci_test_harness::{Harness, HarnessOutOfMemory};
 
-/// No allocation fails: the text of a reference, cut and added to at each place.
+/// No allocation fails: the text of a reference, cut and added to at each place; and the scanner of references.
 pub fn run_vectors(rt: &HostRuntime) -> Result<(), HarnessOutOfMemory> {
-    references::all(&mut Harness::new(rt)?)
+    let mut harness = Harness::new(rt)?;
+    references::all(&mut harness)?;
+    scanner::all(&mut harness);
+    Ok(())
 }
 
 /// Each call on a text or on a record made in code that allocates: the baseline's result, or `Memory`. The baseline itself never has

@@ -22,11 +22,10 @@ enum Part {
     Calls,
     StringVectors,
     StringCalls,
-    Documents,
     Lanes,
 }
 
-static PARTS: [(&str, Part); 10] = [
+static PARTS: [(&str, Part); 9] = [
     ("golden", Part::Golden),
     ("tables", Part::Tables),
     ("defaults", Part::Defaults),
@@ -35,7 +34,6 @@ static PARTS: [(&str, Part); 10] = [
     ("calls", Part::Calls),
     ("string-vectors", Part::StringVectors),
     ("string-calls", Part::StringCalls),
-    ("documents", Part::Documents),
     ("lanes", Part::Lanes),
 ];
 
@@ -49,7 +47,6 @@ fn run(rt: &HostRuntime, part: Part) -> Result<(), HarnessOutOfMemory> {
         Part::Calls => return oci_test_vectors::run_calls(rt),
         Part::StringVectors => return oci_test_memory::run_vectors(rt),
         Part::StringCalls => return oci_test_memory::run_calls(rt),
-        Part::Documents => return oci_test_documents::run(rt),
         Part::Lanes => {
             let _ = oci_bench::run_lanes(rt, "lanes/documents");
         }

@@ -122,12 +122,15 @@ static SECOND_NAMES: [(&str, Answer<'_>); 6] = [
     ("{\"a\":\"x\",\"b\":\"x\"}", Err(("Trial", "a"))),
 ];
 
-fn either(alloc: Global, text: &str) -> Result<String> {
-    let value = Value::from_str(alloc, text)?;
-    match optional_either(alloc, &value, "Trial", "a", "b")? {
+fn found(alloc: Global, value: &Value) -> Result<String> {
+    match optional_either(alloc, value, "Trial", "a", "b")? {
         Some(text) => Ok(text),
         None => Ok(String::from_str(alloc, "absent")?),
     }
+}
+
+fn either(alloc: Global, text: &str) -> Result<String> {
+    found(alloc, &Value::from_str(alloc, text)?)
 }
 
 fn second_names(harness: &mut Harness<'_>) {

@@ -1,5 +1,6 @@
-//! Tests of texts, references and documents of all three specifications that are made in code, and of the engines that read and write
-//! them: of what no contract says. They print how many cases of each group they ran, and each case that broke its rule.
+//! The program `oci_test_documents`: tests of texts, references and documents of all three specifications that are made in code, and of
+//! the engines that read and write them: of what no contract says. It prints how many cases of each group it ran, and each case that
+//! broke its rule.
 #![tactic(auto)]
 
 mod checks;
@@ -13,12 +14,12 @@ mod platforms;
 mod process;
 mod references;
 mod runtime;
-mod scanner;
 
-use oci_test_harness::{Harness, HarnessOutOfMemory};
+use oci_test_harness::{Harness, HarnessOutOfMemory, exit};
+use std::process::ExitCode;
 
 /// All groups.
-pub fn run(rt: &HostRuntime) -> Result<(), HarnessOutOfMemory> {
+fn run(rt: &HostRuntime) -> Result<(), HarnessOutOfMemory> {
     let mut harness = Harness::new(rt)?;
     errors::all(&mut harness);
     distribution::all(&mut harness);
@@ -26,11 +27,14 @@ pub fn run(rt: &HostRuntime) -> Result<(), HarnessOutOfMemory> {
     files::all(&mut harness)?;
     long::all(&mut harness)?;
     references::all(&mut harness)?;
-    scanner::all(&mut harness);
     linux::all(&mut harness);
     platforms::all(&mut harness);
     process::all(&mut harness)?;
     runtime::all(&mut harness);
     harness.end_calls();
     Ok(())
+}
+
+fn main(rt: HostRuntime) -> ExitCode {
+    exit(&rt, run(&rt))
 }
