@@ -4,6 +4,10 @@ use Rattle.serde_json.specs.View.{items_view}
 use Rattle.oci_json_model.specs.Means.{Means, EachMeans}
 use Rattle.oci_json_model.specs.Plain.{plains}
 use Rattle.oci_json_model.proofs.Lists.{exits, not_array, each_more, items_refused}
+use Rattle.std.proofs.lemmas.Result.{IfOk-from_err}
+use Rattle.oci_text_base.specs.declared.error.OciSpecError.TheVariants.{Memory}
+use Rattle.oci_text_base.specs.Refused.{IsMemoryOrSchema}
+use Rattle.oci_json_model.proofs.Refusals.{left_with}
 use Rattle.oci_json_model.proofs.list.VecOciMember.read_owned.Goals as goal
 
 pub returns-in_err-read_owned-in-Some-clause-err : goal.returns-in_err-read_owned-in-Some-clause-err
@@ -26,3 +30,27 @@ loop-item-preserved g c =
 
 pub returns-in-None-clause-err : goal.returns-in-None-clause-err
 returns-in-None-clause-err g c = λ h. not_array _ _ c.in-None.ensures
+
+pub returns-in_err-listed-in-Some-clause-ok : goal.returns-in_err-listed-in-Some-clause-ok
+returns-in_err-listed-in-Some-clause-ok g c = IfOk-from_err _ _ c.from_residual.ensures.0
+
+pub returns-in_err-listed-in-Some-clause-err : goal.returns-in_err-listed-in-Some-clause-err
+returns-in_err-listed-in-Some-clause-err g c = exits _ Memory _ c.from_residual.ensures.1 (λ h. absurd h)
+
+pub returns-in_err-listed-in-Some-clause-kind : goal.returns-in_err-listed-in-Some-clause-kind
+returns-in_err-listed-in-Some-clause-kind g c = left_with IsMemoryOrSchema _ Memory c.from_residual.ensures.1 tt
+
+pub returns-in_err-read_owned-in-Some-clause-ok : goal.returns-in_err-read_owned-in-Some-clause-ok
+returns-in_err-read_owned-in-Some-clause-ok g c = IfOk-from_err _ _ c.from_residual-in_err-read_owned-in-Some.ensures.0
+
+pub returns-in_err-read_owned-in-Some-clause-kind : goal.returns-in_err-read_owned-in-Some-clause-kind
+returns-in_err-read_owned-in-Some-clause-kind g c = left_with IsMemoryOrSchema _ _ c.from_residual-in_err-read_owned-in-Some.ensures.1 c.in_err-read_owned-in-Some.ensures.kind
+
+pub returns-in_err-push-in-Some-clause-ok : goal.returns-in_err-push-in-Some-clause-ok
+returns-in_err-push-in-Some-clause-ok g c = IfOk-from_err _ _ c.from_residual-in_err-push-in-Some.ensures.0
+
+pub returns-in_err-push-in-Some-clause-err : goal.returns-in_err-push-in-Some-clause-err
+returns-in_err-push-in-Some-clause-err g c = exits _ Memory _ c.from_residual-in_err-push-in-Some.ensures.1 (λ h. absurd h)
+
+pub returns-in_err-push-in-Some-clause-kind : goal.returns-in_err-push-in-Some-clause-kind
+returns-in_err-push-in-Some-clause-kind g c = left_with IsMemoryOrSchema _ Memory c.from_residual-in_err-push-in-Some.ensures.1 tt

@@ -7,6 +7,10 @@ use Rattle.oci_json_model.specs.Plain.{plains}
 use Rattle.oci_json_model.specs.Value.{value, each_value}
 use Rattle.oci_json_model.specs.Writable.{Writable}
 use Rattle.oci_json_model.proofs.Lists.{exits, all_more, some_lacks, values_more}
+use Rattle.std.proofs.lemmas.Result.{IfOk-from_err}
+use Rattle.oci_text_base.specs.declared.error.OciSpecError.TheVariants.{Memory}
+use Rattle.oci_text_base.specs.Refused.{IsMemoryOrSchema}
+use Rattle.oci_json_model.proofs.Refusals.{left_with}
 use Rattle.oci_json_model.proofs.list.VecOciMember.write.Goals as goal
 
 pub returns-in_err-write-clause-err : goal.returns-in_err-write-clause-err
@@ -43,3 +47,45 @@ returns-clause-ok g c =
     let all : take c.loop-item.item-index c.deref-item-items.result.now ≡ c.args.self.now.items =
     take_all c.loop-item.item-index c.deref-item-items.result.now (omega arith) ∙ c.deref-item-items.ensures.value in
     view-Array c.loop-item.written ∙ ap array (c.loop-item.invariant.written ∙ ap (λ ys. each_value (value s) (plains (map f ys))) all)
+
+pub returns-in_err-written-clause-ok : goal.returns-in_err-written-clause-ok
+returns-in_err-written-clause-ok g c = IfOk-from_err _ _ c.from_residual.ensures.0
+
+pub returns-in_err-written-clause-fits : goal.returns-in_err-written-clause-fits
+returns-in_err-written-clause-fits g c = IfOk-from_err _ _ c.from_residual.ensures.0
+
+pub returns-in_err-written-clause-writable : goal.returns-in_err-written-clause-writable
+returns-in_err-written-clause-writable g c = IfOk-from_err _ _ c.from_residual.ensures.0
+
+pub returns-in_err-written-clause-err : goal.returns-in_err-written-clause-err
+returns-in_err-written-clause-err g c = exits _ Memory _ c.from_residual.ensures.1 (λ h. absurd h)
+
+pub returns-in_err-written-clause-kind : goal.returns-in_err-written-clause-kind
+returns-in_err-written-clause-kind g c = left_with IsMemoryOrSchema _ Memory c.from_residual.ensures.1 tt
+
+pub returns-in_err-write-clause-ok : goal.returns-in_err-write-clause-ok
+returns-in_err-write-clause-ok g c = IfOk-from_err _ _ c.from_residual-in_err-write.ensures.0
+
+pub returns-in_err-write-clause-fits : goal.returns-in_err-write-clause-fits
+returns-in_err-write-clause-fits g c = IfOk-from_err _ _ c.from_residual-in_err-write.ensures.0
+
+pub returns-in_err-write-clause-writable : goal.returns-in_err-write-clause-writable
+returns-in_err-write-clause-writable g c = IfOk-from_err _ _ c.from_residual-in_err-write.ensures.0
+
+pub returns-in_err-write-clause-kind : goal.returns-in_err-write-clause-kind
+returns-in_err-write-clause-kind g c = left_with IsMemoryOrSchema _ _ c.from_residual-in_err-write.ensures.1 c.in_err-write.ensures.kind
+
+pub returns-in_err-push-clause-ok : goal.returns-in_err-push-clause-ok
+returns-in_err-push-clause-ok g c = IfOk-from_err _ _ c.from_residual-in_err-push.ensures.0
+
+pub returns-in_err-push-clause-fits : goal.returns-in_err-push-clause-fits
+returns-in_err-push-clause-fits g c = IfOk-from_err _ _ c.from_residual-in_err-push.ensures.0
+
+pub returns-in_err-push-clause-writable : goal.returns-in_err-push-clause-writable
+returns-in_err-push-clause-writable g c = IfOk-from_err _ _ c.from_residual-in_err-push.ensures.0
+
+pub returns-in_err-push-clause-err : goal.returns-in_err-push-clause-err
+returns-in_err-push-clause-err g c = exits _ Memory _ c.from_residual-in_err-push.ensures.1 (λ h. absurd h)
+
+pub returns-in_err-push-clause-kind : goal.returns-in_err-push-clause-kind
+returns-in_err-push-clause-kind g c = left_with IsMemoryOrSchema _ Memory c.from_residual-in_err-push.ensures.1 tt

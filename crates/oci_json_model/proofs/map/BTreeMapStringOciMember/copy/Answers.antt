@@ -1,8 +1,11 @@
-use Rattle.std.proofs.Common.{◌≡◌, [], ◌∷◌, ◌++◌, String, Global, string_bytes, string_cmp, sym, ap, ◌∙◌, subst, append_assoc}
+use Rattle.std.proofs.Common.{◌≡◌, [], ◌∷◌, ◌++◌, String, Global, string_bytes, string_cmp, sym, ap, ◌∙◌, subst, append_assoc, refl}
 use Rattle.std.specs.List.Sorted.{IsStrictlySortedBy}
 use Rattle.std.specs.Map.{keys_of}
 use Rattle.oci_json_model.specs.Plain as plain
 use Rattle.oci_json_model.proofs.Maps.{entries_of, copies_last, whole}
+use Rattle.std.proofs.lemmas.Result.{IfOk-from_err}
+use Rattle.oci_text_base.specs.declared.error.OciSpecError.TheVariants.{Memory}
+use Rattle.oci_json_model.proofs.Refusals.{left_with}
 use Rattle.oci_json_model.proofs.map.BTreeMapStringOciMember.copy.Goals as goal
 
 pub loop-name-preserved : goal.loop-name-preserved
@@ -26,3 +29,21 @@ returns-clause-ok g c =
     let i = c.loop-name.invariant in
     let f = g.T.OciMember.plain in
     ap plain.map (i.2 ∙ ap (entries_of f) (sym (whole i.0 i.1 c.in-None.ensures.steps.0)))
+
+pub returns-in_err-key-clause-ok : goal.returns-in_err-key-clause-ok
+returns-in_err-key-clause-ok g c = IfOk-from_err _ _ c.from_residual.ensures.0
+
+pub returns-in_err-key-clause-err : goal.returns-in_err-key-clause-err
+returns-in_err-key-clause-err g c = left_with (λ e. e ≡ Memory) _ Memory c.from_residual.ensures.1 refl
+
+pub returns-in_err-copy-clause-ok : goal.returns-in_err-copy-clause-ok
+returns-in_err-copy-clause-ok g c = IfOk-from_err _ _ c.from_residual-in_err-copy.ensures.0
+
+pub returns-in_err-copy-clause-err : goal.returns-in_err-copy-clause-err
+returns-in_err-copy-clause-err g c = left_with (λ e. e ≡ Memory) _ _ c.from_residual-in_err-copy.ensures.1 c.in_err-copy.ensures.err
+
+pub returns-in_err-insert-clause-ok : goal.returns-in_err-insert-clause-ok
+returns-in_err-insert-clause-ok g c = IfOk-from_err _ _ c.from_residual-in_err-insert.ensures.0
+
+pub returns-in_err-insert-clause-err : goal.returns-in_err-insert-clause-err
+returns-in_err-insert-clause-err g c = left_with (λ e. e ≡ Memory) _ Memory c.from_residual-in_err-insert.ensures.1 refl

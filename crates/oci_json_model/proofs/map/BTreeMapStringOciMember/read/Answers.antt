@@ -5,6 +5,10 @@ use Rattle.serde_json.specs.View.{members_view}
 use Rattle.oci_json_model.specs.Means.{Means, EachEntryMeans}
 use Rattle.oci_json_model.proofs.Lists.{exits}
 use Rattle.oci_json_model.proofs.Maps.{Found, entries_of, not_object, entry_more, map_refused}
+use Rattle.std.proofs.lemmas.Result.{IfOk-from_err}
+use Rattle.oci_text_base.specs.declared.error.OciSpecError.TheVariants.{Memory}
+use Rattle.oci_text_base.specs.Refused.{IsMemoryOrSchema}
+use Rattle.oci_json_model.proofs.Refusals.{left_with}
 use Rattle.oci_json_model.proofs.map.BTreeMapStringOciMember.read.Goals as goal
 
 pub returns-in_err-read-in-Some-clause-err : goal.returns-in_err-read-in-Some-clause-err
@@ -36,3 +40,27 @@ loop-name-preserved g c =
 
 pub returns-in-None-clause-err : goal.returns-in-None-clause-err
 returns-in-None-clause-err g c = λ h. not_object _ _ c.in-None.ensures
+
+pub returns-in_err-key-in-Some-clause-ok : goal.returns-in_err-key-in-Some-clause-ok
+returns-in_err-key-in-Some-clause-ok g c = IfOk-from_err _ _ c.from_residual.ensures.0
+
+pub returns-in_err-key-in-Some-clause-err : goal.returns-in_err-key-in-Some-clause-err
+returns-in_err-key-in-Some-clause-err g c = exits _ Memory _ c.from_residual.ensures.1 (λ h. absurd h)
+
+pub returns-in_err-key-in-Some-clause-kind : goal.returns-in_err-key-in-Some-clause-kind
+returns-in_err-key-in-Some-clause-kind g c = left_with IsMemoryOrSchema _ Memory c.from_residual.ensures.1 tt
+
+pub returns-in_err-read-in-Some-clause-ok : goal.returns-in_err-read-in-Some-clause-ok
+returns-in_err-read-in-Some-clause-ok g c = IfOk-from_err _ _ c.from_residual-in_err-read-in-Some.ensures.0
+
+pub returns-in_err-read-in-Some-clause-kind : goal.returns-in_err-read-in-Some-clause-kind
+returns-in_err-read-in-Some-clause-kind g c = left_with IsMemoryOrSchema _ _ c.from_residual-in_err-read-in-Some.ensures.1 c.in_err-read-in-Some.ensures.kind
+
+pub returns-in_err-insert-in-Some-clause-ok : goal.returns-in_err-insert-in-Some-clause-ok
+returns-in_err-insert-in-Some-clause-ok g c = IfOk-from_err _ _ c.from_residual-in_err-insert-in-Some.ensures.0
+
+pub returns-in_err-insert-in-Some-clause-err : goal.returns-in_err-insert-in-Some-clause-err
+returns-in_err-insert-in-Some-clause-err g c = exits _ Memory _ c.from_residual-in_err-insert-in-Some.ensures.1 (λ h. absurd h)
+
+pub returns-in_err-insert-in-Some-clause-kind : goal.returns-in_err-insert-in-Some-clause-kind
+returns-in_err-insert-in-Some-clause-kind g c = left_with IsMemoryOrSchema _ Memory c.from_residual-in_err-insert-in-Some.ensures.1 tt

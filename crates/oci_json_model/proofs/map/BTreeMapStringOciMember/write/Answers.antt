@@ -8,6 +8,10 @@ use Rattle.oci_json_model.specs.Value.{value}
 use Rattle.oci_json_model.specs.Writable.{Writable}
 use Rattle.oci_json_model.proofs.Lists.{exits}
 use Rattle.oci_json_model.proofs.Maps.{entries_of, all_entries_more, some_entry_lacks, put_last, whole}
+use Rattle.std.proofs.lemmas.Result.{IfOk-from_err}
+use Rattle.oci_text_base.specs.declared.error.OciSpecError.TheVariants.{Memory}
+use Rattle.oci_text_base.specs.Refused.{IsMemoryOrSchema}
+use Rattle.oci_json_model.proofs.Refusals.{left_with}
 use Rattle.oci_json_model.proofs.map.BTreeMapStringOciMember.write.Goals as goal
 
 pub returns-in_err-write-clause-err : goal.returns-in_err-write-clause-err
@@ -52,3 +56,45 @@ pub returns-clause-writable : goal.returns-clause-writable
 returns-clause-writable g c =
     let i = c.loop-name.invariant in
     subst (λ es. EachEntry (Writable g.T.OciMember.shape) (entries_of g.T.OciMember.plain es)) (sym (whole i.0 i.1 c.in-None.ensures.steps.0)) i.4
+
+pub returns-in_err-key-clause-ok : goal.returns-in_err-key-clause-ok
+returns-in_err-key-clause-ok g c = IfOk-from_err _ _ c.from_residual.ensures.0
+
+pub returns-in_err-key-clause-fits : goal.returns-in_err-key-clause-fits
+returns-in_err-key-clause-fits g c = IfOk-from_err _ _ c.from_residual.ensures.0
+
+pub returns-in_err-key-clause-writable : goal.returns-in_err-key-clause-writable
+returns-in_err-key-clause-writable g c = IfOk-from_err _ _ c.from_residual.ensures.0
+
+pub returns-in_err-key-clause-err : goal.returns-in_err-key-clause-err
+returns-in_err-key-clause-err g c = exits _ Memory _ c.from_residual.ensures.1 (λ h. absurd h)
+
+pub returns-in_err-key-clause-kind : goal.returns-in_err-key-clause-kind
+returns-in_err-key-clause-kind g c = left_with IsMemoryOrSchema _ Memory c.from_residual.ensures.1 tt
+
+pub returns-in_err-write-clause-ok : goal.returns-in_err-write-clause-ok
+returns-in_err-write-clause-ok g c = IfOk-from_err _ _ c.from_residual-in_err-write.ensures.0
+
+pub returns-in_err-write-clause-fits : goal.returns-in_err-write-clause-fits
+returns-in_err-write-clause-fits g c = IfOk-from_err _ _ c.from_residual-in_err-write.ensures.0
+
+pub returns-in_err-write-clause-writable : goal.returns-in_err-write-clause-writable
+returns-in_err-write-clause-writable g c = IfOk-from_err _ _ c.from_residual-in_err-write.ensures.0
+
+pub returns-in_err-write-clause-kind : goal.returns-in_err-write-clause-kind
+returns-in_err-write-clause-kind g c = left_with IsMemoryOrSchema _ _ c.from_residual-in_err-write.ensures.1 c.in_err-write.ensures.kind
+
+pub returns-in_err-insert-clause-ok : goal.returns-in_err-insert-clause-ok
+returns-in_err-insert-clause-ok g c = IfOk-from_err _ _ c.from_residual-in_err-insert.ensures.0
+
+pub returns-in_err-insert-clause-fits : goal.returns-in_err-insert-clause-fits
+returns-in_err-insert-clause-fits g c = IfOk-from_err _ _ c.from_residual-in_err-insert.ensures.0
+
+pub returns-in_err-insert-clause-writable : goal.returns-in_err-insert-clause-writable
+returns-in_err-insert-clause-writable g c = IfOk-from_err _ _ c.from_residual-in_err-insert.ensures.0
+
+pub returns-in_err-insert-clause-err : goal.returns-in_err-insert-clause-err
+returns-in_err-insert-clause-err g c = exits _ Memory _ c.from_residual-in_err-insert.ensures.1 (λ h. absurd h)
+
+pub returns-in_err-insert-clause-kind : goal.returns-in_err-insert-clause-kind
+returns-in_err-insert-clause-kind g c = left_with IsMemoryOrSchema _ Memory c.from_residual-in_err-insert.ensures.1 tt
