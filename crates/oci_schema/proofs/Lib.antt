@@ -3,9 +3,11 @@ pub mod Complete
 pub mod Decides
 pub mod DefaultValues
 pub mod Empty
+pub mod Exits
 pub mod Filled
 pub mod Found
 pub mod Given
+pub mod GivenParts
 pub mod GivenSmaller
 pub mod Listed
 pub mod ListedParts

@@ -1,4 +1,5 @@
-use Rattle.std.proofs.Common.{ap, ◌∙◌, ◌+◌, drop, arith, option_map}
+use Rattle.std.proofs.Common.{ap, ◌∙◌, ◌+◌, drop, length, arith, option_map}
+use Rattle.std.proofs.lemmas.Result.{IfOk-from_err}
 use Rattle.serde_json.specs.View.{view, items_view, members_view}
 use Rattle.oci_json_model.specs.Sizes.{items_size, members_size}
 use Rattle.oci_schema_types.specs.Shapes.{part_shape}
@@ -68,3 +69,28 @@ pub add_members-returns : goal.add_members-returns
 add_members-returns g t c =
     no_member_more (g.T.Records.shape_at c.args.records.now) c.args.members.now c.loop-member.member-index c.args.at.now (view c.args.value.now) _
     c.loop-member-test.false ∙ c.loop-member.invariant
+
+-- ---- at the exits
+
+pub add_items-returns-in_err-place : goal.add_items-returns-in_err-place
+add_items-returns-in_err-place g t c = IfOk-from_err _ _ c.from_residual.ensures.0
+
+pub add_items-returns-in_err-add_part : goal.add_items-returns-in_err-add_part
+add_items-returns-in_err-add_part g t c = IfOk-from_err _ _ c.from_residual-in_err-add_part.ensures.0
+
+pub add_entries-returns-in_err-place : goal.add_entries-returns-in_err-place
+add_entries-returns-in_err-place g t c = IfOk-from_err _ _ c.from_residual.ensures.0
+
+pub add_entries-returns-in_err-add_part : goal.add_entries-returns-in_err-add_part
+add_entries-returns-in_err-add_part g t c = IfOk-from_err _ _ c.from_residual-in_err-add_part.ensures.0
+
+pub add_members-returns-in_err-add_member : goal.add_members-returns-in_err-add_member
+add_members-returns-in_err-add_member g t c = IfOk-from_err _ _ c.from_residual.ensures.0
+
+pub add_found-returns-in_err-place : goal.add_found-returns-in_err-place
+add_found-returns-in_err-place g t c = IfOk-from_err _ _ c.from_residual.ensures.0
+
+-- ---- that the walk ends
+
+pub add_entries-loop-name-smaller : goal.add_entries-loop-name-smaller
+add_entries-loop-name-smaller g t c = omega (arith, ap length c.in-Some.ensures.steps)

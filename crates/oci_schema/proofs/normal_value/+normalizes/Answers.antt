@@ -1,5 +1,6 @@
-use Rattle.std.proofs.Common.{◌≡◌, true, ◌∷◌, [], ◌++◌, ◌&&◌, option_map, string_cmp, sym, ap, ◌∙◌, subst, append_assoc, arith}
+use Rattle.std.proofs.Common.{◌≡◌, true, ◌∷◌, [], ◌++◌, ◌&&◌, length, option_map, string_cmp, sym, ap, ◌∙◌, subst, append_assoc, arith}
 use Rattle.std.proofs.lemmas.List.{append-nil}
+use Rattle.std.proofs.lemmas.Result.{IfOk-from_err}
 use Rattle.std.specs.List.Sorted.{IsStrictlySortedBy}
 use Rattle.std.specs.Map.{keys_of}
 use Rattle.std.specs.Vec.Iter.{into_iter_items}
@@ -11,9 +12,12 @@ use Rattle.oci_schema.specs.Allows.{each_allowed, each_member_allowed}
 use Rattle.oci_schema.specs.Normalized.{accepts, normalized, each_normalized, each_member_normalized}
 use Rattle.oci_schema_types.specs.Shapes.{presence_of, part_shape, schema_shape, members_in}
 use Rattle.oci_schema.proofs.Accepted.{of_member}
+use Rattle.oci_schema.proofs.Exits.{handed_on}
 use Rattle.oci_schema.proofs.Given.{one_allowed, ends}
+use Rattle.oci_schema.proofs.GivenParts.{given_written, given_refused, none_written, none_refused}
 use Rattle.oci_schema.proofs.Parts.{none_left, items_more, items_all, members_more}
 use Rattle.oci_json_model.specs.Sizes.{items_size, members_size}
+use Rattle.oci_json_model.specs.Value.{value as json_of}
 use Rattle.oci_schema.proofs.Moved.{moved_more, moved_refused, moved_all}
 use Rattle.oci_schema.proofs.GivenSmaller.{given_smaller}
 use Rattle.oci_schema.proofs.Steps.{well_left}
@@ -124,3 +128,112 @@ pub normal_members-returns-in_err-move_member-clause-err : goal.normal_members-r
 normal_members-returns-in_err-move_member-clause-err g t c =
     exits _ _ _ c.from_residual.ensures.1 (λ h. moved_refused (g.T.Records.shape_at c.args.records.now) _ _ c.args.members.now c.loop-member.member-index _ _ _
     c.loop-member-test.true c.loop-member.invariant.moved (c.in_err-move_member.ensures.err h))
+
+-- ---- at the exits
+
+pub normal_items-returns-in_err-made-clause-ok : goal.normal_items-returns-in_err-made-clause-ok
+normal_items-returns-in_err-made-clause-ok g t c = IfOk-from_err _ _ c.from_residual.ensures.0
+
+pub normal_items-returns-in_err-made-clause-kind : goal.normal_items-returns-in_err-made-clause-kind
+normal_items-returns-in_err-made-clause-kind g t c = handed_on _ _ _ c.from_residual.ensures.1 tt
+
+pub normal_items-returns-in_err-made-clause-err : goal.normal_items-returns-in_err-made-clause-err
+normal_items-returns-in_err-made-clause-err g t c = exits _ _ _ c.from_residual.ensures.1 (λ h. absurd h)
+
+pub normal_items-returns-in_err-normal_value-clause-ok : goal.normal_items-returns-in_err-normal_value-clause-ok
+normal_items-returns-in_err-normal_value-clause-ok g t c = IfOk-from_err _ _ c.from_residual-in_err-normal_value.ensures.0
+
+pub normal_items-returns-in_err-normal_value-clause-kind : goal.normal_items-returns-in_err-normal_value-clause-kind
+normal_items-returns-in_err-normal_value-clause-kind g t c = handed_on _ _ _ c.from_residual-in_err-normal_value.ensures.1 c.in_err-normal_value.ensures.kind
+
+pub normal_items-returns-in_err-push-clause-ok : goal.normal_items-returns-in_err-push-clause-ok
+normal_items-returns-in_err-push-clause-ok g t c = IfOk-from_err _ _ c.from_residual-in_err-push.ensures.0
+
+pub normal_items-returns-in_err-push-clause-kind : goal.normal_items-returns-in_err-push-clause-kind
+normal_items-returns-in_err-push-clause-kind g t c = handed_on _ _ _ c.from_residual-in_err-push.ensures.1 tt
+
+pub normal_items-returns-in_err-push-clause-err : goal.normal_items-returns-in_err-push-clause-err
+normal_items-returns-in_err-push-clause-err g t c = exits _ _ _ c.from_residual-in_err-push.ensures.1 (λ h. absurd h)
+
+pub normal_map-returns-in_err-member-clause-ok : goal.normal_map-returns-in_err-member-clause-ok
+normal_map-returns-in_err-member-clause-ok g t c = IfOk-from_err _ _ c.from_residual.ensures.0
+
+pub normal_map-returns-in_err-member-clause-kind : goal.normal_map-returns-in_err-member-clause-kind
+normal_map-returns-in_err-member-clause-kind g t c = handed_on _ _ _ c.from_residual.ensures.1 c.in_err-member.ensures.kind
+
+pub normal_map-returns-in_err-insert-clause-ok : goal.normal_map-returns-in_err-insert-clause-ok
+normal_map-returns-in_err-insert-clause-ok g t c = IfOk-from_err _ _ c.from_residual-in_err-insert.ensures.0
+
+pub normal_map-returns-in_err-insert-clause-kind : goal.normal_map-returns-in_err-insert-clause-kind
+normal_map-returns-in_err-insert-clause-kind g t c = handed_on _ _ _ c.from_residual-in_err-insert.ensures.1 tt
+
+pub normal_map-returns-in_err-insert-clause-err : goal.normal_map-returns-in_err-insert-clause-err
+normal_map-returns-in_err-insert-clause-err g t c = exits _ _ _ c.from_residual-in_err-insert.ensures.1 (λ h. absurd h)
+
+pub normal_members-returns-in_err-move_member-clause-ok : goal.normal_members-returns-in_err-move_member-clause-ok
+normal_members-returns-in_err-move_member-clause-ok g t c = IfOk-from_err _ _ c.from_residual.ensures.0
+
+pub normal_members-returns-in_err-move_member-clause-kind : goal.normal_members-returns-in_err-move_member-clause-kind
+normal_members-returns-in_err-move_member-clause-kind g t c = handed_on _ _ _ c.from_residual.ensures.1 c.in_err-move_member.ensures.kind
+
+pub move_member-returns-in_err-value-clause-ok : goal.move_member-returns-in_err-value-clause-ok
+move_member-returns-in_err-value-clause-ok g t c = IfOk-from_err _ _ c.from_residual.ensures.0
+
+pub move_member-returns-in_err-value-clause-accepts : goal.move_member-returns-in_err-value-clause-accepts
+move_member-returns-in_err-value-clause-accepts g t c = IfOk-from_err _ _ c.from_residual.ensures.0
+
+pub move_member-returns-in_err-value-clause-kind : goal.move_member-returns-in_err-value-clause-kind
+move_member-returns-in_err-value-clause-kind g t c = handed_on _ _ _ c.from_residual.ensures.1 c.in_err-value.ensures.kind
+
+-- ---- the member that is given
+
+pub normal_member-returns-in-Ok-clause-ok : goal.normal_member-returns-in-Ok-clause-ok
+normal_member-returns-in-Ok-clause-ok g t c =
+    let s = schema_shape (g.T.Records.shape_at c.args.records.now) c.args.schema.now in
+    given_written (presence_of c.args.presence.now) (accepts s) (option_map view c.args.found) (view c.in-Some.value) (ap (option_map view) (sym c.in-Some.is) ∙ c.given.ensures)
+    (json_of s) (normalized s) _ _ c.in-Ok.ensures.ok.0 c.in-Ok.ensures.ok.1 c.written.ensures
+
+pub normal_member-returns-in-Err-clause-err : goal.normal_member-returns-in-Err-clause-err
+normal_member-returns-in-Err-clause-err g t c =
+    let s = schema_shape (g.T.Records.shape_at c.args.records.now) c.args.schema.now in
+    λ h. given_refused (presence_of c.args.presence.now) (accepts s) (option_map view c.args.found) (view c.in-Some.value) (ap (option_map view) (sym c.in-Some.is) ∙ c.given.ensures)
+    (c.in-Err.ensures.err h)
+
+pub normal_member-returns-in-None-clause-ok : goal.normal_member-returns-in-None-clause-ok
+normal_member-returns-in-None-clause-ok g t c =
+    let s = schema_shape (g.T.Records.shape_at c.args.records.now) c.args.schema.now in
+    none_written (presence_of c.args.presence.now) (accepts s) (option_map view c.args.found) (ap (option_map view) (sym c.in-None.is) ∙ c.given.ensures)
+    (json_of s) (normalized s) _ c.normal_absent.ensures.ok
+
+pub normal_member-returns-in-None-clause-err : goal.normal_member-returns-in-None-clause-err
+normal_member-returns-in-None-clause-err g t c =
+    let s = schema_shape (g.T.Records.shape_at c.args.records.now) c.args.schema.now in
+    none_refused (presence_of c.args.presence.now) (accepts s) (option_map view c.args.found) (ap (option_map view) (sym c.in-None.is) ∙ c.given.ensures)
+    _ c.normal_absent.ensures.err
+
+-- ---- that the walk ends
+
+pub normal_map-loop-name-smaller : goal.normal_map-loop-name-smaller
+normal_map-loop-name-smaller g t c =
+    omega (arith, ap length c.in-Some.ensures.steps)
+
+pub normal_map-normal_value-requires : goal.normal_map-normal_value-requires
+normal_map-normal_value-requires g t c κs within =
+    let i = c.loop-name.invariant in
+    let e : Entry = (c.in-Some.name, c.in-Some.member) in
+    let left = c.next.new.self in
+    let steps : c.loop-name.name-iterator ≡ e ∷ left = c.in-Some.ensures.steps in
+    let cut = ap (λ es. members_size (members_view es)) steps in
+    let all = ap (λ es. members_size (members_view es)) c.into_iter-name-iterator.ensures.into_iter_gives.0 in
+    (omega (arith, cut, all, i.4), (within, c.requires))
+
+pub normal_items-normal_value-requires : goal.normal_items-normal_value-requires
+normal_items-normal_value-requires g t c κs within =
+    let is : into_iter_items c.into_iter-item-iterator.result ≡ c.args.items.items = c.into_iter-item-iterator.ensures.into_iter_gives.0 in
+    let cut = ap (λ vs. items_size (items_view vs)) c.in-Some.ensures.steps.0 in
+    let all = ap (λ vs. items_size (items_view vs)) is in
+    (omega (arith, cut, all, c.loop-item.invariant.smaller), (within, c.requires))
+
+pub move_member-returns-in-Err-clause-ok : goal.move_member-returns-in-Err-clause-ok
+move_member-returns-in-Err-clause-ok g t c =
+    tt
