@@ -40,6 +40,17 @@ each_next f v xs i x old new y whole within it is reads sofar =
     let next = rw here at more in
     rw (is, add-one, map-append v old (y ∷ [])) (behind_more (map v old) (v y) (each f (items_view (drop (suc i) xs))) ∙ next)
 
+-- one more that is made of a part
+pub mapped_next : {B S X Y : Type 0} (v : Y → B) (g : S → B) (part : X → S) (xs : List X) (i : ℕ) (x : X) (old new : List Y) (y : Y) (whole : List B)
+    → i < length xs → x ≡ get_or xs i x → new ≡ old ++ y ∷ [] → v y ≡ g (part x)
+    → map v old ++ map g (map part (drop i xs)) ≡ whole → map v new ++ map g (map part (drop (i + 1) xs)) ≡ whole
+mapped_next v g part xs i x old new y whole within it is made sofar =
+    let cut : drop i xs ≡ get_or xs i x ∷ drop (suc i) xs = drop-cons xs i x within in
+    let here : g (part (get_or xs i x)) ≡ v y = subst (λ z. g (part z) ≡ v y) it (sym made) in
+    let more = rw cut at sofar in
+    let next = rw here at more in
+    rw (is, add-one, map-append v old (y ∷ [])) (append_assoc (map v old) (v y ∷ []) (map g (map part (drop (suc i) xs))) ∙ next)
+
 -- the rules of one more table
 pub behind_together : (xs ys : List Worded) (o os : Option (List Worded)) → behind xs o ≡ Some ys → behind xs (together o os) ≡ behind ys os
 behind_together xs ys None os is = absurd (cc)

@@ -95,13 +95,22 @@ fn each_way<'a>(
     Ok(into_bump_slice(found))
 }
 
+/// What tells items apart, by its word.
+fn key_named<'a>(word: &str) -> Result<Key<'a>, Fault>
+    ensures { Reads code_key result (tests.key_named word.now) }
+{
+    match word {
+        "itself" => Ok(Key::Itself),
+        "entry-name" => Ok(Key::EntryName),
+        _ => Err(expected("distinct", "`itself`, `entry-name` or an array of places")),
+    }
+}
+
 fn key<'a>(arena: &'a Bump, value: &Value, alloc: Global) -> Result<Key<'a>, Fault>
     ensures { Reads code_key result (tests.key_in (view value.now)) }
 {
     match value.as_str() {
-        Some("itself") => Ok(Key::Itself),
-        Some("entry-name") => Ok(Key::EntryName),
-        Some(_) => Err(expected("distinct", "`itself`, `entry-name` or an array of places")),
+        Some(word) => key_named(word),
         None => Ok(Key::Members(ways(arena, value, alloc)?)),
     }
 }

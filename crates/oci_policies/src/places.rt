@@ -49,14 +49,24 @@ fn has_tilde(part: &str) -> bool
     part.as_bytes().contains(&b'~')
 }
 
+/// The name of a member that a part of a pointer is, if it is one.
+fn member_name(part: &str) -> Option<&str>
+    ensures { option_map (λ t. t.now) result ≡ places.name_of part.now }
+{
+    if has_tilde(part) || part == "*" || part == "{}" || part == "{name}" {
+        None
+    } else {
+        Some(part)
+    }
+}
+
 /// The name of a member, in the arena.
 fn name<'a>(arena: &'a Bump, key: &'static str, part: &str) -> Result<&'a str, Fault>
     ensures { Reads (λ t. t.now) result (places.name_of part.now) }
 {
-    if has_tilde(part) || part == "*" || part == "{}" || part == "{name}" {
-        Err(expected(key, "the names of members, with no `~`"))
-    } else {
-        Ok(arena.try_alloc_str(part)?)
+    match member_name(part) {
+        Some(name) => Ok(arena.try_alloc_str(name)?),
+        None => Err(expected(key, "the names of members, with no `~`")),
     }
 }
 

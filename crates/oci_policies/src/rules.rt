@@ -7,7 +7,8 @@ ghost use Rattle.oci_policies.specs.Policies as policies;
 ghost use Rattle.oci_policies.specs.Policies.{rule_at, rule_placed};
 ghost use Rattle.oci_policies.specs.Places.{steps_in};
 ghost use Rattle.oci_policies.specs.Steps.{step_view, steps_view, head_view, worded};
-ghost use Rattle.oci_policies.specs.Values.{Reads, each, list_in, under as under_in, under_or, behind};
+ghost use Rattle.oci_policies.specs.Values.{Reads, both, each, list_in, under as under_in, under_or, behind};
+ghost use Rattle.toml.specs.Data.{as_str};
 ghost use Rattle.toml.specs.View.{view, items_view, table_view};
 
 use crate::conditions::condition;
@@ -104,6 +105,21 @@ fn test_in<'a>(arena: &'a Bump, table: &Table, alloc: Global) -> Result<Test<'a>
     test(arena, key, value, alloc)
 }
 
+/// What a rule says, for which platforms, and what it tests.
+#[tactic(auto, using(crate::proofs::Both::first_missing, crate::proofs::Both::second_missing, crate::proofs::Both::both_there, crate::proofs::Both::mapped_missing))]
+fn tested<'a>(
+    arena: &'a Bump,
+    table: &Table,
+    alloc: Global,
+) -> Result<(&'a str, (&'a [Platform], Test<'a>)), Fault>
+    ensures { Reads (λ p. (p.0.now, (map platform_of p.1.0.now, test_of p.1.1))) result (both (under_in as_str (codes "message") (table_view table.now)) (both (under_or policies.every_platform (list_in policies.platform_in) (codes "platforms") (table_view table.now)) (policies.test_in (table_view table.now)))) }
+{
+    let wanted = kept_under(arena, "message", table)?;
+    let platforms = platforms(arena, table)?;
+    let test = test_in(arena, table, alloc)?;
+    Ok((wanted, (platforms, test)))
+}
+
 /// What the rules of a table have alike: a rule that looks nowhere yet.
 #[tactic(auto, using(crate::proofs::Both::first_missing, crate::proofs::Both::second_missing, crate::proofs::Both::both_there, crate::proofs::Both::mapped_missing))]
 fn head<'a>(arena: &'a Bump, table: &Table, alloc: Global) -> Result<Rule<'a>, Fault>
@@ -112,9 +128,7 @@ fn head<'a>(arena: &'a Bump, table: &Table, alloc: Global) -> Result<Rule<'a>, F
     let name = kept_under(arena, "name", table)?;
     let level = level(table)?;
     let section = kept_under(arena, "source", table)?;
-    let wanted = kept_under(arena, "message", table)?;
-    let platforms = platforms(arena, table)?;
-    let test = test_in(arena, table, alloc)?;
+    let (wanted, (platforms, test)) = tested(arena, table, alloc)?;
     Ok(Rule {
         name,
         level,
