@@ -111,8 +111,8 @@ fn tested<'a>(
     arena: &'a Bump,
     table: &Table,
     alloc: Global,
-) -> Result<(&'a str, (&'a [Platform], Test<'a>)), Fault>
-    ensures { Reads (λ p. (p.0.now, (map platform_of p.1.0.now, test_of p.1.1))) result (both (under_in as_str (codes "message") (table_view table.now)) (both (under_or policies.every_platform (list_in policies.platform_in) (codes "platforms") (table_view table.now)) (policies.test_in (table_view table.now)))) }
+) -> Result<(&'a str, (Platforms<'a>, Test<'a>)), Fault>
+    ensures { Reads (λ p. (p.0.now, (platforms_of p.1.0, test_of p.1.1))) result (both (under_in as_str (codes "message") (table_view table.now)) (both (under_or every (list_in policies.platform_in) (codes "platforms") (table_view table.now)) (policies.test_in (table_view table.now)))) }
 {
     let wanted = kept_under(arena, "message", table)?;
     let platforms = platforms(arena, table)?;
