@@ -68,6 +68,17 @@ tables_next xs i x old new whole within it is sofar =
     let more = rw cut at sofar in
     rw add-one (sym (behind_together old new (table_rules (view (get_or xs i x))) (rules_in (items_view (drop (suc i) xs))) here) ∙ more)
 
+-- nothing, where one table is refused
+pub tables_refused : (xs : List Value) (i : ℕ) (x : Value) (old : List Worded) (whole : Option (List Worded))
+    → i < length xs → x ≡ get_or xs i x → table_rules (view x) ≡ None
+    → behind old (rules_in (items_view (drop i xs))) ≡ whole → whole ≡ None
+tables_refused xs i x old whole within it is sofar =
+    let cut : drop i xs ≡ get_or xs i x ∷ drop (suc i) xs = drop-cons xs i x within in
+    let here : table_rules (view (get_or xs i x)) ≡ None = subst (λ (z : Value). table_rules (view z) ≡ None) it is in
+    let more = rw cut at sofar in
+    let next = rw here at more in
+    sym next
+
 -- the place of steps is that of what they stand for
 step_is : (s : Step) (ss : List Step) → place_of ss ≡ along (steps_view ss) → place_of (s ∷ ss) ≡ along (steps_view (s ∷ ss))
 unfolding step_view
