@@ -1,11 +1,61 @@
-//! A root whose path is made canonical.
+//! Mounts with mappings, and a root whose path is made canonical.
 
 use crate::checks::{Answer, check, written};
-use oci_runtime_records::Root;
+use oci_linux_records::{LinuxIdMapping, LinuxIdMappingBuilder};
+use oci_runtime_records::{Mount, MountBuilder, Root};
 use oci_runtime_root::canonicalize;
 use oci_test_harness::Harness;
 use oci_text_base::{OciSpecError, Result};
 use std::alloc::Global;
+
+fn one_mapping(alloc: Global) -> Result<Vec<LinuxIdMapping>> {
+    let mapping = LinuxIdMappingBuilder::default().size(1).build(alloc)?;
+    Ok(vec![in alloc; mapping]?)
+}
+
+fn of_users(alloc: Global) -> Result<Mount> {
+    MountBuilder::default()
+        .uid_mappings(one_mapping(alloc)?)
+        .build(alloc)
+}
+
+fn of_groups(alloc: Global) -> Result<Mount> {
+    MountBuilder::default()
+        .uid_mappings(Vec::new(alloc))
+        .gid_mappings(one_mapping(alloc)?)
+        .build(alloc)
+}
+
+fn of_both(alloc: Global) -> Result<Mount> {
+    let users = one_mapping(alloc)?;
+    MountBuilder::default()
+        .uid_mappings(users)
+        .gid_mappings(one_mapping(alloc)?)
+        .build(alloc)
+}
+
+fn mappings(harness: &mut Harness<'_>) {
+    let alloc = harness.rt.alloc();
+    let refused = Err((
+        "Other",
+        "Mount.uidMappings and Mount.gidMappings must be specified together",
+    ));
+    check(
+        harness,
+        "of users",
+        written(alloc, of_users(alloc)),
+        refused,
+    );
+    check(
+        harness,
+        "of groups",
+        written(alloc, of_groups(alloc)),
+        refused,
+    );
+    let text =
+        r#"{"destination":"","gidMappings":[{"containerID":0,"hostID":0,"size":1}],"uidMappings":[{"containerID":0,"hostID":0,"size":1}]}"#;
+    check(harness, "of both", written(alloc, of_both(alloc)), Ok(text));
+}
 
 /// What a resolver answers.
 #[derive(Clone, Copy)]
@@ -136,6 +186,7 @@ fn roots(harness: &mut Harness<'_>) {
 }
 
 pub fn all(harness: &mut Harness<'_>) {
+    mappings(harness);
     roots(harness);
     harness.end("containers", "answers");
 }
