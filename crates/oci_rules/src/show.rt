@@ -1,5 +1,6 @@
 //! Rules and what breaks them, for people.
-use crate::rule::{Broken, Level};
+use crate::rule::{Broken, Level, Rule};
+use oci_escape::Escaped;
 use std::fmt;
 
 impl fmt::Display for Level {
@@ -13,13 +14,19 @@ impl fmt::Display for Level {
     }
 }
 
+/// The line of what breaks a rule: its pointer, and the rule's name, level, section and what it wants. All texts are escaped: names of
+/// members are a stranger's, and a rule may be one of a policy.
 impl fmt::Display for Broken<'_> {
     fn fmt<W: fmt::Write>(&self, f: &mut fmt::Formatter<W>) -> fmt::Result {
-        let rule = self.rule;
-        write!(
-            f,
-            "{}: {} ({}, {}): {}",
-            self.pointer, rule.name, rule.level, rule.section, rule.wanted
-        )
+        let pointer = Escaped(self.pointer.as_str());
+        write!(f, "{pointer}: ")?;
+        write_rule(self.rule, f)
     }
+}
+
+/// Writes a rule's name, level, section and what it wants.
+fn write_rule<W: fmt::Write>(rule: &Rule<'_>, f: &mut fmt::Formatter<W>) -> fmt::Result {
+    let (name, level, section) = (Escaped(rule.name), rule.level, Escaped(rule.section));
+    let wanted = Escaped(rule.wanted);
+    write!(f, "{name} ({level}, {section}): {wanted}")
 }

@@ -1,6 +1,7 @@
--- The line of a violation: its JSON pointer, and what is expected there.
+-- The line of a violation: its JSON pointer, escaped, since names of members are a stranger's, and what is expected there.
 use Rattle.std.specs.Prelude.{ℕ, List, ◌++◌, codes}
 use Rattle.std.specs.List.{flat_map}
+use Rattle.oci_escape.specs.Escaped.{escaped}
 use Rattle.oci_schema_types.specs.Texts.{shape_text}
 use Rattle.oci_schema.specs.Violations.{ValueKind, a_scalar, an_array, an_object, Expectation, a_value, a_member, no_alias, Report}
 
@@ -15,7 +16,7 @@ expectation_text (a_member k) = codes "required member is missing (" ++ (kind_te
 expectation_text (no_alias alias) = codes "no member " ++ (alias ++ codes " beside it")
 
 abbrev pub line : Report → List ℕ
-line x = x.0 ++ (codes ": " ++ expectation_text x.1)
+line x = escaped x.0 ++ (codes ": " ++ expectation_text x.1)
 
 -- one after the other, each with its end
 abbrev pub lines : List Report → List ℕ

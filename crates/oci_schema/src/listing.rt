@@ -36,8 +36,8 @@ pub fn violations<T: Records>(
     Ok(found)
 }
 
-/// Returns a line for each violation, in their order: its JSON pointer, `: `, and what was expected there, as it displays. Fails if
-/// out of memory.
+/// Returns a line for each violation, in their order: its JSON pointer, escaped, `: `, and what was expected there, as it displays. A
+/// newline inside a member's name is escaped too, so a line is a violation. Fails if out of memory.
 pub fn violation_lines(found: &[Violation], alloc: Global) -> Result<String, AllocError>
     ensures { IfOk result (λ t. string_bytes t ≡ lines (map reported found.now)) }
 {

@@ -3,6 +3,7 @@ ghost use Rattle.std.specs.Prelude.{◌≡◌};
 ghost use Rattle.oci_schema_types.specs.Shapes.{scalar_shape, part_shape, schema_shape};
 ghost use Rattle.oci_schema.specs.Violations.{kind_of, value_kind};
 
+use oci_escape::Escaped;
 use oci_schema_types::{Part, Records, Scalar, Schema};
 use std::fmt;
 
@@ -103,6 +104,8 @@ impl fmt::Display for Expected {
     }
 }
 
+/// The line of the violation: its pointer, `: ` and what is expected there. The pointer is escaped, so that no name of a member ends
+/// the line, moves a terminal's cursor or turns the direction of what is read.
 impl fmt::Display for Violation {
     ghost use Rattle.std.specs.Prelude.{Some};
     ghost use Rattle.oci_schema.specs.Lines.{line};
@@ -111,7 +114,7 @@ impl fmt::Display for Violation {
     ghost output = { λ x. Some (line (reported x)) };
 
     fn fmt<W: fmt::Write>(&self, f: &mut fmt::Formatter<W>) -> fmt::Result {
-        let pointer = self.pointer.as_str();
+        let pointer = Escaped(self.pointer.as_str());
         let expected = self.expected;
         write!(f, "{pointer}: {expected}")
     }
