@@ -24,3 +24,7 @@ escaped text = encode_utf8_all (flat_map shown_as (chars text))
 -- the text has no such character
 abbrev pub IsOneLine : List ℕ → Type 0
 IsOneLine text = All (λ c. is_unsafe c ≡ false) (chars text)
+
+-- a line: such a text, and a newline
+abbrev pub IsLine : List ℕ → Type 0
+IsLine line = (shown : List ℕ) × IsOneLine shown × (line ≡ shown ++ 10 ∷ [])

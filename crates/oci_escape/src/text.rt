@@ -1,8 +1,9 @@
 //! The escape.
 ghost use Rattle.std.specs.Prelude.{◌≡◌, ◌++◌, ◌∷◌, [], ◌<◌, IfOk, OnOk, string_bytes, encode_utf8_all};
 ghost use Rattle.std.specs.Char.{digit_char};
-ghost use Rattle.oci_escape.specs.Escaped.{escaped, escape, is_unsafe, shown_as};
+ghost use Rattle.oci_escape.specs.Escaped.{escaped, escape, is_unsafe, shown_as, IsLine};
 
+use crate::laws::is_one_line;
 use std::alloc::{AllocError, Global};
 
 /// The text with each character that ends a line, moves a terminal's cursor or turns the direction of a text as `\uXXXX`: the
@@ -21,8 +22,10 @@ pub fn escaped(text: &str, alloc: Global) -> Result<String, AllocError>
 
 /// The escaped text and a newline. Fails if out of memory.
 pub fn line_of(text: &str, alloc: Global) -> Result<String, AllocError>
-    ensures { IfOk result (λ t. string_bytes t ≡ escaped text.now ++ 10 ∷ []) }
+    ensures text { IfOk result (λ t. string_bytes t ≡ escaped text.now ++ 10 ∷ []) }
+    ensures line { IfOk result (λ t. IsLine (string_bytes t)) }
 {
+    is_one_line();
     let mut line = escaped(text, alloc)?;
     line.push_str("\n")?;
     Ok(line)
