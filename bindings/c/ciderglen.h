@@ -119,7 +119,7 @@ enum ciderglen_level {
     CIDERGLEN_LEVEL_STATED = 1,
     /* And SHOULD, SHOULD NOT, RECOMMENDED, DEPRECATED. */
     CIDERGLEN_LEVEL_SHOULD = 2,
-    /* And what no sentence of a specification asks: a manual page, the kernel or every runtime refuses it. */
+    /* And what no sentence of a specification asks: a manual page, the kernel or every runtime refuses it, or it is a hint. */
     CIDERGLEN_LEVEL_HOST = 3
 };
 

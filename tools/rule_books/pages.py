@@ -17,7 +17,8 @@ What the specifications ask of a document beyond the types of its members, as fa
 part breaks it, with the part's JSON Pointer; a part of another type breaks none, since the schema rejects it.
 
 - **Levels.** `must`: MUST, REQUIRED and their negatives. `should`: SHOULD, RECOMMENDED, DEPRECATED. `stated`: a format, a range or a list of
-  values without such a word. `host`: no sentence of a specification, but a manual page, the kernel or every runtime refuses it.
+  values without such a word. `host`: no sentence of a specification asks for it; a manual page, the kernel or every runtime does, or it is a
+  hint, as of a member that is reserved.
 - **Places.** `*` is each item of an array, `{}` each member of an object, `(a,b)` one of these names; `.` is the whole. Places of a
   set begin where the set stands, which the line below its title says.
 - **Peers.** T: `oci-runtime-tool validate`, S: the JSON schemas of the specifications, V: the Go code beside them, R: runc, C: crun. E: it is

@@ -11,7 +11,7 @@ pub const MUST: u32 = 0;
 pub const STATED: u32 = 1;
 /// And SHOULD, SHOULD NOT, RECOMMENDED, DEPRECATED.
 pub const SHOULD: u32 = 2;
-/// And what no sentence of a specification asks: a manual page, the kernel or every runtime refuses it.
+/// And what no sentence of a specification asks: a manual page, the kernel or every runtime refuses it, or it is a hint.
 pub const HOST: u32 = 3;
 
 /// Returns the level with a number, or `None` if the number is that of no level.

@@ -2,9 +2,9 @@
 -- Annotations of images (image specification, "Annotations"). The place of a set is the object of the annotations.
 use Rattle.std.specs.Prelude.{List, [], ◌∷◌, ◌++◌, codes, true, false}
 use Rattle.oci_rule_texts.specs.declared.grammar.Grammar.TheVariants.{DateTime, Uri, ReverseDomain, RefName, SpdxExpression, Digest, Reference, FullReference}
-use Rattle.oci_rules.specs.Rules.{Rule, must, stated, should, here, under, each_name, if_so, asks, the_part, is_there, is_text, text, reserved, there, absent}
+use Rattle.oci_rules.specs.Rules.{Rule, must, stated, should, host, here, under, each_name, if_so, asks, the_part, is_there, is_text, text, none_of, reserved, there, absent}
 use Rattle.oci_rules.specs.Platforms.{every}
-use Rattle.oci_rule_tables.specs.Lists.{opencontainers_keys}
+use Rattle.oci_rule_tables.specs.Lists.{opencontainers_keys, label_schema_keys}
 
 -- the rules of image annotations
 abbrev pub image_annotations_rules : List Rule
@@ -21,7 +21,7 @@ image_annotations_rules =
     record { name = codes "annotation-base-name"; level = should; section = codes "image annotations.md#pre-defined-annotation-keys"; platforms = every; place = under (codes "org.opencontainers.image.base.name") (if_so (asks the_part [] false (is_text (codes "" ∷ []))) here); test = text Reference } ∷
     record { name = codes "annotation-base-name-full"; level = should; section = codes "image annotations.md#pre-defined-annotation-keys"; platforms = every; place = under (codes "org.opencontainers.image.base.name") (if_so (asks the_part [] false (is_text (codes "" ∷ []))) here); test = text FullReference } ∷
     record { name = codes "annotation-base-both"; level = should; section = codes "image annotations.md#pre-defined-annotation-keys"; platforms = every; place = if_so (asks the_part (codes "org.opencontainers.image.base.name" ∷ []) true is_there) here; test = there (codes "org.opencontainers.image.base.digest") } ∷
-    record { name = codes "annotation-label-schema"; level = stated; section = codes "image annotations.md#back-compatibility-with-label-schema"; platforms = every; place = each_name here; test = reserved (codes "org.label-schema.") [] } ∷
+    record { name = codes "annotation-label-schema"; level = host; section = codes "image annotations.md#back-compatibility-with-label-schema"; platforms = every; place = each_name here; test = none_of label_schema_keys } ∷
     []
 
 -- the rules of image annotations elsewhere

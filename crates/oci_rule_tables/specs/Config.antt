@@ -23,11 +23,11 @@ config_rules =
     record { name = codes "config-port"; level = stated; section = codes "image config.md#properties"; platforms = every; place = under (codes "config") (under (codes "ExposedPorts") (each_name here)); test = text Port } ∷
     record { name = codes "config-user"; level = stated; section = codes "image config.md#properties"; platforms = every; place = under (codes "config") (under (codes "User") (if_so (asks the_part [] false (is_text (codes "" ∷ []))) here)); test = text User } ∷
     record { name = codes "config-stop-signal"; level = stated; section = codes "image config.md#properties"; platforms = every; place = under (codes "config") (under (codes "StopSignal") here); test = text Signal } ∷
-    record { name = codes "config-args-escaped"; level = stated; section = codes "image config.md#properties"; platforms = every; place = under (codes "config") here; test = absent (codes "ArgsEscaped") } ∷
-    record { name = codes "config-reserved"; level = stated; section = codes "image config.md#properties"; platforms = every; place = under (codes "config") here; test = absent (codes "Memory") } ∷
-    record { name = codes "config-reserved"; level = stated; section = codes "image config.md#properties"; platforms = every; place = under (codes "config") here; test = absent (codes "MemorySwap") } ∷
-    record { name = codes "config-reserved"; level = stated; section = codes "image config.md#properties"; platforms = every; place = under (codes "config") here; test = absent (codes "CpuShares") } ∷
-    record { name = codes "config-reserved"; level = stated; section = codes "image config.md#properties"; platforms = every; place = under (codes "config") here; test = absent (codes "Healthcheck") } ∷
+    record { name = codes "config-args-escaped"; level = should; section = codes "image config.md#properties"; platforms = every; place = under (codes "config") here; test = absent (codes "ArgsEscaped") } ∷
+    record { name = codes "config-reserved"; level = host; section = codes "image config.md#properties"; platforms = every; place = under (codes "config") here; test = absent (codes "Memory") } ∷
+    record { name = codes "config-reserved"; level = host; section = codes "image config.md#properties"; platforms = every; place = under (codes "config") here; test = absent (codes "MemorySwap") } ∷
+    record { name = codes "config-reserved"; level = host; section = codes "image config.md#properties"; platforms = every; place = under (codes "config") here; test = absent (codes "CpuShares") } ∷
+    record { name = codes "config-reserved"; level = host; section = codes "image config.md#properties"; platforms = every; place = under (codes "config") here; test = absent (codes "Healthcheck") } ∷
     record { name = codes "config-env-once"; level = host; section = codes "common practice"; platforms = every; place = under (codes "config") (under (codes "Env") here); test = distinct entry_name } ∷
     record { name = codes "config-volume-absolute"; level = host; section = codes "common practice"; platforms = every; place = under (codes "config") (under (codes "Volumes") (each_name here)); test = text AbsolutePath } ∷
     record { name = codes "config-working-dir-absolute"; level = host; section = codes "common practice"; platforms = every; place = if_so (asks the_part (codes "os" ∷ []) false (is_text (codes "windows" ∷ []))) (under (codes "config") (under (codes "WorkingDir") (if_so (asks the_part [] false (is_text (codes "" ∷ []))) here))); test = text AbsolutePath } ∷

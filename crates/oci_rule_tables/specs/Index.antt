@@ -25,8 +25,8 @@ index_rules =
     record { name = codes "platform-features-windows"; level = should; section = codes "image image-index.md#image-index-property-descriptions"; platforms = every; place = under (codes "manifests") (each_item (under (codes "platform") (if_so (asks the_part (codes "os" ∷ []) true (is_text (codes "windows" ∷ []))) (under (codes "os_features") (each_item here))))); test = one_of (codes "win32k" ∷ []) } ∷
     record { name = codes "platform-features-reserved"; level = stated; section = codes "image image-index.md#image-index-property-descriptions"; platforms = every; place = under (codes "manifests") (each_item (under (codes "platform") here)); test = absent (codes "features") } ∷
     record { name = codes "index-ref-name-once"; level = host; section = codes "image image-layout.md#indexjson-file"; platforms = every; place = under (codes "manifests") here; test = distinct (members ((codes "annotations" ∷ codes "org.opencontainers.image.ref.name" ∷ []) ∷ [])) } ∷
-    record { name = codes "index-not-manifest"; level = host; section = codes "common practice"; platforms = every; place = here; test = absent (codes "config") } ∷
-    record { name = codes "index-not-manifest"; level = host; section = codes "common practice"; platforms = every; place = here; test = absent (codes "layers") } ∷
+    record { name = codes "manifest-not-index"; level = stated; section = codes "image manifest.md#image-manifest"; platforms = every; place = here; test = absent (codes "config") } ∷
+    record { name = codes "manifest-not-index"; level = stated; section = codes "image manifest.md#image-manifest"; platforms = every; place = here; test = absent (codes "layers") } ∷
     []
 
 -- the book of index combinations

@@ -76,6 +76,20 @@ opencontainers_keys =
     codes "org.opencontainers.image.exposedPorts" ∷
     []
 
+-- image specification, "Annotations", "Back-compatibility with Label Schema": the keys that have a successor
+abbrev pub label_schema_keys : List (List ℕ)
+label_schema_keys =
+    codes "org.label-schema.build-date" ∷
+    codes "org.label-schema.url" ∷
+    codes "org.label-schema.vcs-url" ∷
+    codes "org.label-schema.version" ∷
+    codes "org.label-schema.vcs-ref" ∷
+    codes "org.label-schema.vendor" ∷
+    codes "org.label-schema.name" ∷
+    codes "org.label-schema.description" ∷
+    codes "org.label-schema.usage" ∷
+    []
+
 -- image specification, "OCI Image Manifest Specification" and "OCI Image Index Specification"
 abbrev pub layer_types : List (List ℕ)
 layer_types =

@@ -2,7 +2,7 @@
 -- Image manifests (image specification, "OCI Image Manifest Specification").
 use Rattle.std.specs.Prelude.{List, [], ◌∷◌, map, codes, pos, true, false}
 use Rattle.oci_rule_texts.specs.declared.grammar.Grammar.TheVariants.{MediaType}
-use Rattle.oci_rules.specs.Rules.{Rule, must, stated, should, host, here, under, each_item, if_so, asks, the_part, is_there, is_text, text, one_of, none_of, within, there, absent, not_empty, beneath}
+use Rattle.oci_rules.specs.Rules.{Rule, must, stated, should, here, under, each_item, if_so, asks, the_part, is_there, is_text, text, one_of, none_of, within, there, absent, not_empty, beneath}
 use Rattle.oci_rules.specs.Platforms.{every}
 use Rattle.oci_rule_tables.specs.Lists.{layer_types, nondistributable_types, subject_types}
 use Rattle.oci_rule_tables.specs.Annotations.{image_annotations_elsewhere_rules}
@@ -23,8 +23,9 @@ manifest_rules =
     record { name = codes "manifest-artifact-layer-some"; level = should; section = codes "image manifest.md#guidelines-for-artifact-usage"; platforms = every; place = if_so (asks the_part (codes "config" ∷ codes "mediaType" ∷ []) true (is_text (codes "application/vnd.oci.empty.v1+json" ∷ []))) (under (codes "layers") (each_item (under (codes "size") here))); test = within (pos 1) (pos 18446744073709551615) } ∷
     record { name = codes "manifest-artifact-layer-some"; level = should; section = codes "image manifest.md#guidelines-for-artifact-usage"; platforms = every; place = if_so (asks the_part (codes "artifactType" ∷ []) true is_there) (under (codes "layers") (each_item (under (codes "size") here))); test = within (pos 1) (pos 18446744073709551615) } ∷
     record { name = codes "manifest-subject-type"; level = stated; section = codes "image manifest.md#image-manifest-property-descriptions"; platforms = every; place = under (codes "subject") (under (codes "mediaType") here); test = one_of subject_types } ∷
-    record { name = codes "manifest-not-index"; level = host; section = codes "common practice"; platforms = every; place = here; test = absent (codes "manifests") } ∷
-    record { name = codes "manifest-not-index"; level = host; section = codes "common practice"; platforms = every; place = here; test = absent (codes "fsLayers") } ∷
+    record { name = codes "manifest-not-index"; level = stated; section = codes "image manifest.md#image-manifest"; platforms = every; place = here; test = absent (codes "manifests") } ∷
+    record { name = codes "manifest-not-index"; level = stated; section = codes "image manifest.md#image-manifest"; platforms = every; place = here; test = absent (codes "fsLayers") } ∷
+    record { name = codes "manifest-not-index"; level = stated; section = codes "image manifest.md#image-manifest"; platforms = every; place = here; test = absent (codes "history") } ∷
     []
 
 -- the book of manifest annotations

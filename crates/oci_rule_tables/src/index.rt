@@ -225,9 +225,9 @@ static RULES_5: [Rule<'static>; 3] = [
         ]])),
     },
     Rule {
-        name: "index-not-manifest",
-        level: Level::Host,
-        section: "common practice",
+        name: "manifest-not-index",
+        level: Level::Stated,
+        section: "image manifest.md#image-manifest",
         wanted: "no member of another kind of manifest",
         platforms: Platforms::Every,
         place: &[],
@@ -236,9 +236,9 @@ static RULES_5: [Rule<'static>; 3] = [
 ];
 
 static RULES_6: [Rule<'static>; 1] = [Rule {
-    name: "index-not-manifest",
-    level: Level::Host,
-    section: "common practice",
+    name: "manifest-not-index",
+    level: Level::Stated,
+    section: "image manifest.md#image-manifest",
     wanted: "no member of another kind of manifest",
     platforms: Platforms::Every,
     place: &[],

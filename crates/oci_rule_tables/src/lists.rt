@@ -65,6 +65,19 @@ pub(crate) const OPENCONTAINERS_KEYS: &[&str] = &[
     "org.opencontainers.image.exposedPorts",
 ];
 
+/// image specification, "Annotations", "Back-compatibility with Label Schema": the keys that have a successor
+pub(crate) const LABEL_SCHEMA_KEYS: &[&str] = &[
+    "org.label-schema.build-date",
+    "org.label-schema.url",
+    "org.label-schema.vcs-url",
+    "org.label-schema.version",
+    "org.label-schema.vcs-ref",
+    "org.label-schema.vendor",
+    "org.label-schema.name",
+    "org.label-schema.description",
+    "org.label-schema.usage",
+];
+
 /// image specification, "OCI Image Manifest Specification" and "OCI Image Index Specification"
 pub(crate) const LAYER_TYPES: &[&str] = &[
     "application/vnd.oci.image.layer.v1.tar",

@@ -177,11 +177,11 @@ static RULES_4: [Rule<'static>; 3] = [
     },
 ];
 
-static RULES_5: [Rule<'static>; 2] = [
+static RULES_5: [Rule<'static>; 3] = [
     Rule {
         name: "manifest-not-index",
-        level: Level::Host,
-        section: "common practice",
+        level: Level::Stated,
+        section: "image manifest.md#image-manifest",
         wanted: "no member of another kind of manifest",
         platforms: Platforms::Every,
         place: &[],
@@ -189,12 +189,21 @@ static RULES_5: [Rule<'static>; 2] = [
     },
     Rule {
         name: "manifest-not-index",
-        level: Level::Host,
-        section: "common practice",
+        level: Level::Stated,
+        section: "image manifest.md#image-manifest",
         wanted: "no member of another kind of manifest",
         platforms: Platforms::Every,
         place: &[],
         test: Test::Absent("fsLayers"),
+    },
+    Rule {
+        name: "manifest-not-index",
+        level: Level::Stated,
+        section: "image manifest.md#image-manifest",
+        wanted: "no member of another kind of manifest",
+        platforms: Platforms::Every,
+        place: &[],
+        test: Test::Absent("history"),
     },
 ];
 

@@ -5,7 +5,7 @@ ghost use Rattle.std.specs.List.{flat_map};
 ghost use Rattle.oci_rules.specs.Tables.{rule_of};
 ghost use Rattle.oci_rule_tables.specs.Manifest as defined;
 
-use crate::lists::OPENCONTAINERS_KEYS;
+use crate::lists::{LABEL_SCHEMA_KEYS, OPENCONTAINERS_KEYS};
 use oci_rule_texts::Grammar;
 use oci_rules::{Check, Condition, Level, Origin, Platforms, Rule, Step, Test};
 
@@ -233,7 +233,7 @@ static RULES_4: [Rule<'static>; 3] = [
 static RULES_5: [Rule<'static>; 2] = [
     Rule {
         name: "annotation-label-schema",
-        level: Level::Stated,
+        level: Level::Host,
         section: "image annotations.md#back-compatibility-with-label-schema",
         wanted: "the key below org.opencontainers.image that superseded this one",
         platforms: Platforms::Every,
@@ -242,7 +242,7 @@ static RULES_5: [Rule<'static>; 2] = [
             Step::Member("annotations"),
             Step::EachName,
         ],
-        test: Test::Reserved("org.label-schema.", &[]),
+        test: Test::NoneOf(LABEL_SCHEMA_KEYS),
     },
     Rule {
         name: "annotation-ref-name-place",

@@ -5,7 +5,7 @@ ghost use Rattle.std.specs.List.{flat_map};
 ghost use Rattle.oci_rules.specs.Tables.{rule_of};
 ghost use Rattle.oci_rule_tables.specs.State as defined;
 
-use crate::lists::OPENCONTAINERS_KEYS;
+use crate::lists::{LABEL_SCHEMA_KEYS, OPENCONTAINERS_KEYS};
 use oci_rule_texts::Grammar;
 use oci_rules::{Check, Condition, Key, Level, Origin, Platform, Platforms, Rule, Step, Test};
 
@@ -263,7 +263,7 @@ static RULES_8: [Rule<'static>; 2] = [
         name: "annotation-stop-signal",
         level: Level::Must,
         section: "runtime config.md#annotations",
-        wanted: "a signal's name, as SIGKILL or SIGRTMIN+3",
+        wanted: "a signal's name, as SIGKILL or SIGRTMIN+3, or its number from 1 to 64",
         platforms: Platforms::Every,
         place: &[
             Step::Member("state"),
@@ -280,7 +280,7 @@ static RULES_8: [Rule<'static>; 2] = [
     },
     Rule {
         name: "annotation-label-schema",
-        level: Level::Stated,
+        level: Level::Host,
         section: "image annotations.md#back-compatibility-with-label-schema",
         wanted: "the key below org.opencontainers.image that superseded this one",
         platforms: Platforms::Every,
@@ -289,7 +289,7 @@ static RULES_8: [Rule<'static>; 2] = [
             Step::Member("annotations"),
             Step::EachName,
         ],
-        test: Test::Reserved("org.label-schema.", &[]),
+        test: Test::NoneOf(LABEL_SCHEMA_KEYS),
     },
 ];
 

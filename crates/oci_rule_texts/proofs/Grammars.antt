@@ -17,7 +17,7 @@ use Rattle.oci_rule_texts.proofs.LicenseGrammar.{spdx_expression}
 use Rattle.oci_rule_texts.proofs.MediaTypeGrammar.{media_type}
 use Rattle.oci_rule_texts.proofs.NameGrammars.{cpu_list, digest, full_reference, ref_name, reference, repository, tag}
 use Rattle.oci_rule_texts.proofs.PathGrammars.{absolute_path, guid, rootfs_path, unc, volume_guid_path, windows_path, without_parents}
-use Rattle.oci_rule_texts.proofs.SettingGrammars.{port_spec, signal_name, user_spec}
+use Rattle.oci_rule_texts.proofs.SettingGrammars.{port_spec, signal, user_spec}
 use Rattle.oci_rule_texts.proofs.UriGrammars.{http_uri, uri}
 use Rattle.oci_rule_texts.proofs.VersionGrammars.{semver}
 
@@ -55,7 +55,7 @@ is_of_decides RootfsPath t = rootfs_path t
 is_of_decides ScaledNumber t = scaled_number t
 is_of_decides SelinuxLabel t = selinux_label t
 is_of_decides SemVer t = semver t
-is_of_decides Signal t = signal_name t
+is_of_decides Signal t = signal t
 is_of_decides SpdxExpression t = spdx_expression t
 is_of_decides Tag t = tag t
 is_of_decides Uri t = uri t

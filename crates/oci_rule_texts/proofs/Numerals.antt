@@ -8,8 +8,8 @@ use Rattle.std.proofs.lemmas.Bool.Decides.{Decides-or}
 use Rattle.std.proofs.lemmas.Slice.Eq.{bytes_eq-Decides}
 use Rattle.oci_text_base.proofs.Lacks.{both}
 use Rattle.oci_rule_texts.specs.Classes.{is_positive}
-use Rattle.oci_rule_texts.specs.Decided.{capped, capped_from, is_within, is_number, is_field, is_numeric}
-use Rattle.oci_rule_texts.specs.Numbers.{number_of, IsNumber, IsField, IsNumeric}
+use Rattle.oci_rule_texts.specs.Decided.{capped, capped_from, is_headed, is_within, is_number, is_field, is_numeric}
+use Rattle.oci_rule_texts.specs.Numbers.{number_of, IsNumber, IsField, IsNumeric, IsPlainNumber}
 use Rattle.oci_rule_texts.specs.Parts.{IsCounted}
 use Rattle.oci_rule_texts.proofs.Deciding.{Tells, also, Decides-le, some_tells, counted_tells, headed_tells}
 
@@ -42,6 +42,14 @@ within low high n small few = (
 bounded : (low high : ℕ) → low ≤ 65535 → high ≤ 65535 → (t : List ℕ) → Decides (is_within low high (capped t)) ((low ≤ number_of t) × (number_of t ≤ high))
 bounded low high small few t = subst (λ n. Decides (is_within low high n) ((low ≤ number_of t) × (number_of t ≤ high))) (sym (capped_number t)) (within low high (number_of t) small few)
 
+at_most : (high : ℕ) → high ≤ 65535 → (t : List ℕ) → Decides (nat_le (capped t) high) (number_of t ≤ high)
+at_most high few t = subst (λ n. Decides (nat_le n high) (number_of t ≤ high)) (sym (capped_number t)) (below (number_of t))
+  where
+    below : (n : ℕ) → Decides (nat_le (min n 65536) high) (n ≤ high)
+    below n =
+        let size = Decides-le (min n 65536) high in
+        ((λ e. let most = size.0 e in omega arith), (λ h. size.1 (omega (arith, h))))
+
 pub number_tells : (low high : ℕ) → low ≤ 65535 → high ≤ 65535 → Tells (is_number low high) (IsNumber low high)
 number_tells low high small few t =
     let digits = some_tells is_ascii_digit t in
@@ -53,6 +61,13 @@ field_tells count low high small few t =
     let digits = counted_tells is_ascii_digit count t in
     let size = bounded low high small few t in
     ((λ e. let parts = both _ _ e in let k = size.0 parts.1 in (digits.0 parts.0, k.0, k.1)), (λ h. also _ _ (digits.1 h.0) (size.1 (h.1, h.2))))
+
+-- a number without a zero in front, and a greatest one below 65,536
+pub plain_at_most : (high : ℕ) → high ≤ 65535 → Tells (λ t. is_headed is_positive is_ascii_digit t && nat_le (capped t) high) (λ t. IsPlainNumber t × (number_of t ≤ high))
+plain_at_most high few t =
+    let digits = headed_tells is_positive is_ascii_digit t in
+    let size = at_most high few t in
+    ((λ e. let parts = both _ _ e in (digits.0 parts.0, size.0 parts.1)), (λ h. also _ _ (digits.1 h.0) (size.1 h.1)))
 
 pub numeric_tells : Tells is_numeric IsNumeric
 numeric_tells t = Decides-or _ _ (bytes_eq-Decides t (codes "0")) (headed_tells is_positive is_ascii_digit t)

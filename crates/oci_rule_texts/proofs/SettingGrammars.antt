@@ -7,12 +7,12 @@ use Rattle.std.proofs.lemmas.Slice.Eq.{bytes_eq-Decides}
 use Rattle.oci_text_base.specs.Classes.{slash, colon, IsSomeOf}
 use Rattle.oci_text_base.proofs.Lacks.{lacks_some}
 use Rattle.oci_rule_texts.specs.Classes.{is_capital_or_digit, is_not_colon}
-use Rattle.oci_rule_texts.specs.Decided.{is_port_spec, is_user_spec, is_signal_name, is_number, is_some_of, is_headed}
+use Rattle.oci_rule_texts.specs.Decided.{is_port_spec, is_user_spec, is_signal, is_signal_name, is_signal_number, is_number, is_some_of, is_headed}
 use Rattle.oci_rule_texts.specs.Numbers.{IsNumber}
 use Rattle.oci_rule_texts.specs.Parts.{IsHeaded}
-use Rattle.oci_rule_texts.specs.Settings.{IsProtocol, IsPortSpec, IsUserSpec, IsSignalName}
+use Rattle.oci_rule_texts.specs.Settings.{IsProtocol, IsPortSpec, IsUserSpec, IsSignalName, IsSignalNumber, IsSignal}
 use Rattle.oci_rule_texts.proofs.Deciding.{Tells, some_tells, headed_tells, extended_tells, behind_tells}
-use Rattle.oci_rule_texts.proofs.Numerals.{number_tells}
+use Rattle.oci_rule_texts.proofs.Numerals.{number_tells, plain_at_most}
 
 protocol_tells : Tells (λ t. bytes_eq t (codes "tcp") || bytes_eq t (codes "udp")) IsProtocol
 protocol_tells t = Decides-or _ _ (bytes_eq-Decides t (codes "tcp")) (bytes_eq-Decides t (codes "udp"))
@@ -27,8 +27,14 @@ user_spec =
     extended_tells colon (is_some_of is_not_colon) (is_some_of is_not_colon) (IsSomeOf is_not_colon) (IsSomeOf is_not_colon) (some_tells is_not_colon) (some_tells is_not_colon)
     (lacks_some is_not_colon colon refl)
 
-pub signal_name : Tells is_signal_name IsSignalName
+signal_name : Tells is_signal_name IsSignalName
 signal_name t =
     Decides-or _ _ (behind_tells (is_headed is_ascii_uppercase is_capital_or_digit) (IsHeaded is_ascii_uppercase is_capital_or_digit) (headed_tells is_ascii_uppercase is_capital_or_digit) (codes "SIG") t)
     (Decides-or _ _ (behind_tells (is_some_of is_ascii_digit) (IsSomeOf is_ascii_digit) (some_tells is_ascii_digit) (codes "SIGRTMIN+") t)
     (behind_tells (is_some_of is_ascii_digit) (IsSomeOf is_ascii_digit) (some_tells is_ascii_digit) (codes "SIGRTMAX-") t))
+
+signal_number : Tells is_signal_number IsSignalNumber
+signal_number = plain_at_most 64 (lit≤ tt)
+
+pub signal : Tells is_signal IsSignal
+signal t = Decides-or _ _ (signal_name t) (signal_number t)

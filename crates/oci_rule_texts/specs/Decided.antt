@@ -175,6 +175,12 @@ is_signal_name text =
     (starts_with nat_eq text (codes "SIG") && is_headed is_ascii_uppercase is_capital_or_digit (drop 3 text))
     || (is_real_time (codes "SIGRTMIN+") text || is_real_time (codes "SIGRTMAX-") text)
 
+abbrev pub is_signal_number : List ℕ → Bool
+is_signal_number text = is_headed is_positive is_ascii_digit text && nat_le (capped text) 64
+
+abbrev pub is_signal : List ℕ → Bool
+is_signal text = is_signal_name text || is_signal_number text
+
 -- ---- a container's controls
 
 abbrev pub is_page_size : List ℕ → Bool

@@ -11,7 +11,7 @@ use Rattle.oci_reference_scan.specs.Reference.{IsDomain, IsPath, IsTag}
 use Rattle.oci_text_base.specs.CpuList.{IsCpuList}
 use Rattle.oci_text_base.specs.Digest.{IsDigestText}
 use Rattle.oci_rule_texts.specs.RefNames.{IsFullReference, IsRefName, IsSomeReference}
-use Rattle.oci_rule_texts.specs.Settings.{IsPortSpec, IsSignalName, IsUserSpec}
+use Rattle.oci_rule_texts.specs.Settings.{IsPortSpec, IsSignal, IsUserSpec}
 use Rattle.oci_rule_texts.specs.Uris.{IsHttpUri, IsUri}
 use Rattle.oci_rule_texts.specs.Versions.{IsSemver}
 use Rattle.oci_rule_texts.specs.declared.grammar.Grammar.{Grammar}
@@ -50,7 +50,7 @@ IsOf RootfsPath text = IsRootfsPath text
 IsOf ScaledNumber text = IsScaledNumber text
 IsOf SelinuxLabel text = IsSelinuxLabel text
 IsOf SemVer text = IsSemver text
-IsOf Signal text = IsSignalName text
+IsOf Signal text = IsSignal text
 IsOf SpdxExpression text = IsSpdxExpression text
 IsOf Tag text = IsTag text
 IsOf Uri text = IsUri text

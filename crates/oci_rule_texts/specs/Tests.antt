@@ -5,7 +5,7 @@ use Rattle.oci_runtime_names.specs.CpuScan.{is_cpu_text}
 use Rattle.oci_reference_scan.specs.Scanner.{start, step, found}
 use Rattle.oci_text_base.specs.Digest.{digest_refusal}
 use Rattle.oci_rule_texts.specs.Classes.{is_not_nul, is_not_line_feed}
-use Rattle.oci_rule_texts.specs.Decided.{are_no_parents, begins_with, is_base64, is_capability_name, is_cgroup_file, is_date_time, is_decimal_number, is_device_access, is_domain, is_environment_entry, is_guid, is_interface_name, is_media_type, is_one_directory, is_page_size, is_port_spec, is_portable_entry, is_ref_name, is_repository, is_reverse_domain, is_rootfs_path, is_scaled_number, is_selinux_label, is_semver, is_signal_name, is_tag, is_unc_path, is_user_spec, is_volume_guid_path, is_windows_path}
+use Rattle.oci_rule_texts.specs.Decided.{are_no_parents, begins_with, is_base64, is_capability_name, is_cgroup_file, is_date_time, is_decimal_number, is_device_access, is_domain, is_environment_entry, is_guid, is_interface_name, is_media_type, is_one_directory, is_page_size, is_port_spec, is_portable_entry, is_ref_name, is_repository, is_reverse_domain, is_rootfs_path, is_scaled_number, is_selinux_label, is_semver, is_signal, is_tag, is_unc_path, is_user_spec, is_volume_guid_path, is_windows_path}
 use Rattle.oci_rule_texts.specs.DecidedLicenses.{is_spdx_expression}
 use Rattle.oci_rule_texts.specs.FullTexts.{is_full_text}
 use Rattle.oci_rule_texts.specs.DecidedUris.{is_http_uri, is_uri}
@@ -45,7 +45,7 @@ is_of RootfsPath text = is_rootfs_path text
 is_of ScaledNumber text = is_scaled_number text
 is_of SelinuxLabel text = is_selinux_label text
 is_of SemVer text = is_semver text
-is_of Signal text = is_signal_name text
+is_of Signal text = is_signal text
 is_of SpdxExpression text = is_spdx_expression text
 is_of Tag text = is_tag text
 is_of Uri text = is_uri text

@@ -15,7 +15,7 @@ use crate::media_type::is_media_type;
 use crate::names::{is_domain, is_full_reference, is_tag};
 use crate::parts::Part;
 use crate::paths::{is_guid, is_rootfs_path, is_unc_path, is_volume_guid_path, is_windows_path};
-use crate::settings::{is_port_spec, is_signal_name, is_user_spec};
+use crate::settings::{is_port_spec, is_signal, is_user_spec};
 use crate::uris::{is_http_uri, is_uri};
 use crate::versions::is_semver;
 use oci_reference_scan::parts;
@@ -89,7 +89,7 @@ pub enum Grammar {
     SelinuxLabel,
     /// A semantic version (SemVer 2.0.0).
     SemVer,
-    /// `SIGKILL`, `SIGRTMIN+3`.
+    /// A signal by its name or number, `SIGKILL`, `SIGRTMIN+3`, `15`.
     Signal,
     /// A licence expression (SPDX specification 2.3, annex D), with identifiers by their shape.
     SpdxExpression,
@@ -144,7 +144,7 @@ impl Grammar {
             Grammar::ScaledNumber => is_scaled_number(bytes),
             Grammar::SelinuxLabel => is_selinux_label(bytes),
             Grammar::SemVer => is_semver(bytes),
-            Grammar::Signal => is_signal_name(bytes),
+            Grammar::Signal => is_signal(bytes),
             Grammar::SpdxExpression => is_spdx_expression(bytes),
             Grammar::Tag => is_tag(bytes),
             Grammar::Uri => is_uri(bytes),

@@ -4,7 +4,7 @@ ghost use Rattle.oci_rule_texts.specs.Decided as decided;
 
 use crate::classes::Class;
 use crate::cuts::{behind, cut};
-use crate::numbers::is_number;
+use crate::numbers::{is_number, number};
 
 pub(crate) fn is_port_spec(text: &[u8]) -> bool
     ensures { result ≡ decided.is_port_spec text.now }
@@ -21,7 +21,19 @@ pub(crate) fn is_user_spec(text: &[u8]) -> bool
     Class::NotColon.has_some(user) & (!text.contains(&b':') | Class::NotColon.has_some(group))
 }
 
-pub(crate) fn is_signal_name(text: &[u8]) -> bool
+pub(crate) fn is_signal(text: &[u8]) -> bool
+    ensures { result ≡ decided.is_signal text.now }
+{
+    is_signal_name(text) | is_signal_number(text)
+}
+
+fn is_signal_number(text: &[u8]) -> bool
+    ensures { result ≡ decided.is_signal_number text.now }
+{
+    Class::Positive.begins(text, Class::Digit) & (number(text) <= 64)
+}
+
+fn is_signal_name(text: &[u8]) -> bool
     ensures { result ≡ decided.is_signal_name text.now }
 {
     let named = Class::Capital.begins(behind(text, 3), Class::CapitalOrDigit);

@@ -10,7 +10,7 @@ pub enum Level {
     Stated,
     /// SHOULD, SHOULD NOT, RECOMMENDED, DEPRECATED.
     Should,
-    /// No sentence of the specification: a manual page that it names, the kernel or every runtime refuses it.
+    /// No sentence of the specification: a manual page that it names, the kernel or every runtime refuses it, or it is a hint.
     Host,
 }
 

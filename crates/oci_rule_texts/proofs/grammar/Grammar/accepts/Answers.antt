@@ -143,7 +143,7 @@ returns-in-SemVer c = at SemVer c.args.self _ c.args.text.now _ c.in-SemVer.is c
 
 pub returns-in-Signal : goal.returns-in-Signal
 unfolding is_of
-returns-in-Signal c = at Signal c.args.self _ c.args.text.now _ c.in-Signal.is c.as_bytes-bytes.ensures.value (c.is_signal_name.ensures)
+returns-in-Signal c = at Signal c.args.self _ c.args.text.now _ c.in-Signal.is c.as_bytes-bytes.ensures.value (c.is_signal.ensures)
 
 pub returns-in-SpdxExpression : goal.returns-in-SpdxExpression
 unfolding is_of
