@@ -145,10 +145,9 @@ static COMMANDS: [Described; 10] = [
             },
             Argument {
                 name: "level",
-                help: "The weakest level of rules that are checked; a document that breaks one of must or stated is wrong",
+                help: "The weakest level of rules that are checked, with --rules or --policy: should where it is not given; a document that breaks one of must or stated is wrong",
                 takes: Takes::Value("LEVEL"),
                 values: &["must", "stated", "should", "host"],
-                default: &["should"],
                 ..PLAIN
             },
             Argument {
@@ -209,6 +208,11 @@ static COMMANDS: [Described; 10] = [
                 takes: Takes::Value("FILE"),
                 short: Some('o'),
                 bond: Bond::Without("check"),
+                ..PLAIN
+            },
+            Argument {
+                name: "drop-unknown",
+                help: "Write the file of --output also where members that the schema does not list are left out of it",
                 ..PLAIN
             },
             Argument {

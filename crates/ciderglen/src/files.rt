@@ -1,8 +1,11 @@
 //! The files of the system as a store.
 use oci_content::{Algorithm, Checksum, digest_of_reader};
-use oci_tool::Store;
+use oci_tool::{Presence, Store};
 use std::alloc::Global;
-use std::io::{Read, Write};
+use std::fs::Metadata;
+use std::io::{Error, ErrorKind, Read, Write};
+use std::os::unix::fs::{MetadataExt, OpenOptionsExt, chown};
+use std::random::RandomSource;
 use std::{fs, io};
 
 /// The files of the system, and standard input under the name `-`.
@@ -40,46 +43,105 @@ impl Store for FileStore<'_> {
         digest_of_reader(algorithm, &mut fs::open(self.rt, name)?, &mut buffer)
     }
 
-    fn has(&mut self, _alloc: Global, name: &str) -> bool {
+    fn read_document(&mut self, alloc: Global, name: &str, limit: u64) -> io::Result<Vec<u8>> {
+        if name == "-" {
+            return read_at_most(alloc, &mut self.rt.stdin(), limit);
+        }
+        if !fs::metadata(self.rt, name)?.is_file() {
+            return Err(Error::new(ErrorKind::InvalidInput, "not a regular file"));
+        }
+        read_at_most(alloc, &mut fs::open(self.rt, name)?, limit)
+    }
+
+    fn presence(&mut self, _alloc: Global, name: &str) -> Presence {
         match fs::metadata(self.rt, name) {
-            Ok(found) => found.is_file(),
-            Err(_) => false,
+            Ok(found) if found.is_file() => Presence::File,
+            Err(fault) if fault.kind() == ErrorKind::NotFound => Presence::Missing,
+            _ => Presence::Unreadable,
         }
     }
 
-    /// A file that is there and is no regular file, such as a device, is written; any other is replaced by renaming a new one.
+    /// A regular file is replaced by renaming a new one, which has its mode, and its owner as far as the system allows; a link is
+    /// followed. What is there and is no regular file, such as a device, is written.
     fn replace(&mut self, alloc: Global, name: &str, bytes: &[u8]) -> io::Result<()> {
-        if let Ok(found) = fs::metadata(self.rt, name) {
-            if !found.is_file() {
-                return fs::write(self.rt, name, bytes);
+        match fs::metadata(self.rt, name) {
+            Ok(found) if found.is_file() => {
+                let path = fs::canonicalize(self.rt, name)?;
+                put(self.rt, path.as_str(), Some(&found), bytes)
             }
+            Ok(_) => fs::write(self.rt, name, bytes),
+            Err(_) => put(self.rt, name, None, bytes),
         }
-        let beside = beside(name, alloc)?;
-        let written = write_by(self.rt, beside.as_str(), name, bytes);
-        if written.is_err() {
-            let _ = fs::remove_file(self.rt, beside.as_str());
-        }
-        written
     }
 }
 
-/// The name of a temporary file in the same folder.
-fn beside(name: &str, alloc: Global) -> io::Result<String> {
-    match format!(in alloc; "{name}.ciderglen.tmp") {
+/// All that is left to read, if it is at most so many bytes.
+fn read_at_most<R: Read>(alloc: Global, reader: &mut R, limit: u64) -> io::Result<Vec<u8>> {
+    let mut bytes = Vec::new(alloc);
+    reader
+        .by_ref()
+        .take(limit.saturating_add(1))
+        .read_to_end(&mut bytes)?;
+    if bytes.len() as u64 > limit {
+        return Err(Error::new(
+            ErrorKind::FileTooLarge,
+            "too large to be read as a document",
+        ));
+    }
+    Ok(bytes)
+}
+
+/// Puts a file with these bytes under a name by renaming a new one. Where that fails, the new one is removed.
+fn put(rt: &HostRuntime, name: &str, like: Option<&Metadata>, bytes: &[u8]) -> io::Result<()> {
+    let beside = beside(rt, name)?;
+    let file = open_new(rt, beside.as_str(), like)?;
+    let done = fill(rt, file, beside.as_str(), name, like, bytes);
+    if done.is_err() {
+        let _ = fs::remove_file(rt, beside.as_str());
+    }
+    done
+}
+
+/// A name of a file in the same folder that nobody can guess.
+fn beside(rt: &HostRuntime, name: &str) -> io::Result<String> {
+    let mut random = [0u8; 8];
+    rt.fill_bytes(&mut random)?;
+    let number = u64::from_le_bytes(random);
+    let made = match name.rsplit_once('/') {
+        Some((folder, _)) => format!(in rt.alloc(); "{folder}/.ciderglen-{number:016x}.tmp"),
+        None => format!(in rt.alloc(); ".ciderglen-{number:016x}.tmp"),
+    };
+    match made {
         Ok(beside) => Ok(beside),
-        Err(error) => Err(io::Error::from(error)),
+        Err(error) => Err(Error::from(error)),
     }
 }
 
-/// Writes a file by renaming a new one.
-fn write_by(rt: &HostRuntime, beside: &str, name: &str, bytes: &[u8]) -> io::Result<()> {
-    write_new(rt, beside, bytes)?;
-    fs::rename(rt, beside, name)
+/// A new file, which nobody else can read yet if it is to replace another. Fails if it is there already.
+fn open_new(rt: &HostRuntime, name: &str, like: Option<&Metadata>) -> io::Result<fs::File> {
+    let mode = if like.is_some() { 0o600 } else { 0o666 };
+    fs::OpenOptions::new()
+        .write(true)
+        .create_new(true)
+        .mode(mode)
+        .open(rt, name)
 }
 
-/// Writes a new file, down to the disk. Fails if it is there already.
-fn write_new(rt: &HostRuntime, name: &str, bytes: &[u8]) -> io::Result<()> {
-    let mut file = fs::File::create_new(rt, name)?;
+/// Gives a new file the owner and mode of the one that it replaces, writes it down to the disk, and renames it.
+fn fill(
+    rt: &HostRuntime,
+    mut file: fs::File,
+    beside: &str,
+    name: &str,
+    like: Option<&Metadata>,
+    bytes: &[u8],
+) -> io::Result<()> {
+    if let Some(like) = like {
+        // none but root can give a file away
+        let _ = chown(rt, beside, Some(like.uid()), Some(like.gid()));
+        file.set_permissions(like.permissions())?;
+    }
     file.write_all(bytes)?;
-    file.sync_all()
+    file.sync_all()?;
+    fs::rename(rt, beside, name)
 }

@@ -3,6 +3,7 @@ use crate::commands::ciderglen;
 use clap::error::ErrorKind;
 use clap::{ArgMatches, Error};
 use oci_content::Algorithm;
+use oci_escape::escaped;
 use oci_kinds::Kind;
 use oci_policies::Bump;
 use oci_report::kind_named;
@@ -35,6 +36,28 @@ pub fn status_of(error: &Error) -> u8 {
         ErrorKind::OutOfMemory => 3,
         _ => 2,
     }
+}
+
+/// What the options of `check` lack, if one of them says how rules are checked and none are.
+pub fn lack_in(given: &ArgMatches<'_>) -> Option<&'static str> {
+    if given.get_flag("rules") || given.get_str("policy").is_some() {
+        None
+    } else if given.get_str("level").is_some() {
+        Some("--level chooses among rules, and none are checked: add --rules or --policy FILE")
+    } else if given.get_str("platform").is_some() {
+        Some("--platform chooses among rules, and none are checked: add --rules or --policy FILE")
+    } else {
+        None
+    }
+}
+
+/// The words with each character escaped that would end a line or move a terminal's cursor, so that they can be shown.
+pub fn escaped_words(words: &[String], alloc: Global) -> Result<Vec<String>, AllocError> {
+    let mut shown = Vec::new(alloc);
+    for word in words {
+        shown.push(escaped(word.as_str(), alloc)?)?;
+    }
+    Ok(shown)
 }
 
 /// How `verify` is asked to verify.
@@ -145,6 +168,7 @@ fn format_in<'a>(given: &ArgMatches<'_>, arena: &'a Bump) -> Result<Format<'a>, 
         check: given.get_flag("check"),
         quiet: given.get_flag("quiet"),
         verbose: given.get_flag("verbose"),
+        drop_unknown: given.get_flag("drop-unknown"),
         output: text_if(given, "output", arena)?,
         file: text_in(given, "FILE", arena)?,
     })
@@ -168,8 +192,8 @@ fn level_in(given: &ArgMatches<'_>) -> Level {
     match given.get_str("level") {
         Some("must") => Level::Must,
         Some("stated") => Level::Stated,
-        Some("should") => Level::Should,
-        _ => Level::Host,
+        Some("host") => Level::Host,
+        _ => Level::Should,
     }
 }
 

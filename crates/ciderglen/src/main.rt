@@ -7,9 +7,9 @@ mod line;
 mod rules;
 mod watch;
 
-use clap::ArgMatches;
+use clap::{ArgMatches, Error};
 use files::FileStore;
-use line::{asked, matches_of, options_in, status_of, words_of};
+use line::{asked, escaped_words, lack_in, matches_of, options_in, status_of, words_of};
 use oci_layout::Folder;
 use oci_policies::{Bump, Policy, PolicyError};
 use oci_rules::Rule;
@@ -40,13 +40,36 @@ fn run_words(rt: &HostRuntime, words: &[String]) -> u8 {
             let arena = Bump::new(rt.alloc());
             perform(rt, &arena, &matches)
         }
-        Err(error) => {
-            if error.print(rt).is_ok() {
-                status_of(&error)
-            } else {
-                3
-            }
+        Err(error) => match status_of(&error) {
+            2 => refuse(rt, words),
+            status => print(rt, &error, status),
+        },
+    }
+}
+
+/// Prints a text in place of a command, and returns the exit status.
+fn print(rt: &HostRuntime, error: &Error, status: u8) -> u8 {
+    if error.print(rt).is_ok() { status } else { 3 }
+}
+
+/// Says what is wrong with the words of the command line, which are escaped first, since they may be names that a stranger gave.
+fn refuse(rt: &HostRuntime, words: &[String]) -> u8 {
+    match escaped_words(words, rt.alloc()) {
+        Ok(shown) => refuse_shown(rt, shown.as_slice()),
+        Err(_) => out_of_memory(rt),
+    }
+}
+
+fn refuse_shown(rt: &HostRuntime, shown: &[String]) -> u8 {
+    match matches_of(rt.alloc(), shown) {
+        Ok(_) => {
+            complain(
+                "error: the arguments have control characters\n",
+                &mut rt.stderr(),
+            );
+            2
         }
+        Err(error) => print(rt, &error, 2),
     }
 }
 
@@ -61,11 +84,31 @@ fn perform(rt: &HostRuntime, arena: &Bump, matches: &ArgMatches<'_>) -> u8 {
             None => 2,
         },
         "tree" => tree(rt, given.get_str("FILE").unwrap_or("-")),
-        "check" => match policy_of(rt, given.get_str("policy"), arena) {
-            Ok(rules) => run_asked(rt, asked(name, given, rules, arena, rt.alloc())),
-            Err(status) => status,
+        "check" => match lack_in(given) {
+            Some(lack) => {
+                tell_usage(rt, lack);
+                2
+            }
+            None => check(rt, arena, given),
         },
         _ => run_asked(rt, asked(name, given, &[], arena, rt.alloc())),
+    }
+}
+
+/// Checks documents by the rules and the policy that are asked for.
+fn check(rt: &HostRuntime, arena: &Bump, given: &ArgMatches<'_>) -> u8 {
+    match policy_of(rt, given.get_str("policy"), arena) {
+        Ok(rules) => run_asked(rt, asked("check", given, rules, arena, rt.alloc())),
+        Err(status) => status,
+    }
+}
+
+/// Says what is wrong with the options, as clap does.
+fn tell_usage(rt: &HostRuntime, fault: &str) {
+    if let Ok(text) = format!(in rt.alloc();
+        "error: {fault}\n\nFor more information, try '--help'.\n"
+    ) {
+        complain(text.as_str(), &mut rt.stderr());
     }
 }
 

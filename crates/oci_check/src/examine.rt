@@ -309,6 +309,20 @@ fn denied_findings<'a>(
     }
 }
 
+/// The members of a value, which was read from these bytes, that the schema of its kind does not list, as errors. Fails if out of
+/// memory.
+pub fn unlisted_members(
+    kind: Kind,
+    value: &Value,
+    bytes: &[u8],
+    alloc: Global,
+) -> Result<Report<'static>, AllocError>
+    ensures { IfOk result (λ r. (r.errors.items ≡ []) ↔ (all_unknown (shape_of kind) [] (view value.now) ≡ [])) }
+{
+    let errors = unknown_findings(kind, value, false, alloc)?;
+    Report::new(errors, Vec::new(alloc), bytes, alloc)
+}
+
 /// The members that the schema does not list, where they are warned of.
 fn warnings_of<'a>(
     asked: Unknown,

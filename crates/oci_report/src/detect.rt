@@ -1,7 +1,7 @@
 //! Which kind of document a value is.
 use crate::kinds::{KINDS, title_of};
 use json::Element;
-use oci_json_tape::{find, text};
+use oci_json_tape::{find, items, members, number, text};
 use oci_kinds::Kind;
 use oci_schema_types::{Member, Part, Records, Schema};
 use oci_schemas::OciRecords;
@@ -17,18 +17,35 @@ pub enum Detected {
     Open,
 }
 
+/// What the value of a member is.
+#[derive(Clone, Copy, Debug, PartialEq, Eq)]
+pub enum Form {
+    String,
+    Number,
+    Array,
+    Object,
+    /// A boolean or null.
+    Other,
+}
+
 /// A document whose members are looked up by their names.
 pub trait Document {
-    /// Whether it is an object that has a member of this name.
-    fn has(&self, name: &str) -> bool;
+    /// What the member of this name is, if the document is an object that has one.
+    fn form(&self, name: &str) -> Option<Form>;
 
     /// The member of this name, if it is a string.
     fn string(&self, name: &str) -> Option<&str>;
 }
 
 impl Document for Value {
-    fn has(&self, name: &str) -> bool {
-        self.get(name).is_some()
+    fn form(&self, name: &str) -> Option<Form> {
+        match self.get(name)? {
+            Value::String(_) => Some(Form::String),
+            Value::Number(_) => Some(Form::Number),
+            Value::Array(_) => Some(Form::Array),
+            Value::Object(_) => Some(Form::Object),
+            Value::Null | Value::Bool(_) => Some(Form::Other),
+        }
     }
 
     fn string(&self, name: &str) -> Option<&str> {
@@ -37,8 +54,19 @@ impl Document for Value {
 }
 
 impl<'t, 'a> Document for Element<'t, 'a> {
-    fn has(&self, name: &str) -> bool {
-        find(self, name).is_some()
+    fn form(&self, name: &str) -> Option<Form> {
+        let member = find(self, name)?;
+        if text(&member).is_some() {
+            Some(Form::String)
+        } else if number(&member).is_some() {
+            Some(Form::Number)
+        } else if items(&member).is_some() {
+            Some(Form::Array)
+        } else if members(&member).is_some() {
+            Some(Form::Object)
+        } else {
+            Some(Form::Other)
+        }
     }
 
     fn string(&self, name: &str) -> Option<&str> {
@@ -46,21 +74,21 @@ impl<'t, 'a> Document for Element<'t, 'a> {
     }
 }
 
-/// The kind of the document with this file name: by its `mediaType`, or else by its file name, or else by the members that only one
-/// kind has. A kind is found only if it is the only one.
+/// The kind of the document with this file name: by its `mediaType`, or else by its members, or else by its file name, if its members
+/// leave that open. A kind is found only if it is the only one.
 pub fn detect<D: Document>(name: &str, document: &D) -> Detected {
     if let Some(kind) = kind_by_media_type(document) {
         return Detected::One(kind);
     }
-    if let Some(kind) = kind_by_file_name(name) {
-        return Detected::One(kind);
+    match kind_by_members(document) {
+        Detected::One(kind) => Detected::One(kind),
+        Detected::Open => kind_by_file_name(name, document),
     }
-    kind_by_members(document)
 }
 
 /// The kind that `mediaType` names. A descriptor has the media type of what it describes, so one with a `digest` is none of them.
 fn kind_by_media_type<D: Document>(document: &D) -> Option<Kind> {
-    if document.has("digest") {
+    if document.form("digest").is_some() {
         return None;
     }
     match document.string("mediaType")? {
@@ -74,17 +102,17 @@ fn kind_by_media_type<D: Document>(document: &D) -> Option<Kind> {
     }
 }
 
-/// The kind of files of this name in an image layout or a bundle.
-fn kind_by_file_name(name: &str) -> Option<Kind> {
+/// The kind of files of this name in an image layout, if the document has a member of that kind. A `config.json` may be of several
+/// kinds: a bundle's, an image's or a registry client's.
+fn kind_by_file_name<D: Document>(name: &str, document: &D) -> Detected {
     let last = match name.rsplit_once('/') {
         Some((_, last)) => last,
         None => name,
     };
     match last {
-        "oci-layout" => Some(Kind::Layout),
-        "index.json" => Some(Kind::Index),
-        "config.json" => Some(Kind::Spec),
-        _ => None,
+        "oci-layout" if is_possible(Kind::Layout, document) => Detected::One(Kind::Layout),
+        "index.json" if is_possible(Kind::Index, document) => Detected::One(Kind::Index),
+        _ => Detected::Open,
     }
 }
 
@@ -96,27 +124,65 @@ pub fn members_of(kind: Kind) -> &'static [Member] {
     }
 }
 
-fn has_member(kind: Kind, name: &str) -> bool {
-    members_of(kind).iter().any(|member| member.name == name)
+/// The members by which a document of a kind is known, each with what it is.
+fn marks_of(kind: Kind) -> &'static [(&'static str, Form)] {
+    match kind {
+        Kind::Manifest => &[("config", Form::Object), ("layers", Form::Array)],
+        Kind::Index => &[("manifests", Form::Array)],
+        Kind::Config => &[
+            ("architecture", Form::String),
+            ("os", Form::String),
+            ("rootfs", Form::Object),
+        ],
+        Kind::Artifact => &[("artifactType", Form::String), ("blobs", Form::Array)],
+        Kind::Layout => &[("imageLayoutVersion", Form::String)],
+        Kind::Descriptor => &[
+            ("mediaType", Form::String),
+            ("digest", Form::String),
+            ("size", Form::Number),
+        ],
+        Kind::Error => &[("errors", Form::Array)],
+        Kind::Repositories => &[("repositories", Form::Array)],
+        Kind::Tags => &[("name", Form::String), ("tags", Form::Array)],
+        Kind::Reference => &[("registry", Form::String), ("repository", Form::String)],
+        Kind::Spec => &[("ociVersion", Form::String)],
+        Kind::State => &[
+            ("ociVersion", Form::String),
+            ("id", Form::String),
+            ("status", Form::String),
+            ("bundle", Form::String),
+        ],
+        Kind::ProcessState => &[
+            ("ociVersion", Form::String),
+            ("pid", Form::Number),
+            ("state", Form::Object),
+        ],
+        Kind::Features => &[
+            ("ociVersionMin", Form::String),
+            ("ociVersionMax", Form::String),
+        ],
+    }
 }
 
-/// Whether only this kind has a member of this name.
-fn is_alone(kind: Kind, name: &str) -> bool {
-    KINDS
+/// Whether a document is known to be of a kind. States begin as a configuration does, with `ociVersion`, and have what it has not.
+fn is_known<D: Document>(kind: Kind, document: &D) -> bool {
+    let is_marked = marks_of(kind)
         .iter()
-        .all(|other| *other == kind || !has_member(*other, name))
+        .all(|mark| document.form(mark.0) == Some(mark.1));
+    is_marked && (kind != Kind::Spec || !is_state(document))
 }
 
-/// Whether the document has a member that only this kind has.
-fn is_marked<D: Document>(kind: Kind, document: &D) -> bool {
-    members_of(kind).iter().any(|member| document.has(member.name) && is_alone(kind, member.name))
+/// Whether a document has members of a container's state, which no configuration has (runtime specification, "State").
+fn is_state<D: Document>(document: &D) -> bool {
+    document.form("status").is_some() || document.form("pid").is_some()
 }
 
+/// The only kind that a document is known to be of.
 fn kind_by_members<D: Document>(document: &D) -> Detected {
     let mut found = None;
     let mut count = 0u8;
     for kind in &KINDS {
-        if is_marked(*kind, document) {
+        if is_known(*kind, document) {
             found = Some(*kind);
             count = count.saturating_add(1);
         }
@@ -127,11 +193,11 @@ fn kind_by_members<D: Document>(document: &D) -> Detected {
     }
 }
 
-/// Whether the value could be a document of this kind: it has a member that the kind has.
-fn is_possible(kind: Kind, value: &Value) -> bool {
+/// Whether a document could be one of this kind: it has a member that the kind has.
+fn is_possible<D: Document>(kind: Kind, document: &D) -> bool {
     members_of(kind)
         .iter()
-        .any(|member| value.get(member.name).is_some())
+        .any(|member| document.form(member.name).is_some())
 }
 
 /// Why no kind was found out, and which are possible.

@@ -1,6 +1,9 @@
 //! Indexes and manifests as trees.
+ghost use Rattle.std.specs.Prelude.{◌≡◌, ◌++◌, ℕ, List, IfOk, OnOk, string_bytes};
+ghost use Rattle.oci_escape.specs.Escaped.{IsLine};
+
 use crate::kinds::title_of;
-use crate::render::{on_a_line, push_on_a_line};
+use oci_escape::line_of;
 use oci_kinds::Kind;
 use serde_json::Value;
 use std::alloc::{AllocError, Global};
@@ -12,6 +15,8 @@ pub struct Child {
     pub row: String,
     /// Its digest, if it has one.
     pub digest: Option<String>,
+    /// Its media type, if it has one.
+    pub media_type: Option<String>,
     /// Whether it is an index or a manifest.
     pub is_document: bool,
 }
@@ -25,10 +30,12 @@ pub fn has_tree(kind: Kind) -> bool {
 }
 
 /// The first line of the tree of a document.
-pub fn heading(name: &str, kind: Kind, alloc: Global) -> Result<String, AllocError> {
-    let name = on_a_line(name, alloc)?;
+pub fn heading(name: &str, kind: Kind, alloc: Global) -> Result<String, AllocError>
+    ensures { IfOk result (λ t. IsLine (string_bytes t)) }
+{
     let title = title_of(kind);
-    format!(in alloc; "{name}: {title}\n")
+    let text = format!(in alloc; "{name}: {title}")?;
+    line_of(text.as_str(), alloc)
 }
 
 /// Adds a line of a tree: what stands before all lines of its level, a branch, the row and a note.
@@ -38,12 +45,14 @@ pub fn push_row(
     is_last: bool,
     row: &str,
     note: &str,
-) -> Result<(), AllocError> {
-    text.push_str(before)?;
-    text.push_str(if is_last { "└── " } else { "├── " })?;
-    text.push_str(row)?;
-    text.push_str(note)?;
-    text.push_str("\n")
+    alloc: Global,
+) -> Result<(), AllocError>
+    ensures { OnOk result ((line : List ℕ) × IsLine line × (string_bytes text.new ≡ string_bytes text.old ++ line)) }
+{
+    let branch = if is_last { "└── " } else { "├── " };
+    let shown = format!(in alloc; "{before}{branch}{row}{note}")?;
+    let line = line_of(shown.as_str(), alloc)?;
+    text.push_str(line.as_str())
 }
 
 /// What stands before the lines below a line.
@@ -94,14 +103,16 @@ fn add_child(
 fn child_of(member: &str, descriptor: &Value, alloc: Global) -> Result<Child, AllocError> {
     Ok(Child {
         row: row_of(member, descriptor, alloc)?,
-        digest: digest_of(descriptor, alloc)?,
+        digest: string_in(descriptor, "digest", alloc)?,
+        media_type: string_in(descriptor, "mediaType", alloc)?,
         is_document: member == "manifests",
     })
 }
 
-fn digest_of(descriptor: &Value, alloc: Global) -> Result<Option<String>, AllocError> {
-    match descriptor.get("digest").and_then(Value::as_str) {
-        Some(digest) => Ok(Some(String::from_str(alloc, digest)?)),
+/// The string under a name, if there is one.
+fn string_in(value: &Value, name: &str, alloc: Global) -> Result<Option<String>, AllocError> {
+    match value.get(name).and_then(Value::as_str) {
+        Some(text) => Ok(Some(String::from_str(alloc, text)?)),
         None => Ok(None),
     }
 }
@@ -116,11 +127,11 @@ fn row_of(member: &str, descriptor: &Value, alloc: Global) -> Result<String, All
 /// Adds the parts of a row that a descriptor has.
 fn push_parts(row: &mut String, descriptor: &Value, alloc: Global) -> Result<(), AllocError> {
     for name in ["mediaType", "digest"] {
-        push_member(row, " ", descriptor, name, alloc)?;
+        push_member(row, " ", descriptor, name)?;
     }
     push_size(row, descriptor, alloc)?;
     match descriptor.get("platform") {
-        Some(platform) => push_platform(row, platform, alloc),
+        Some(platform) => push_platform(row, platform),
         None => Ok(()),
     }
 }
@@ -131,13 +142,12 @@ fn push_member(
     mark: &str,
     value: &Value,
     name: &str,
-    alloc: Global,
 ) -> Result<bool, AllocError> {
     let Some(text) = value.get(name).and_then(Value::as_str) else {
         return Ok(false);
     };
     row.push_str(mark)?;
-    push_on_a_line(row, text, alloc)?;
+    row.push_str(text)?;
     Ok(true)
 }
 
@@ -161,10 +171,10 @@ fn word_of(member: &str) -> &'static str {
     }
 }
 
-fn push_platform(row: &mut String, platform: &Value, alloc: Global) -> Result<(), AllocError> {
+fn push_platform(row: &mut String, platform: &Value) -> Result<(), AllocError> {
     let mut mark = " ";
     for name in ["os", "architecture", "variant"] {
-        if push_member(row, mark, platform, name, alloc)? {
+        if push_member(row, mark, platform, name)? {
             mark = "/";
         }
     }

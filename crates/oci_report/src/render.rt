@@ -1,29 +1,14 @@
-//! How findings are written.
+//! How findings are written: each on a line of its own, in which nothing of a stranger ends the line or moves a terminal's cursor.
+ghost use Rattle.std.specs.Prelude.{IfOk, string_bytes};
+ghost use Rattle.oci_escape.specs.Escaped.{IsLine};
+
 use crate::finding::{Cause, Finding};
 use crate::place::Place;
 use crate::report::Report;
 use json::Writer;
+use oci_escape::line_of;
 use oci_rules::{Level, Rule};
 use std::alloc::{AllocError, Global};
-
-/// A text with each control character as `\u00XX`, so that it stays on its line.
-pub fn on_a_line(text: &str, alloc: Global) -> Result<String, AllocError> {
-    let mut line = String::new(alloc);
-    for c in text.chars() {
-        if c.is_control() {
-            push_escaped(&mut line, c as u32, alloc)?;
-        } else {
-            line.push(c)?;
-        }
-    }
-    Ok(line)
-}
-
-/// Adds the escape of the character with this code.
-fn push_escaped(line: &mut String, code: u32, alloc: Global) -> Result<(), AllocError> {
-    let escaped = format!(in alloc; "\\u{code:04x}")?;
-    line.push_str(escaped.as_str())
-}
 
 /// The word of a level.
 pub fn word_of(level: Level) -> &'static str {
@@ -44,22 +29,23 @@ fn rule_in<'a>(finding: &Finding<'a>) -> Option<&'a Rule<'a>> {
 }
 
 /// The line of a finding for people.
-pub fn line_of(
+pub fn finding_line(
     name: &str,
     finding: &Finding<'_>,
     place: Place,
     alloc: Global,
-) -> Result<String, AllocError> {
+) -> Result<String, AllocError>
+    ensures { IfOk result (λ t. IsLine (string_bytes t)) }
+{
     let mut text = place_text(name, place, alloc)?;
     push_finding(&mut text, finding, alloc)?;
-    Ok(text)
+    line_of(text.as_str(), alloc)
 }
 
 /// The beginning of a line: the file, the line and the column.
 fn place_text(name: &str, place: Place, alloc: Global) -> Result<String, AllocError> {
     let line = place.line;
     let column = place.column;
-    let name = on_a_line(name, alloc)?;
     format!(in alloc; "{name}:{line}:{column}: ")
 }
 
@@ -69,22 +55,12 @@ fn push_finding(text: &mut String, finding: &Finding<'_>, alloc: Global) -> Resu
         text.push_str("warning: ")?;
     }
     if !finding.pointer.is_empty() {
-        push_on_a_line(text, finding.pointer.as_str(), alloc)?;
+        text.push_str(finding.pointer.as_str())?;
         text.push_str(": ")?;
     }
-    push_message(text, finding, alloc)?;
-    push_mark(text, finding)
-}
-
-fn push_message(text: &mut String, finding: &Finding<'_>, alloc: Global) -> Result<(), AllocError> {
     let message = finding.message(alloc)?;
-    push_on_a_line(text, message.as_str(), alloc)
-}
-
-/// Adds a text as `on_a_line` shows it.
-pub fn push_on_a_line(line: &mut String, text: &str, alloc: Global) -> Result<(), AllocError> {
-    let shown = on_a_line(text, alloc)?;
-    line.push_str(shown.as_str())
+    text.push_str(message.as_str())?;
+    push_mark(text, finding)
 }
 
 /// Adds the name of the rule, with its level and section, if it has them.
@@ -94,7 +70,7 @@ fn push_mark(text: &mut String, finding: &Finding<'_>) -> Result<(), AllocError>
     if let Some(rule) = rule_in(finding) {
         push_requirement(text, rule)?;
     }
-    text.push_str("]\n")
+    text.push_str("]")
 }
 
 fn push_requirement(text: &mut String, rule: &Rule<'_>) -> Result<(), AllocError> {
@@ -122,7 +98,7 @@ fn push_lines(
 ) -> Result<(), AllocError> {
     let mut before = String::new(alloc);
     for finding in found {
-        let line = line_of(name, finding, report.place_of(finding), alloc)?;
+        let line = finding_line(name, finding, report.place_of(finding), alloc)?;
         push_new(lines, before.as_str(), line.as_str())?;
         before = line;
     }
@@ -196,47 +172,47 @@ fn put_requirement(out: &mut Writer, rule: &Rule<'_>) -> Result<(), AllocError> 
 }
 
 /// The lines of a report for programs: an object a line, errors before warnings, none that equals the one before it.
-pub fn objects_of(name: &str, report: &Report<'_>, alloc: Global) -> Result<Vec<u8>, AllocError> {
-    let mut lines = Vec::new(alloc);
+pub fn objects_of(name: &str, report: &Report<'_>, alloc: Global) -> Result<String, AllocError> {
+    let mut lines = String::new(alloc);
     push_objects(&mut lines, name, report, &report.errors, alloc)?;
     push_objects(&mut lines, name, report, &report.warnings, alloc)?;
     Ok(lines)
 }
 
 fn push_objects(
-    lines: &mut Vec<u8>,
+    lines: &mut String,
     name: &str,
     report: &Report<'_>,
     found: &Vec<Finding<'_>>,
     alloc: Global,
 ) -> Result<(), AllocError> {
-    let mut before = Vec::new(alloc);
+    let mut before = String::new(alloc);
     for finding in found {
-        let object = object_of(name, finding, report.place_of(finding), alloc)?;
-        push_new_object(lines, before.as_slice(), object.as_slice())?;
-        before = object;
+        let line = object_line(name, finding, report.place_of(finding), alloc)?;
+        push_new(lines, before.as_str(), line.as_str())?;
+        before = line;
     }
     Ok(())
 }
 
-/// The object of a finding.
-fn object_of(
+/// The line of a finding for programs: its object.
+fn object_line(
     name: &str,
     finding: &Finding<'_>,
     place: Place,
     alloc: Global,
-) -> Result<Vec<u8>, AllocError> {
+) -> Result<String, AllocError>
+    ensures { IfOk result (λ t. IsLine (string_bytes t)) }
+{
     let mut out = Writer::new(Vec::new(alloc));
     put_object(&mut out, name, finding, place, alloc)?;
-    Ok(out.into_inner())
+    json_line(out, alloc)
 }
 
-/// Adds an object and the end of its line, unless it equals the one before it.
-fn push_new_object(lines: &mut Vec<u8>, before: &[u8], object: &[u8]) -> Result<(), AllocError> {
-    if object == before {
-        return Ok(());
-    }
-    lines.extend_from_slice(object)?;
-    lines.push(b'\n')?;
-    Ok(())
+/// The line of the JSON text that was written. What is escaped in it stands in strings, so the text means the same.
+pub fn json_line(out: Writer, alloc: Global) -> Result<String, AllocError>
+    ensures { IfOk result (λ t. IsLine (string_bytes t)) }
+{
+    let text = String::from_utf8_lossy(alloc, out.into_inner().as_slice())?;
+    line_of(text.as_str(), alloc)
 }

@@ -1,7 +1,10 @@
 //! Findings as a log in SARIF 2.1.0 (OASIS), which code hosts show beside the lines.
+ghost use Rattle.std.specs.Prelude.{IfOk, string_bytes};
+ghost use Rattle.oci_escape.specs.Escaped.{IsLine};
+
 use crate::finding::Finding;
 use crate::place::Place;
-use crate::render::{number_member, severity_of, text_member};
+use crate::render::{json_line, number_member, severity_of, text_member};
 use crate::report::Report;
 use json::Writer;
 use std::alloc::{AllocError, Global};
@@ -53,13 +56,13 @@ impl Log {
         Ok(())
     }
 
-    /// The whole log.
-    pub fn finish(self) -> Result<Vec<u8>, AllocError> {
+    /// The whole log, a line.
+    pub fn finish(self, alloc: Global) -> Result<String, AllocError>
+        ensures { IfOk result (λ t. IsLine (string_bytes t)) }
+    {
         let Log { mut out } = self;
         end(&mut out)?;
-        let mut bytes = out.into_inner();
-        bytes.push(b'\n')?;
-        Ok(bytes)
+        json_line(out, alloc)
     }
 }
 

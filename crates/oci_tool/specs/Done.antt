@@ -1,5 +1,5 @@
 -- What a command has done, by its exit status.
-use Rattle.std.specs.Prelude.{◌≡◌, ◌⊎◌, ◌<◌, ℕ, List, length, true, false, Option, Some, None, IfSome, ⊤}
+use Rattle.std.specs.Prelude.{◌≡◌, ◌⊎◌, ◌<◌, ℕ, List, length, true, false, Option, Some, None, IsSome, IfSome, ⊤}
 use Rattle.std.specs.List.{All, HoldsAt}
 use Rattle.std.specs.Borrow.{Bor}
 use Rattle.std.specs.Io.KnownBytes.{Appends}
@@ -10,7 +10,7 @@ use Rattle.oci_tool.specs.declared.asked.Asked.{Asked}
 use Rattle.oci_tool.specs.declared.asked.Asked.TheVariants.{Check, Format, Compare, Reference, Digest, FileDigests, Pin, Tree, Rules, Schema}
 use Rattle.oci_check.specs.Checks.{IsRight, IsWrong}
 use Rattle.oci_tool.specs.Compared.{HoldSame, HoldUnequal}
-use Rattle.oci_tool.specs.Formats.{Formats, IsUnformatted}
+use Rattle.oci_tool.specs.Formats.{Formats, IsUnformatted, LosesNothing}
 use Rattle.oci_check.specs.declared.asked.Style.{Style}
 use Rattle.oci_check.specs.declared.asked.Style.TheVariants.{Text, Json, Sarif}
 use Rattle.oci_tool.specs.Refused.{IsNoReference, IsNoDigest, IsNoDescriptor, HasNone}
@@ -34,17 +34,18 @@ WroteReferences Sarif texts old new = AppendsEach AreReferenceLines texts old ne
 abbrev pub IsDone : (Kind → List Rule) → (List ℕ → Option (List ℕ)) → Option (List ℕ) → Option (List ℕ) → Asked → Type 0
 -- nothing is wrong with any file
 IsDone books holds old new (Check a) = All (λ f. IfSome (holds f.now) (IsRight books a)) a.files.now
--- the file is canonical, or its canonical form was written
+-- the file is canonical, or its canonical form was written; into a file only if no unknown member is left out of it, or that was asked for
 IsDone books holds old new (Format a) =
     (a.check ≡ true → IfSome (holds a.file.now) (λ bytes. Formats a.kind a.pretty (Some bytes) (λ text. text ≡ bytes)))
     × (a.check ≡ false → a.output ≡ None → Formats a.kind a.pretty (holds a.file.now) (Appends old new))
+    × (a.check ≡ false → IsSome a.output → a.drop_unknown ≡ false → IfSome (holds a.file.now) (LosesNothing a.kind))
 -- the two files hold the same document
 IsDone books holds old new (Compare a) = HoldSame a.kind (holds a.before.now) (holds a.after.now)
 -- each text is a reference, or a digest, and its parts were written
 IsDone books holds old new (Reference style texts) = WroteReferences style texts.now old new
 IsDone books holds old new (Digest texts) = AppendsEach AreDigestLines texts.now old new
 -- the digests of the files were written
-IsDone books holds old new (FileDigests algorithm files) = AppendsEach (λ f. IsFileLine algorithm (holds f.now)) files.now old new
+IsDone books holds old new (FileDigests algorithm files) = AppendsEach (λ f. IsFileLine algorithm (holds f.now) f.now) files.now old new
 -- the reference with the digest of the descriptor was written
 IsDone books holds old new (Pin text file) = WritesPinned text.now (holds file.now) (Appends old new)
 IsDone books holds old new (Tree file) = ⊤

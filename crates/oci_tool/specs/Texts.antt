@@ -4,6 +4,7 @@ use Rattle.std.specs.Borrow.{Bor}
 use Rattle.oci_content.specs.Content.{digest_text}
 use Rattle.oci_content.specs.declared.algorithm.Algorithm.{Algorithm}
 use Rattle.oci_doc_run.specs.Outputs.{reference_lines, digest_lines}
+use Rattle.oci_escape.specs.Escaped.{escaped}
 use Rattle.oci_reference.specs.Accepted.{Accepted}
 use Rattle.oci_reference.specs.Parts.{Parts}
 use Rattle.oci_text_base.specs.Digest.{IsDigest}
@@ -20,10 +21,10 @@ AreReferenceLines text lines = (parts : Parts) × Accepted text.now parts × (li
 abbrev pub AreDigestLines : Bor (List ℕ) → List ℕ → Type 0
 AreDigestLines text lines = (algorithm : List ℕ) × (encoded : List ℕ) × IsDigest text.now algorithm encoded × (lines ≡ digest_lines algorithm encoded)
 
--- the line of a file: the digest of its bytes, where they are known, and behind two spaces its name as it is shown
-abbrev pub IsFileLine : Algorithm → Option (List ℕ) → List ℕ → Type 0
-IsFileLine algorithm held line =
-    (digest : List ℕ) × (shown : List ℕ) × IfSome held (λ bytes. digest ≡ digest_text algorithm bytes) × (line ≡ digest ++ (codes "  " ++ (shown ++ 10 ∷ [])))
+-- the line of a file of this name (third): the digest of its bytes, where they are known, and behind two spaces its name, escaped
+abbrev pub IsFileLine : Algorithm → Option (List ℕ) → List ℕ → List ℕ → Type 0
+IsFileLine algorithm held name line =
+    (digest : List ℕ) × IfSome held (λ bytes. digest ≡ digest_text algorithm bytes) × (line ≡ digest ++ (codes "  " ++ (escaped name ++ 10 ∷ [])))
 
 -- the text is what is written of each item, one behind the other
 abbrev pub Joins : {A : Type 0} → (A → List ℕ → Type 0) → List A → List ℕ → Type 0

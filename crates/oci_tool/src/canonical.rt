@@ -1,11 +1,11 @@
 //! The command `fmt`.
-ghost use Rattle.std.specs.Prelude.{◌≡◌, ◌≢◌, true, false, Some, None, IfOk, IfErr, IfSome, string_bytes};
+ghost use Rattle.std.specs.Prelude.{◌≡◌, ◌≢◌, true, false, Some, None, IsSome, IfOk, IfErr, IfSome, string_bytes};
 ghost use Rattle.std.specs.Io.KnownBytes.{Appends, Keeps};
 ghost use Rattle.oci_json_io.specs.Engines.{WritesDocument};
 ghost use Rattle.oci_schema.specs.Normalizes.{WritesPretty};
 ghost use Rattle.oci_kinds.specs.Kinds.{shape_of};
-ghost use Rattle.oci_tool.specs.Formats.{Formats, HasNoForm, IsSerDe, IsUnformatted, IsUnformattedAs};
-ghost use Rattle.oci_json_io.specs.Engines.{MeansBytes};
+ghost use Rattle.oci_tool.specs.Formats.{AllListed, Formats, HasNoForm, IsMisformed, IsSerDe, IsUnformatted, IsUnformattedAs, LosesNothing};
+ghost use Rattle.oci_json_io.specs.Engines.{MeansBytes, ReadsAs};
 ghost use Rattle.oci_json_model.specs.Plain.{Plain};
 ghost use Rattle.oci_json_model.specs.Value.{value as json_of};
 ghost use Rattle.oci_json_model.specs.Writable.{Writable};
@@ -15,12 +15,13 @@ ghost use Rattle.oci_tool.specs.Done.{IsStatus};
 use crate::asked::Format;
 use crate::contents::digest_line;
 use crate::store::Store;
-use crate::texts::{complain, complain_of, is_wrong};
+use crate::texts::{complain, complain_of, is_wrong, report_findings};
+use oci_check::examine::unlisted_members;
 use oci_check::inspect::kind_of;
 use oci_content::Algorithm;
+use oci_escape::line_of;
 use oci_json_io::write_text;
 use oci_kinds::Kind;
-use oci_report::render::on_a_line;
 use oci_schema::normal_value_from_reader;
 use oci_schema::place::{under_index, under_name};
 use oci_schemas::OciRecords;
@@ -28,6 +29,10 @@ use oci_text_base::{OciSpecError, Result};
 use serde_json::{Map, Value};
 use std::alloc::{AllocError, Global};
 use std::io::Write;
+
+/// Why no file was written.
+const NOT_WRITTEN: &str =
+    "not written, since the members above would be lost; --drop-unknown leaves them out";
 
 /// The canonical form of a document.
 #[derive(Drop)]
@@ -90,6 +95,7 @@ pub fn format<S: Store, W: Write, E: Write>(
     ensures untouched { asked.now.check ≡ true → Keeps (W.contents writer.old) (W.contents writer.new) × (S.holds store.new ≡ S.holds store.old) }
     ensures canonical { IfOk result (λ s. s ≡ 0 → asked.now.check ≡ true → IfSome (S.holds store.old asked.now.file.now) (λ bytes. Formats asked.now.kind asked.now.pretty (Some bytes) (λ t. t ≡ bytes))) }
     ensures written { IfOk result (λ s. s ≡ 0 → asked.now.check ≡ false → asked.now.output ≡ None → Formats asked.now.kind asked.now.pretty (S.holds store.old asked.now.file.now) (Appends (W.contents writer.old) (W.contents writer.new))) }
+    ensures kept { IfOk result (λ s. s ≡ 0 → asked.now.check ≡ false → IsSome asked.now.output → asked.now.drop_unknown ≡ false → IfSome (S.holds store.old asked.now.file.now) (LosesNothing asked.now.kind)) }
     ensures refused { IfOk result (λ s. s ≡ 1 → IfSome (S.holds store.old asked.now.file.now) (IsUnformatted asked.now)) }
 {
     match store.read(alloc, asked.file) {
@@ -113,6 +119,7 @@ fn format_bytes<S: Store, W: Write, E: Write>(
     ensures untouched { asked.now.check ≡ true → Keeps (W.contents writer.old) (W.contents writer.new) × (S.holds store.new ≡ S.holds store.old) }
     ensures canonical { IfOk result (λ s. s ≡ 0 → asked.now.check ≡ true → Formats asked.now.kind asked.now.pretty (Some bytes.now) (λ t. t ≡ bytes.now)) }
     ensures written { IfOk result (λ s. s ≡ 0 → asked.now.check ≡ false → asked.now.output ≡ None → Formats asked.now.kind asked.now.pretty (Some bytes.now) (Appends (W.contents writer.old) (W.contents writer.new))) }
+    ensures kept { IfOk result (λ s. s ≡ 0 → asked.now.check ≡ false → IsSome asked.now.output → asked.now.drop_unknown ≡ false → LosesNothing asked.now.kind bytes.now) }
     ensures refused { IfOk result (λ s. s ≡ 1 → IsUnformatted asked.now bytes.now) }
 {
     let wrong = is_wrong(asked.kind, asked.file, bytes, alloc, errors)?;
@@ -121,9 +128,60 @@ fn format_bytes<S: Store, W: Write, E: Write>(
     }
     let before = Value::from_slice(alloc, bytes)?;
     match kind_of(asked.kind, asked.file, &before) {
-        Some(kind) => format_as(kind, asked, &before, bytes, alloc, store, writer, errors),
+        Some(kind) => format_kept(kind, asked, &before, bytes, alloc, store, writer, errors),
         None => Ok(1),
     }
+}
+
+/// The same of a document of this kind, of which this is the value, if no member is lost unasked.
+fn format_kept<S: Store, W: Write, E: Write>(
+    kind: Kind,
+    asked: &Format<'_>,
+    before: &Value,
+    bytes: &[u8],
+    alloc: Global,
+    store: &mut S,
+    writer: &mut W,
+    errors: &mut E,
+) -> Result<u8>
+    ensures status { IfOk result IsStatus }
+    ensures untouched { asked.now.check ≡ true → Keeps (W.contents writer.old) (W.contents writer.new) × (S.holds store.new ≡ S.holds store.old) }
+    ensures canonical { IfOk result (λ s. s ≡ 0 → asked.now.check ≡ true → Formats (Some kind) asked.now.pretty (Some bytes.now) (λ t. t ≡ bytes.now)) }
+    ensures written { IfOk result (λ s. s ≡ 0 → asked.now.check ≡ false → asked.now.output ≡ None → Formats (Some kind) asked.now.pretty (Some bytes.now) (Appends (W.contents writer.old) (W.contents writer.new))) }
+    ensures kept { IfOk result (λ s. s ≡ 0 → asked.now.check ≡ false → IsSome asked.now.output → asked.now.drop_unknown ≡ false → AllListed kind (view before.now)) }
+    ensures refused { ReadsAs bytes.now (view before.now) → IfOk result (λ s. s ≡ 1 → IsUnformattedAs kind asked.now bytes.now) }
+{
+    if would_lose(kind, asked, before, bytes, alloc, errors)? {
+        return Ok(1);
+    }
+    format_as(kind, asked, before, bytes, alloc, store, writer, errors)
+}
+
+/// Whether members would be left out of a file unasked, which is said on standard error.
+fn would_lose<E: Write>(
+    kind: Kind,
+    asked: &Format<'_>,
+    before: &Value,
+    bytes: &[u8],
+    alloc: Global,
+    errors: &mut E,
+) -> Result<bool>
+    ensures lost { IfOk result (λ b. b ≡ true → IsSome asked.now.output × (asked.now.drop_unknown ≡ false) × (¬ AllListed kind (view before.now))) }
+    ensures kept { IfOk result (λ b. b ≡ false → asked.now.check ≡ false → IsSome asked.now.output → asked.now.drop_unknown ≡ false → AllListed kind (view before.now)) }
+{
+    let Some(output) = asked.output else {
+        return Ok(false);
+    };
+    if asked.check || asked.drop_unknown {
+        return Ok(false);
+    }
+    let found = unlisted_members(kind, before, bytes, alloc)?;
+    if found.errors.is_empty() {
+        return Ok(false);
+    }
+    report_findings(asked.file, &found, alloc, errors)?;
+    complain_of(output, &NOT_WRITTEN, alloc, errors);
+    Ok(true)
 }
 
 /// The same of a document of this kind, of which this is the value.
@@ -141,7 +199,7 @@ fn format_as<S: Store, W: Write, E: Write>(
     ensures untouched { asked.now.check ≡ true → Keeps (W.contents writer.old) (W.contents writer.new) × (S.holds store.new ≡ S.holds store.old) }
     ensures canonical { IfOk result (λ s. s ≡ 0 → asked.now.check ≡ true → Formats (Some kind) asked.now.pretty (Some bytes.now) (λ t. t ≡ bytes.now)) }
     ensures written { IfOk result (λ s. s ≡ 0 → asked.now.check ≡ false → asked.now.output ≡ None → Formats (Some kind) asked.now.pretty (Some bytes.now) (Appends (W.contents writer.old) (W.contents writer.new))) }
-    ensures refused { IfOk result (λ s. s ≡ 1 → IsUnformattedAs kind asked.now bytes.now) }
+    ensures refused { IfOk result (λ s. s ≡ 1 → IsMisformed kind asked.now bytes.now) }
 {
     match canonical_form(kind, asked.pretty, bytes, alloc) {
         Ok(after) => {
@@ -283,11 +341,12 @@ fn push_dropped(
     lines: &mut String,
     alloc: Global,
 ) -> std::result::Result<(), AllocError> {
-    let shown = on_a_line(place, alloc)?;
-    match new_name(name, kept) {
-        Some(other) => push_parts(lines, "renamed: ", shown.as_str(), " to ", other),
-        None => push_parts(lines, "dropped: ", shown.as_str(), "", ""),
-    }
+    let text = match new_name(name, kept) {
+        Some(other) => format!(in alloc; "renamed: {place} to {other}")?,
+        None => format!(in alloc; "dropped: {place}")?,
+    };
+    let line = line_of(text.as_str(), alloc)?;
+    lines.push_str(line.as_str())
 }
 
 /// The name under which a member is read, where it is another one.
@@ -297,19 +356,4 @@ fn new_name(name: &str, kept: &Map<String, Value>) -> Option<&'static str> {
         "os_features" if kept.contains_key("os.features") => Some("os.features"),
         _ => None,
     }
-}
-
-/// Adds a line of four parts.
-fn push_parts(
-    lines: &mut String,
-    first: &str,
-    second: &str,
-    third: &str,
-    fourth: &str,
-) -> std::result::Result<(), AllocError> {
-    lines.push_str(first)?;
-    lines.push_str(second)?;
-    lines.push_str(third)?;
-    lines.push_str(fourth)?;
-    lines.push_str("\n")
 }

@@ -46,7 +46,7 @@ pub fn check<S: Store, B: RuleBooks, W: Write, E: Write>(
         _ => None,
     };
     let tally = check_files(books, asked, alloc, store, &mut log, writer, errors)?;
-    close(log, asked.quiet, writer)?;
+    close(log, asked.quiet, alloc, writer)?;
     Ok(status_of(tally))
 }
 
@@ -187,7 +187,7 @@ fn tell<W: Write>(
         }
         Style::Json => {
             let lines = objects_of(name, found, alloc)?;
-            write_text(lines.as_slice(), writer)?;
+            write_text(lines.as_bytes(), writer)?;
         }
         Style::Sarif => {
             if let Some(log) = log {
@@ -199,11 +199,11 @@ fn tell<W: Write>(
 }
 
 /// Writes the log, if there is one.
-fn close<W: Write>(log: Option<Log>, quiet: bool, writer: &mut W) -> Result<()> {
+fn close<W: Write>(log: Option<Log>, quiet: bool, alloc: Global, writer: &mut W) -> Result<()> {
     if let Some(log) = log {
-        let bytes = log.finish()?;
+        let text = log.finish(alloc)?;
         if !quiet {
-            write_text(bytes.as_slice(), writer)?;
+            write_text(text.as_bytes(), writer)?;
         }
     }
     Ok(())

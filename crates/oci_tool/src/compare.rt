@@ -1,7 +1,8 @@
 //! The command `diff`.
-ghost use Rattle.std.specs.Prelude.{◌≡◌, Some, IfOk};
+ghost use Rattle.std.specs.Prelude.{◌≡◌, ◌++◌, ℕ, List, Some, IfOk, OnOk};
 ghost use Rattle.serde_json.specs.View.{view};
 ghost use Rattle.oci_diff.specs.Same.{AreSame};
+ghost use Rattle.oci_escape.specs.Escaped.{IsLine};
 ghost use Rattle.oci_tool.specs.Compared.{HoldSame, HoldUnequal, IsSide};
 ghost use Rattle.oci_tool.specs.Done.{IsStatus};
 
@@ -11,10 +12,10 @@ use crate::store::Store;
 use crate::texts::{complain, complain_of, is_wrong};
 use oci_check::inspect::kind_of;
 use oci_diff::{Change, Difference, differences};
+use oci_escape::line_of;
 use oci_json_io::write_text;
 use oci_kinds::Kind;
 use oci_report::kinds::title_of;
-use oci_report::render::on_a_line;
 use oci_text_base::Result;
 use serde_json::Value;
 use std::alloc::{AllocError, Global};
@@ -69,11 +70,10 @@ fn say_kinds<E: Write>(
     alloc: Global,
     errors: &mut E,
 ) -> Result<()> {
-    let before = on_a_line(asked.before, alloc)?;
-    let after = on_a_line(asked.after, alloc)?;
+    let (before, after) = (asked.before, asked.after);
     let (first, second) = (title_of(kind), title_of(other));
-    let line = format!(in alloc; "ciderglen: {before} is {first}, and {after} is {second}\n")?;
-    complain(line.as_str(), errors);
+    let text = format!(in alloc; "ciderglen: {before} is {first}, and {after} is {second}")?;
+    complain(line_of(text.as_str(), alloc)?.as_str(), errors);
     Ok(())
 }
 
@@ -155,14 +155,20 @@ fn push_line(
     difference: &Difference<'_>,
     alloc: Global,
 ) -> std::result::Result<(), AllocError> {
-    let at = on_a_line(difference.pointer.as_str(), alloc)?;
+    let at = difference.pointer.as_str();
     match difference.change {
-        Change::Added(value) => push_one_line(lines, "+", at.as_str(), value, alloc),
-        Change::Removed(value) => push_one_line(lines, "-", at.as_str(), value, alloc),
-        Change::Changed(before, after) => {
-            push_both_line(lines, at.as_str(), before, after, alloc)
-        }
+        Change::Added(value) => push_one_line(lines, "+", at, value, alloc),
+        Change::Removed(value) => push_one_line(lines, "-", at, value, alloc),
+        Change::Changed(before, after) => push_both_line(lines, at, before, after, alloc),
     }
+}
+
+/// Adds the line of a text.
+fn push_text(lines: &mut Vec<u8>, text: &str, alloc: Global) -> std::result::Result<(), AllocError>
+    ensures { OnOk result ((line : List ℕ) × IsLine line × (lines.new.items ≡ lines.old.items ++ line)) }
+{
+    let line = line_of(text, alloc)?;
+    lines.extend_from_slice(line.as_bytes())
 }
 
 /// Adds the line of a value that is on one side alone.
@@ -174,8 +180,8 @@ fn push_one_line(
     alloc: Global,
 ) -> std::result::Result<(), AllocError> {
     let value = value.to_string(alloc)?;
-    let line = format!(in alloc; "{mark} {at}: {value}\n")?;
-    lines.extend_from_slice(line.as_bytes())
+    let text = format!(in alloc; "{mark} {at}: {value}")?;
+    push_text(lines, text.as_str(), alloc)
 }
 
 fn push_both_line(
@@ -187,8 +193,8 @@ fn push_both_line(
 ) -> std::result::Result<(), AllocError> {
     let before = before.to_string(alloc)?;
     let after = after.to_string(alloc)?;
-    let line = format!(in alloc; "~ {at}: {before} -> {after}\n")?;
-    lines.extend_from_slice(line.as_bytes())
+    let text = format!(in alloc; "~ {at}: {before} -> {after}")?;
+    push_text(lines, text.as_str(), alloc)
 }
 
 /// Adds the object of a difference for programs.
@@ -221,10 +227,10 @@ fn push_one_object(
     alloc: Global,
 ) -> std::result::Result<(), AllocError> {
     let value = value.to_string(alloc)?;
-    let line = format!(in alloc;
-        "{{\"change\":\"{change}\",\"pointer\":{at},\"{side}\":{value}}}\n"
+    let text = format!(in alloc;
+        "{{\"change\":\"{change}\",\"pointer\":{at},\"{side}\":{value}}}"
     )?;
-    lines.extend_from_slice(line.as_bytes())
+    push_text(lines, text.as_str(), alloc)
 }
 
 fn push_both_object(
@@ -236,10 +242,10 @@ fn push_both_object(
 ) -> std::result::Result<(), AllocError> {
     let before = before.to_string(alloc)?;
     let after = after.to_string(alloc)?;
-    let line = format!(in alloc;
-        "{{\"change\":\"changed\",\"pointer\":{at},\"before\":{before},\"after\":{after}}}\n"
+    let text = format!(in alloc;
+        "{{\"change\":\"changed\",\"pointer\":{at},\"before\":{before},\"after\":{after}}}"
     )?;
-    lines.extend_from_slice(line.as_bytes())
+    push_text(lines, text.as_str(), alloc)
 }
 
 /// A text as JSON.

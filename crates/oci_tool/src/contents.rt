@@ -2,14 +2,15 @@
 ghost use Rattle.std.specs.Prelude.{◌≡◌, ◌++◌, ◌∷◌, [], List, ℕ, true, codes, IfOk, string_bytes};
 ghost use Rattle.std.specs.Io.KnownBytes.{Appends};
 ghost use Rattle.oci_content.specs.Content.{checksum_of, checksum_text};
+ghost use Rattle.oci_escape.specs.Escaped.{escaped};
 ghost use Rattle.oci_tool.specs.Done.{IsStatus, AppendsEach};
 ghost use Rattle.oci_tool.specs.Texts.{IsFileLine};
 
 use crate::store::Store;
 use crate::texts::complain_of;
 use oci_content::{Algorithm, Checksum, digest_of};
+use oci_escape::escaped;
 use oci_json_io::write_text;
-use oci_report::render::on_a_line;
 use oci_text_base::Result;
 use std::alloc::{AllocError, Global};
 use std::io::Write;
@@ -25,7 +26,7 @@ pub fn file_digests<S: Store, W: Write, E: Write>(
     errors: &mut E,
 ) -> Result<u8>
     ensures status { IfOk result IsStatus }
-    ensures done { IfOk result (λ s. s ≡ 0 → AppendsEach (λ f. IsFileLine algorithm (S.holds store.old f.now)) files.now (W.contents writer.old) (W.contents writer.new)) }
+    ensures done { IfOk result (λ s. s ≡ 0 → AppendsEach (λ f. IsFileLine algorithm (S.holds store.old f.now) f.now) files.now (W.contents writer.old) (W.contents writer.new)) }
     ensures read { IfOk result (λ s. ¬ (s ≡ 1)) }
 {
     let mut unread = false;
@@ -46,7 +47,7 @@ fn file_digest<S: Store, W: Write, E: Write>(
     writer: &mut W,
     errors: &mut E,
 ) -> Result<bool>
-    ensures line { IfOk result (λ b. b ≡ true → (line : List ℕ) × IsFileLine algorithm (S.holds store.old name.now) line × Appends (W.contents writer.old) (W.contents writer.new) line) }
+    ensures line { IfOk result (λ b. b ≡ true → (line : List ℕ) × IsFileLine algorithm (S.holds store.old name.now) name.now line × Appends (W.contents writer.old) (W.contents writer.new) line) }
     ensures kept { S.holds store.new ≡ S.holds store.old }
 {
     match store.checksum(algorithm, name) {
@@ -69,7 +70,7 @@ pub fn digest_line(
     bytes: &[u8],
     alloc: Global,
 ) -> std::result::Result<String, AllocError>
-    ensures { IfOk result (λ t. (shown : List ℕ) × (string_bytes t ≡ checksum_text (checksum_of algorithm bytes.now) ++ (codes "  " ++ (shown ++ 10 ∷ [])))) }
+    ensures { IfOk result (λ t. string_bytes t ≡ checksum_text (checksum_of algorithm bytes.now) ++ (codes "  " ++ (escaped name.now ++ 10 ∷ []))) }
 {
     checksum_line(&digest_of(algorithm, bytes), name, alloc)
 }
@@ -79,10 +80,10 @@ fn checksum_line(
     name: &str,
     alloc: Global,
 ) -> std::result::Result<String, AllocError>
-    ensures { IfOk result (λ t. (shown : List ℕ) × (string_bytes t ≡ checksum_text checksum.now ++ (codes "  " ++ (shown ++ 10 ∷ [])))) }
+    ensures { IfOk result (λ t. string_bytes t ≡ checksum_text checksum.now ++ (codes "  " ++ (escaped name.now ++ 10 ∷ []))) }
 {
     let mut line = checksum.text(alloc)?;
-    let shown = on_a_line(name, alloc)?;
+    let shown = escaped(name, alloc)?;
     line.push_str("  ")?;
     line.push_str(shown.as_str())?;
     line.push_str("\n")?;

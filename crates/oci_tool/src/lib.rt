@@ -16,4 +16,4 @@ pub mod texts;
 pub use asked::{Asked, Check, Compare, Format, Style, Tree, Unknown};
 pub use oci_check::RuleBooks;
 pub use program::run;
-pub use store::Store;
+pub use store::{Presence, Store};

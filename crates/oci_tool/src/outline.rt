@@ -3,24 +3,27 @@ ghost use Rattle.std.specs.Prelude.{IfOk};
 ghost use Rattle.oci_tool.specs.Done.{IsStatus};
 
 use crate::asked::Tree;
-use crate::store::Store;
-use crate::texts::{complain, complain_of, is_wrong};
+use crate::store::{Presence, Store};
+use crate::texts::{complain_of, is_wrong};
 use oci_check::inspect::kind_of;
 use oci_json_io::write_text;
 use oci_kinds::Kind;
-use oci_layout::blob_path;
+use oci_layout::{Kind as ContentKind, blob_path, read_document};
 use oci_report::outline::{Child, below, children_of, has_tree, heading, push_row};
 use oci_report::title_of;
 use oci_text::Digest;
 use oci_text_base::Result;
 use serde_json::Value;
 use std::alloc::{AllocError, Global};
-use std::io::Write;
+use std::io::{ErrorKind, Write};
 
 /// How many lines are shown at most, and how deep: a stranger's documents may claim one another.
 const ROWS: usize = 100000;
 
 const DEPTH: usize = 16;
+
+/// How large a document may be, which is what registries have to take: 4 MiB (distribution specification, "Pushing Manifests").
+const LIMIT: u64 = 4194304;
 
 /// A line that is still to be drawn.
 #[derive(Drop)]
@@ -31,8 +34,9 @@ struct Row {
     depth: usize,
 }
 
-/// Writes a document as a tree, and the documents in its image layout below their descriptors. Returns 0 if that was done and nothing is
-/// missing, 1 if the document is invalid or of a kind that has no tree or something is missing, and 3 if the document could not be read.
+/// Writes a document as a tree, and the documents in its image layout below their descriptors. Documents are regular files of at most
+/// 4 MiB. Returns 0 if that was done, 1 if the document is invalid or of a kind that has no tree, or if a content of the layout is marked
+/// as missing, unreadable, too large or no document of its media type, and 3 if the document could not be read.
 pub fn tree<S: Store, W: Write, E: Write>(
     asked: &Tree<'_>,
     alloc: Global,
@@ -42,7 +46,7 @@ pub fn tree<S: Store, W: Write, E: Write>(
 ) -> Result<u8>
     ensures { IfOk result IsStatus }
 {
-    match store.read(alloc, asked.file) {
+    match store.read_document(alloc, asked.file, LIMIT) {
         Ok(bytes) => tree_of_bytes(asked, bytes.as_slice(), alloc, store, writer, errors),
         Err(fault) => {
             complain_of(asked.file, &fault, alloc, errors);
@@ -94,8 +98,8 @@ fn tree_of_value<S: Store, W: Write, E: Write>(
 
 fn say_no_tree<E: Write>(name: &str, kind: Kind, alloc: Global, errors: &mut E) -> Result<()> {
     let title = title_of(kind);
-    let line = format!(in alloc; "ciderglen: {name}: {title} has no tree\n")?;
-    complain(line.as_str(), errors);
+    let text = format!(in alloc; "{title} has no tree")?;
+    complain_of(name, &text, alloc, errors);
     Ok(())
 }
 
@@ -144,10 +148,7 @@ fn draw_row<S: Store>(
 ) -> Result<bool> {
     match path_of(layout, row, alloc)? {
         Some(path) => draw_at(path.as_str(), row, rows, alloc, store, text),
-        None => {
-            draw_line(row, "", text)?;
-            Ok(true)
-        }
+        None => draw_marked(row, "", alloc, text),
     }
 }
 
@@ -160,41 +161,71 @@ fn draw_at<S: Store>(
     store: &mut S,
     text: &mut String,
 ) -> Result<bool> {
-    if !store.has(alloc, path) {
-        draw_line(row, " (missing)", text)?;
-        return Ok(false);
+    let kind = kind_read(row);
+    if kind.schema().is_none() {
+        return draw_marked(row, mark_of(store.presence(alloc, path)), alloc, text);
     }
-    draw_line(row, "", text)?;
-    if row.child.is_document && row.depth < DEPTH {
-        push_below(row, path, rows, alloc, store)?;
+    match store.read_document(alloc, path, LIMIT) {
+        Ok(bytes) => draw_document(kind, bytes.as_slice(), row, rows, alloc, text),
+        Err(fault) => draw_marked(row, mark_of_fault(fault.kind()), alloc, text),
     }
-    Ok(true)
 }
 
-fn draw_line(row: &Row, note: &str, text: &mut String) -> std::result::Result<(), AllocError> {
+/// The kind of documents as which the content of a row is read, to be drawn below it.
+fn kind_read(row: &Row) -> ContentKind {
+    match &row.child.media_type {
+        Some(media_type) if row.child.is_document && row.depth < DEPTH => {
+            ContentKind::of_media_type(media_type.as_str())
+        }
+        _ => ContentKind::Opaque,
+    }
+}
+
+/// Draws the row of a document with these bytes, and adds those below it.
+fn draw_document(
+    kind: ContentKind,
+    bytes: &[u8],
+    row: &Row,
+    rows: &mut Vec<Row>,
+    alloc: Global,
+    text: &mut String,
+) -> Result<bool> {
+    if read_document(alloc, kind, bytes)?.fault.is_some() {
+        return draw_marked(row, " (no document of its media type)", alloc, text);
+    }
+    let value = Value::from_slice(alloc, bytes)?;
+    push_inner(row, &value, rows, alloc)?;
+    draw_marked(row, "", alloc, text)
+}
+
+/// Draws a row with a mark, and returns whether there is none.
+fn draw_marked(row: &Row, mark: &str, alloc: Global, text: &mut String) -> Result<bool> {
     push_row(
         text,
         row.before.as_str(),
         row.is_last,
         row.child.row.as_str(),
-        note,
-    )
+        mark,
+        alloc,
+    )?;
+    Ok(mark.is_empty())
 }
 
-/// Adds the rows below a document of a layout; one that cannot be read has none.
-fn push_below<S: Store>(
-    row: &Row,
-    path: &str,
-    rows: &mut Vec<Row>,
-    alloc: Global,
-    store: &mut S,
-) -> Result<()> {
-    let Ok(bytes) = store.read(alloc, path) else {
-        return Ok(());
-    };
-    match Value::from_slice(alloc, bytes.as_slice()) {
-        Ok(value) => push_inner(row, &value, rows, alloc),
-        Err(_) => Ok(()),
+/// The mark of a content that is not read.
+fn mark_of(presence: Presence) -> &'static str {
+    match presence {
+        Presence::Missing => " (missing)",
+        Presence::Unreadable => " (unreadable)",
+        Presence::File => "",
+    }
+}
+
+/// The mark of a document that could not be read.
+fn mark_of_fault(kind: ErrorKind) -> &'static str {
+    match kind {
+        ErrorKind::NotFound => " (missing)",
+        ErrorKind::FileTooLarge => " (too large)",
+        _ => " (unreadable)",
     }
 }
 

@@ -6,6 +6,17 @@ use oci_content::{Algorithm, Checksum};
 use std::alloc::Global;
 use std::io;
 
+/// What there is under a name.
+#[derive(Clone, Copy, Debug, PartialEq, Eq)]
+pub enum Presence {
+    /// Nothing.
+    Missing,
+    /// Something that is no regular file, or that nothing is known of.
+    Unreadable,
+    /// A regular file.
+    File,
+}
+
 /// Files by name. The name `-` is that of standard input.
 pub trait Store {
     /// The bytes under a name, where they are known.
@@ -21,8 +32,12 @@ pub trait Store {
         ensures bytes { IfOk result (λ c. IfSome (holds self.old name.now) (λ bytes. c ≡ checksum_of algorithm bytes)) }
         ensures kept { holds self.new ≡ holds self.old };
 
-    /// Whether there is a file of this name.
-    fn has(&mut self, alloc: Global, name: &str) -> bool;
+    /// Reads a document, all bytes of a regular file, of which there are `limit` at most. Fails if there are more, if it is no regular
+    /// file, as a named pipe, or if it cannot be read.
+    fn read_document(&mut self, alloc: Global, name: &str, limit: u64) -> io::Result<Vec<u8>>;
+
+    /// Whether there is something of this name, and whether it is a regular file.
+    fn presence(&mut self, alloc: Global, name: &str) -> Presence;
 
     /// Puts these bytes under a name, in place of all that was there; nothing else is changed. Fails if they cannot be written, and
     /// then what was there is unchanged if the system allows.

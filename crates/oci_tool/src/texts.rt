@@ -1,10 +1,11 @@
 //! The commands on references and digests, and what is said on standard error.
-ghost use Rattle.std.specs.Prelude.{◌≡◌, ◌⊎◌, true, false, [], Some, IfOk, IfSome};
+ghost use Rattle.std.specs.Prelude.{◌≡◌, ◌⊎◌, true, false, [], Some, IfOk, IfSome, string_bytes};
 ghost use Rattle.std.specs.List.{All};
 ghost use Rattle.std.specs.Io.KnownBytes.{Appends};
 ghost use Rattle.oci_json_io.specs.Engines.{MeansBytes};
 ghost use Rattle.oci_json_model.specs.Plain.{Plain};
 ghost use Rattle.oci_kinds.specs.Kinds.{shape_of};
+ghost use Rattle.oci_escape.specs.Escaped.{IsLine};
 ghost use Rattle.oci_doc_run.specs.Commands.{asked as asked_of, pin};
 ghost use Rattle.oci_doc_run.specs.Outputs.{Writes, WritesPinned};
 ghost use Rattle.oci_tool.specs.Done.{IsStatus, AppendsEach, WroteReferences};
@@ -16,12 +17,13 @@ use crate::store::Store;
 use json::Writer;
 use oci_check::inspect::inspect;
 use oci_doc_run::{Command, Refusal};
+use oci_escape::line_of;
 use oci_json_io::write_text;
 use oci_kinds::Kind;
 use oci_reference::Reference;
 use oci_reference_scan::ParseError;
 use oci_report::Report;
-use oci_report::render::{lines_of, on_a_line, text_member};
+use oci_report::render::{lines_of, text_member};
 use oci_text_base::{OciSpecError, Result};
 use std::alloc::{AllocError, Global};
 use std::io::Write;
@@ -49,11 +51,11 @@ fn line_about<D: fmt::Display>(
     name: &str,
     fault: &D,
     alloc: Global,
-) -> std::result::Result<String, AllocError> {
+) -> std::result::Result<String, AllocError>
+    ensures { IfOk result (λ t. IsLine (string_bytes t)) }
+{
     let text = format!(in alloc; "ciderglen: {name}: {fault}")?;
-    let mut line = on_a_line(text.as_str(), alloc)?;
-    line.push('\n')?;
-    Ok(line)
+    line_of(text.as_str(), alloc)
 }
 
 /// Says what is wrong with a file on standard error.
