@@ -1,7 +1,7 @@
 //! Which kind of document a value is.
 use crate::kinds::{KINDS, title_of};
 use json::Element;
-use oci_json_tape::{find, items, members, number, text};
+use oci_json_tape::{find, text};
 use oci_kinds::Kind;
 use oci_schema_types::{Member, Part, Records, Schema};
 use oci_schemas::OciRecords;
@@ -17,35 +17,18 @@ pub enum Detected {
     Open,
 }
 
-/// What the value of a member is.
-#[derive(Clone, Copy, Debug, PartialEq, Eq)]
-pub enum Form {
-    String,
-    Number,
-    Array,
-    Object,
-    /// A boolean or null.
-    Other,
-}
-
 /// A document whose members are looked up by their names.
 pub trait Document {
-    /// What the member of this name is, if the document is an object that has one.
-    fn form(&self, name: &str) -> Option<Form>;
+    /// Whether it is an object that has a member of this name.
+    fn has(&self, name: &str) -> bool;
 
     /// The member of this name, if it is a string.
     fn string(&self, name: &str) -> Option<&str>;
 }
 
 impl Document for Value {
-    fn form(&self, name: &str) -> Option<Form> {
-        match self.get(name)? {
-            Value::String(_) => Some(Form::String),
-            Value::Number(_) => Some(Form::Number),
-            Value::Array(_) => Some(Form::Array),
-            Value::Object(_) => Some(Form::Object),
-            Value::Null | Value::Bool(_) => Some(Form::Other),
-        }
+    fn has(&self, name: &str) -> bool {
+        self.get(name).is_some()
     }
 
     fn string(&self, name: &str) -> Option<&str> {
@@ -54,19 +37,8 @@ impl Document for Value {
 }
 
 impl<'t, 'a> Document for Element<'t, 'a> {
-    fn form(&self, name: &str) -> Option<Form> {
-        let member = find(self, name)?;
-        if text(&member).is_some() {
-            Some(Form::String)
-        } else if number(&member).is_some() {
-            Some(Form::Number)
-        } else if items(&member).is_some() {
-            Some(Form::Array)
-        } else if members(&member).is_some() {
-            Some(Form::Object)
-        } else {
-            Some(Form::Other)
-        }
+    fn has(&self, name: &str) -> bool {
+        find(self, name).is_some()
     }
 
     fn string(&self, name: &str) -> Option<&str> {
@@ -88,7 +60,7 @@ pub fn detect<D: Document>(name: &str, document: &D) -> Detected {
 
 /// The kind that `mediaType` names. A descriptor has the media type of what it describes, so one with a `digest` is none of them.
 fn kind_by_media_type<D: Document>(document: &D) -> Option<Kind> {
-    if document.form("digest").is_some() {
+    if document.has("digest") {
         return None;
     }
     match document.string("mediaType")? {
@@ -124,57 +96,35 @@ pub fn members_of(kind: Kind) -> &'static [Member] {
     }
 }
 
-/// The members by which a document of a kind is known, each with what it is.
-fn marks_of(kind: Kind) -> &'static [(&'static str, Form)] {
+/// The members by which a document of a kind is known: it has all of them.
+fn marks_of(kind: Kind) -> &'static [&'static str] {
     match kind {
-        Kind::Manifest => &[("config", Form::Object), ("layers", Form::Array)],
-        Kind::Index => &[("manifests", Form::Array)],
-        Kind::Config => &[
-            ("architecture", Form::String),
-            ("os", Form::String),
-            ("rootfs", Form::Object),
-        ],
-        Kind::Artifact => &[("artifactType", Form::String), ("blobs", Form::Array)],
-        Kind::Layout => &[("imageLayoutVersion", Form::String)],
-        Kind::Descriptor => &[
-            ("mediaType", Form::String),
-            ("digest", Form::String),
-            ("size", Form::Number),
-        ],
-        Kind::Error => &[("errors", Form::Array)],
-        Kind::Repositories => &[("repositories", Form::Array)],
-        Kind::Tags => &[("name", Form::String), ("tags", Form::Array)],
-        Kind::Reference => &[("registry", Form::String), ("repository", Form::String)],
-        Kind::Spec => &[("ociVersion", Form::String)],
-        Kind::State => &[
-            ("ociVersion", Form::String),
-            ("id", Form::String),
-            ("status", Form::String),
-            ("bundle", Form::String),
-        ],
-        Kind::ProcessState => &[
-            ("ociVersion", Form::String),
-            ("pid", Form::Number),
-            ("state", Form::Object),
-        ],
-        Kind::Features => &[
-            ("ociVersionMin", Form::String),
-            ("ociVersionMax", Form::String),
-        ],
+        Kind::Manifest => &["layers"],
+        Kind::Index => &["manifests"],
+        Kind::Config => &["architecture", "os", "rootfs"],
+        Kind::Artifact => &["blobs"],
+        Kind::Layout => &["imageLayoutVersion"],
+        Kind::Descriptor => &["mediaType", "digest", "size"],
+        Kind::Error => &["errors"],
+        Kind::Repositories => &["repositories"],
+        Kind::Tags => &["name", "tags"],
+        Kind::Reference => &["registry", "repository"],
+        Kind::Spec => &["ociVersion"],
+        Kind::State => &["ociVersion", "id", "status", "bundle"],
+        Kind::ProcessState => &["ociVersion", "pid", "state"],
+        Kind::Features => &["ociVersionMin", "ociVersionMax"],
     }
 }
 
 /// Whether a document is known to be of a kind. States begin as a configuration does, with `ociVersion`, and have what it has not.
 fn is_known<D: Document>(kind: Kind, document: &D) -> bool {
-    let is_marked = marks_of(kind)
-        .iter()
-        .all(|mark| document.form(mark.0) == Some(mark.1));
+    let is_marked = marks_of(kind).iter().all(|name| document.has(name));
     is_marked && (kind != Kind::Spec || !is_state(document))
 }
 
 /// Whether a document has members of a container's state, which no configuration has (runtime specification, "State").
 fn is_state<D: Document>(document: &D) -> bool {
-    document.form("status").is_some() || document.form("pid").is_some()
+    document.has("status") || document.has("pid")
 }
 
 /// The only kind that a document is known to be of.
@@ -197,7 +147,7 @@ fn kind_by_members<D: Document>(document: &D) -> Detected {
 fn is_possible<D: Document>(kind: Kind, document: &D) -> bool {
     members_of(kind)
         .iter()
-        .any(|member| document.form(member.name).is_some())
+        .any(|member| document.has(member.name))
 }
 
 /// Why no kind was found out, and which are possible.
