@@ -4,4 +4,5 @@ pub mod Looks
 pub mod Paths
 pub mod Same
 pub mod Sound
+pub mod Unambiguous
 pub mod Walks

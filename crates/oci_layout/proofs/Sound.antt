@@ -2,13 +2,14 @@
 use Rattle.std.proofs.Common.{◌≡◌, ℕ, Bool, true, false, List, [], Option, None, Some, inl, inr, refl, sym, ap, subst, ◌∙◌, get_or, slice_get, arith}
 use Rattle.std.specs.Prelude.{bytes_eq, codes, option_and_then, if◌then◌else◌}
 use Rattle.std.proofs.lemmas.Option.{slice_get-get_or}
+use Rattle.serde_json.specs.Data.{Data}
 use Rattle.serde_json.specs.Find.{as_str, get}
 use Rattle.oci_json_model.specs.Shape.{Shape}
 use Rattle.oci_content.specs.Content.{Tells}
 use Rattle.oci_content.specs.declared.verdict.Verdict.{Verdict}
 use Rattle.oci_content.specs.declared.verdict.Verdict.TheVariants as verdict
 use Rattle.oci_layout.specs.Claims.{claims_of}
-use Rattle.oci_layout.specs.Documents.{compared, IsReadBy}
+use Rattle.oci_layout.specs.Documents.{compared, IsReadBy, IsAgainst}
 use Rattle.oci_layout.specs.Kinds.{document_shape, own_type}
 use Rattle.oci_layout.specs.Looks.{fault_of, IsJudgedBy, IsShown, Shows}
 use Rattle.oci_layout.specs.Sound.{IsFine, AreFine, IsSoundAt, IsSoundOrMissing}
@@ -52,9 +53,13 @@ compared_there (Some said) (Some own) e = by (bytes_eq own said) e
     by true k = cc k
     by false k = cc k
 
+against_there : (k : Kind) (d : Data) → IsAgainst k d (Some fault.Missing) → ⊥
+against_there k d (inl (m, e, a)) = cc e
+against_there k d (inr (u, e)) = compared_there (own_type k) (option_and_then as_str (get (codes "mediaType") d)) e
+
 read_there : (o : Option Shape) (k : Kind) (bytes : List ℕ) (xs : List Claim) → IsReadBy o k bytes (Some fault.Missing) xs → ⊥
 read_there None k bytes xs (p, e) = cc p
-read_there (Some s) k bytes xs (inl (d, r, inl doc)) = compared_there (own_type k) (option_and_then as_str (get (codes "mediaType") d)) doc.own
+read_there (Some s) k bytes xs (inl (d, r, inl doc)) = against_there k d doc.against
 read_there (Some s) k bytes xs (inl (d, r, inr (bad, (p, none)))) = cc p
 read_there (Some s) k bytes xs (inr (n, (p, none))) = cc p
 

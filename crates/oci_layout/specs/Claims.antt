@@ -1,4 +1,4 @@
--- What a document claims of other contents (image specification, "Image Index", "Image Manifest", "Content Descriptors").
+-- What a document claims of other contents (image specification, "Image Index", "Image Manifest", "Content Descriptors"; 1.1.0-rc2, "Artifact Manifest").
 use Rattle.std.specs.Prelude.{ℕ, List, [], ◌∷◌, ◌++◌, codes, map, Bool, true, false, ◌&&◌, Option, Some, None, option_and_then, unwrap_or}
 use Rattle.serde_json.specs.Data.{Data, Items, no_items, item}
 use Rattle.serde_json.specs.Find.{as_str, as_number, as_u64, as_array, get}
@@ -7,7 +7,7 @@ use Rattle.oci_layout.specs.Kinds.{kind_of, is_nondistributable}
 use Rattle.oci_layout.specs.declared.kind.Kind.{Kind}
 use Rattle.oci_layout.specs.declared.kind.Kind.TheVariants as kind
 use Rattle.oci_layout.specs.declared.claim.Role.{Role}
-use Rattle.oci_layout.specs.declared.claim.Role.TheVariants.{Manifest, Config, Layer, Subject}
+use Rattle.oci_layout.specs.declared.claim.Role.TheVariants.{Manifest, Config, Layer, Blob, Subject}
 use Rattle.oci_layout.specs.declared.claim.Claim.{Claim}
 
 -- the string under a name, the empty one where there is none
@@ -58,10 +58,14 @@ index_claims d = claims_at (codes "manifests") Manifest d ++ claim_at (codes "su
 abbrev pub manifest_claims : Data → List Claim
 manifest_claims d = claim_at (codes "config") Config d ++ claims_at (codes "layers") Layer d ++ claim_at (codes "subject") Subject d
 
+abbrev pub artifact_claims : Data → List Claim
+artifact_claims d = claims_at (codes "blobs") Blob d ++ claim_at (codes "subject") Subject d
+
 -- what a document of a kind claims
 abbrev pub claims_of : Kind → Data → List Claim
 claims_of kind.Index d = index_claims d
 claims_of kind.DockerList d = index_claims d
 claims_of kind.Manifest d = manifest_claims d
 claims_of kind.DockerManifest d = manifest_claims d
+claims_of kind.Artifact d = artifact_claims d
 claims_of _ d = []

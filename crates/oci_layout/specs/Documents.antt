@@ -1,18 +1,19 @@
 -- What is found in the bytes of a document.
-use Rattle.std.specs.Prelude.{◌≡◌, ◌⊎◌, ℕ, List, [], bytes_eq, if◌then◌else◌, Option, Some, None, option_and_then}
+use Rattle.std.specs.Prelude.{◌≡◌, ◌⊎◌, ℕ, List, [], bytes_eq, codes, if◌then◌else◌, Option, Some, None, IsSome, option_and_then}
+use Rattle.std.specs.List.{All, Contains}
 use Rattle.serde_json.specs.Data.{Data}
 use Rattle.serde_json.specs.Find.{as_str, get}
 use Rattle.oci_json_model.specs.Plain.{Plain}
 use Rattle.oci_json_model.specs.Shape.{Shape}
-use Rattle.oci_json_model.specs.Means.{Means}
+use Rattle.oci_json_model.specs.Means.{Means, unless_null}
 use Rattle.oci_json_io.specs.Engines.{ReadsAs, IsNoJson}
-use Rattle.std.specs.Prelude.{codes}
-use Rattle.oci_layout.specs.Kinds.{own_type, document_shape}
+use Rattle.oci_layout.specs.Kinds.{own_type, document_shape, member_name, other_members}
 use Rattle.oci_layout.specs.Claims.{claims_of}
 use Rattle.oci_layout.specs.declared.kind.Kind.{Kind}
 use Rattle.oci_layout.specs.declared.claim.Claim.{Claim}
 use Rattle.oci_layout.specs.declared.claim.Fault.{Fault}
-use Rattle.oci_layout.specs.declared.claim.Fault.TheVariants.{NoJson, NoDocument, OtherType}
+use Rattle.oci_layout.specs.declared.claim.Fault.TheVariants.{NoJson, NoDocument, OtherType, Ambiguous}
+use Rattle.oci_layout.specs.declared.member.OtherMember.{OtherMember}
 
 -- the schema allows the value
 abbrev pub IsValid : Shape → Data → Type 0
@@ -27,10 +28,27 @@ compared (Some said) (Some own) = if bytes_eq own said then None else Some Other
 abbrev pub type_fault : Kind → Data → Option Fault
 type_fault k d = compared (own_type k) (option_and_then as_str (get (codes "mediaType") d))
 
+-- the document has the member, and it is not null
+abbrev pub HasMember : OtherMember → Data → Type 0
+HasMember m d = IsSome (option_and_then unless_null (get (member_name m) d))
+
+-- Clients may take the document for one of another kind, by this member. One that has both `layers` and `manifests` is an image to some clients and an index to
+-- others, under one digest (CVE-2021-41190).
+abbrev pub IsAmbiguous : Kind → Data → OtherMember → Type 0
+IsAmbiguous k d m = Contains (other_members k) m × HasMember m d
+
+abbrev pub IsUnambiguous : Kind → Data → Type 0
+IsUnambiguous k d = All (λ m. ¬ HasMember m d) (other_members k)
+
+-- What stands against a document that its schema allows: that it is ambiguous, or else its own media type. Being ambiguous comes first, since no media type
+-- makes up for it.
+abbrev pub IsAgainst : Kind → Data → Option Fault → Type 0
+IsAgainst k d fault = ((m : OtherMember) × (fault ≡ Some (Ambiguous m)) × IsAmbiguous k d m) ⊎ (IsUnambiguous k d × (fault ≡ type_fault k d))
+
 -- a value that the schema allows, with what it claims
 pub record IsDocument (s : Shape) (k : Kind) (value : Data) (fault : Option Fault) (claims : List Claim) : Type 0 where
   pub valid : IsValid s value
-  pub own : fault ≡ type_fault k value
+  pub against : IsAgainst k value fault
   pub claimed : claims ≡ claims_of k value
 
 -- nothing is claimed where there is this fault

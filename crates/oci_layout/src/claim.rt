@@ -2,6 +2,7 @@
 ghost use Rattle.std.specs.Prelude.{IfOk};
 
 use crate::kind::Kind;
+use crate::member::OtherMember;
 use oci_content::{Checksum, Embedded};
 use oci_schema::Violation;
 use oci_text::Digest;
@@ -16,6 +17,8 @@ pub enum Role {
     Config,
     /// One of `layers`.
     Layer,
+    /// One of `blobs`, of an artifact manifest.
+    Blob,
     /// The manifest that this one refers to, which may be missing (image specification, "Image Manifest", `subject`).
     Subject,
 }
@@ -69,6 +72,8 @@ pub enum Fault {
     NoDocument,
     /// It is a document whose `mediaType` is another than its descriptor says.
     OtherType,
+    /// It is a document that clients may take for one of another kind, by this member.
+    Ambiguous(OtherMember),
 }
 
 /// What is found of the content that a descriptor holds itself.

@@ -156,6 +156,10 @@ pub fn claims_of_document(alloc: Global, kind: Kind, value: &Value) -> Result<Cl
             claimed.add_listed(alloc, Role::Layer, value, "layers")?;
             claimed.add_under(alloc, Role::Subject, value, "subject")?;
         }
+        Kind::Artifact => {
+            claimed.add_listed(alloc, Role::Blob, value, "blobs")?;
+            claimed.add_under(alloc, Role::Subject, value, "subject")?;
+        }
         Kind::Config | Kind::DockerConfig | Kind::Opaque => {}
     }
     Ok(claimed)

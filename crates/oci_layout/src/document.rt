@@ -3,11 +3,12 @@ ghost use Rattle.std.specs.Prelude.{◌≡◌, IfOk};
 ghost use Rattle.serde_json.specs.View.{view};
 ghost use Rattle.oci_schema_types.specs.Shapes.{schema_shape, shape_at};
 ghost use Rattle.oci_schemas.specs.Table.{shapes};
-ghost use Rattle.oci_layout.specs.Documents.{IsRead, IsJudged, IsFault, type_fault};
+ghost use Rattle.oci_layout.specs.Documents.{IsRead, IsJudged, IsAgainst, type_fault};
 
 use crate::claim::{Fault, Seen};
 use crate::descriptor::claims_of_document;
 use crate::kind::Kind;
+use crate::member::other_member;
 use oci_schema::violations;
 use oci_schema_types::Schema;
 use oci_schemas::OciRecords;
@@ -78,11 +79,21 @@ fn read_value(alloc: Global, kind: Kind, schema: &Schema, value: &Value) -> Resu
     }
     let claimed = claims_of_document(alloc, kind, value)?;
     Ok(Seen {
-        fault: own_type_fault(kind, value),
+        fault: fault_against(kind, value),
         claims: claimed.claims,
         held: claimed.held,
         violations,
     })
+}
+
+/// What stands against a document that its schema allows.
+fn fault_against(kind: Kind, value: &Value) -> Option<Fault>
+    ensures { IsAgainst kind (view value.now) result }
+{
+    match other_member(kind, value) {
+        Some(member) => Some(Fault::Ambiguous(member)),
+        None => own_type_fault(kind, value),
+    }
 }
 
 /// Whether the document says another media type itself.

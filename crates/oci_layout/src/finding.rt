@@ -1,8 +1,12 @@
 //! Findings, and how they are reported.
+ghost use Rattle.std.specs.Prelude.{IfOk, string_bytes};
+ghost use Rattle.oci_escape.specs.Escaped.{IsLine};
+
 use crate::claim::{Claim, Fault, Role};
 use crate::path::blob_path;
 use crate::walk::{Detail, Walk};
 use oci_content::{Embedded, Verdict};
+use oci_escape::line_of;
 use oci_schema::Violation;
 use std::alloc::{AllocError, Global};
 
@@ -39,8 +43,17 @@ impl Finding {
         })
     }
 
-    /// The line: the place, what was found, and in parentheses the path of claims.
-    pub fn line(&self, alloc: Global) -> Result<String, AllocError> {
+    /// The line: the place, what was found, and in parentheses the path of claims, with what would end the line or move a terminal's
+    /// cursor as `\uXXXX`; and a newline. Fails if out of memory.
+    pub fn line(&self, alloc: Global) -> Result<String, AllocError>
+        ensures { IfOk result (λ line. IsLine (string_bytes line)) }
+    {
+        let line = self.unescaped(alloc)?;
+        line_of(line.as_str(), alloc)
+    }
+
+    /// The same with all characters as they are, and no newline.
+    fn unescaped(&self, alloc: Global) -> Result<String, AllocError> {
         let mut line = String::new(alloc);
         if self.is_note {
             line.push_str("note: ")?;
@@ -57,7 +70,6 @@ impl Finding {
         if !self.claimed_by.is_empty() {
             line.push_str(")")?;
         }
-        line.push_str("\n")?;
         Ok(line)
     }
 }
@@ -98,6 +110,10 @@ fn add_fault(
     }
     let place = match fault {
         Fault::OtherType => format!(in alloc; "{path}#/mediaType")?,
+        Fault::Ambiguous(member) => {
+            let name = member.name();
+            format!(in alloc; "{path}#/{name}")?
+        }
         _ => String::from_str(alloc, path)?,
     };
     found.push(Finding {
@@ -121,6 +137,7 @@ fn fault_word(fault: Fault) -> &'static str {
         Fault::Unjudged => "unjudged",
         Fault::NoJson | Fault::NoDocument => "document",
         Fault::OtherType => "media-type",
+        Fault::Ambiguous(_) => "ambiguous",
     }
 }
 
@@ -141,6 +158,7 @@ fn fault_text(alloc: Global, claim: &Claim, fault: Fault) -> Result<String, Allo
         Fault::NoJson => String::from_str(alloc, "a JSON text"),
         Fault::NoDocument => String::from_str(alloc, "a document of its media type"),
         Fault::OtherType => String::from_str(alloc, "the media type that its descriptor says"),
+        Fault::Ambiguous(member) => String::from_str(alloc, member.text()),
     }
 }
 
@@ -234,6 +252,7 @@ fn pointer_of(alloc: Global, role: Role, at: usize) -> Result<String, AllocError
             let layer = at.saturating_sub(1);
             format!(in alloc; "/layers/{layer}")
         }
+        Role::Blob => format!(in alloc; "/blobs/{at}"),
         Role::Subject => String::from_str(alloc, "/subject"),
     }
 }

@@ -1,12 +1,13 @@
 //! What the contents of an image layout are read as.
 ghost use Rattle.std.specs.Prelude.{◌≡◌, option_map};
-ghost use Rattle.oci_layout.specs.Kinds.{kind_of, own_type, document_shape, is_nondistributable};
+ghost use Rattle.oci_layout.specs.Kinds.{kind_of, own_type, document_shape, other_members, is_nondistributable};
 ghost use Rattle.oci_schema_types.specs.Shapes.{schema_shape, shape_at};
 ghost use Rattle.oci_schemas.specs.Table.{shapes};
 
+use crate::member::OtherMember;
 use oci_schema_types::Schema;
 use oci_schemas::image::image_configuration;
-use oci_schemas::image_manifest::{image_index, image_manifest};
+use oci_schemas::image_manifest::{artifact_manifest, image_index, image_manifest};
 
 /// What a content is read as, by its media type (image specification, "Media Types", and what it is compatible with).
 #[derive(Clone, Copy, Debug, PartialEq, Eq)]
@@ -19,6 +20,8 @@ pub enum Kind {
     Manifest,
     /// Docker's image manifest, version 2, schema 2, which is read as an image manifest.
     DockerManifest,
+    /// An artifact manifest (image specification 1.1.0-rc2, "Artifact Manifest").
+    Artifact,
     /// An image configuration.
     Config,
     /// Docker's image configuration, which is read as an image configuration.
@@ -37,6 +40,7 @@ impl Kind {
             "application/vnd.docker.distribution.manifest.list.v2+json" => Kind::DockerList,
             "application/vnd.oci.image.manifest.v1+json" => Kind::Manifest,
             "application/vnd.docker.distribution.manifest.v2+json" => Kind::DockerManifest,
+            "application/vnd.oci.artifact.manifest.v1+json" => Kind::Artifact,
             "application/vnd.oci.image.config.v1+json" => Kind::Config,
             "application/vnd.docker.container.image.v1+json" => Kind::DockerConfig,
             _ => Kind::Opaque,
@@ -52,6 +56,7 @@ impl Kind {
             Kind::DockerList => Some("application/vnd.docker.distribution.manifest.list.v2+json"),
             Kind::Manifest => Some("application/vnd.oci.image.manifest.v1+json"),
             Kind::DockerManifest => Some("application/vnd.docker.distribution.manifest.v2+json"),
+            Kind::Artifact => Some("application/vnd.oci.artifact.manifest.v1+json"),
             Kind::Config | Kind::DockerConfig | Kind::Opaque => None,
         }
     }
@@ -63,8 +68,26 @@ impl Kind {
         match self {
             Kind::Index | Kind::DockerList => Some(image_index()),
             Kind::Manifest | Kind::DockerManifest => Some(image_manifest()),
+            Kind::Artifact => Some(artifact_manifest()),
             Kind::Config | Kind::DockerConfig => Some(image_configuration()),
             Kind::Opaque => None,
+        }
+    }
+
+    /// The members by which clients may take a document of this kind for one of another.
+    pub fn other_members(self) -> &'static [OtherMember]
+        ensures { result.now ≡ other_members self }
+    {
+        match self {
+            Kind::Index | Kind::DockerList => &[
+                OtherMember::Config,
+                OtherMember::Layers,
+                OtherMember::FsLayers,
+            ],
+            Kind::Manifest | Kind::DockerManifest => {
+                &[OtherMember::Manifests, OtherMember::FsLayers]
+            }
+            Kind::Artifact | Kind::Config | Kind::DockerConfig | Kind::Opaque => &[],
         }
     }
 }

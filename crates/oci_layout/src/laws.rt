@@ -1,12 +1,16 @@
 //! What a walk without a finding says, and where a digest's content lies.
-ghost use Rattle.std.specs.Prelude.{ℕ, List, Option, Some, false};
+ghost use Rattle.std.specs.Prelude.{ℕ, List, Option, Some, None, false};
+ghost use Rattle.serde_json.specs.Data.{Data};
+ghost use Rattle.oci_json_io.specs.Engines.{ReadsAs};
 ghost use Rattle.oci_text_base.specs.Digest.{IsDigest};
+ghost use Rattle.oci_layout.specs.Documents.{IsRead, IsUnambiguous};
 ghost use Rattle.oci_layout.specs.Looks.{Shows};
 ghost use Rattle.oci_layout.specs.Paths.{IsPlainName};
 ghost use Rattle.oci_layout.specs.Sound.{AreFine, IsSoundOrMissing};
 ghost use Rattle.oci_layout.specs.Walk.{IsWalk, Reaches};
 ghost use Rattle.oci_layout.specs.declared.claim.Claim.{Claim};
 ghost use Rattle.oci_layout.specs.declared.claim.Fault.{Fault};
+ghost use Rattle.oci_layout.specs.declared.kind.Kind.{Kind};
 
 /// Where a walk over known contents found nothing that stands against a claim, all that is reached is there, as large and with the
 /// digest that is claimed, and is the document of its kind; or it is missing, and may be.
@@ -14,6 +18,13 @@ pub fn sound_where_reached()
     ensures { (limit : ℕ) (contents : List ℕ → Option (List ℕ)) (start all : List Claim) (faults : List (Option Fault))
         → IsWalk (Shows false limit (Some contents)) start all faults → AreFine all faults
         → (c : Claim) → Reaches (Shows false limit (Some contents)) start c → IsSoundOrMissing contents c }
+{}
+
+/// A document against which nothing stands is not ambiguous: it has no member by which clients may take it for one of another kind.
+/// So is each that is reached by a walk that found nothing, and `index.json`.
+pub fn unambiguous()
+    ensures { (kind : Kind) (bytes : List ℕ) (claims : List Claim) (value : Data)
+        → IsRead kind bytes None claims → ReadsAs bytes value → IsUnambiguous kind value }
 {}
 
 /// Both parts of a digest are plain names of files: neither is empty, `.` or `..`, and neither has a slash.

@@ -283,6 +283,11 @@ fn index_findings(alloc: Global, fault: Option<Fault>, detail: Detail) -> Result
                 &mut found,
             )?;
         }
+        Some(Fault::Ambiguous(member)) => {
+            let name = member.name();
+            let place = format!(in alloc; "index.json#/{name}")?;
+            add_fault(alloc, "ambiguous", place.as_str(), member.text(), &mut found)?;
+        }
         _ => {}
     }
     add_details(alloc, &detail, "index.json", &Vec::new(alloc), &mut found)?;

@@ -1,5 +1,9 @@
 //! Telling findings, as lines or as one JSON document.
+ghost use Rattle.std.specs.Prelude.{IfOk, string_bytes};
+ghost use Rattle.oci_escape.specs.Escaped.{IsLine};
+
 use crate::options::Options;
+use oci_escape::line_of;
 use oci_json_io::write_text;
 use oci_layout::Finding;
 use oci_text_base::Result;
@@ -86,7 +90,9 @@ impl Told {
     }
 
     /// The document of all that was reported, and a newline.
-    fn document(self, alloc: Global, claims: u64, bytes: u64) -> Result<String> {
+    fn document(self, alloc: Global, claims: u64, bytes: u64) -> Result<String>
+        ensures { IfOk result (λ text. IsLine (string_bytes text)) }
+    {
         let Told {
             findings,
             notes,
@@ -98,14 +104,16 @@ impl Told {
         put_number(alloc, &mut members, "findings", findings)?;
         put_number(alloc, &mut members, "notes", notes)?;
         put(alloc, &mut members, "list", Value::Array(listed))?;
-        line_of(alloc, &Value::Object(members))
+        line_of_value(alloc, &Value::Object(members))
     }
 }
 
-fn line_of(alloc: Global, value: &Value) -> Result<String> {
-    let mut text = value.to_string(alloc)?;
-    text.push_str("\n")?;
-    Ok(text)
+/// The compact text of a value, and a newline. All that is escaped is inside strings, so the text means the same (RFC 8259, section 7).
+fn line_of_value(alloc: Global, value: &Value) -> Result<String>
+    ensures { IfOk result (λ text. IsLine (string_bytes text)) }
+{
+    let text = value.to_string(alloc)?;
+    Ok(line_of(text.as_str(), alloc)?)
 }
 
 fn put(alloc: Global, members: &mut Map<String, Value>, name: &str, value: Value) -> Result<()> {
