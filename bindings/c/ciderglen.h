@@ -162,7 +162,10 @@ uint32_t ciderglen_pretty(uint32_t kind, const uint8_t *document, size_t documen
  * expected there and a newline. Sets `*count` to their number, which is 0 exactly if the document is valid.
  *
  * Returns CIDERGLEN_INVALID_JSON or CIDERGLEN_UNKNOWN_KIND if the document has no violations to list. After any status but
- * CIDERGLEN_DONE and CIDERGLEN_BUFFER_TOO_SMALL `*count` is 0. */
+ * CIDERGLEN_DONE and CIDERGLEN_BUFFER_TOO_SMALL `*count` is 0.
+ *
+ * A newline in the name of a member, and what else could move a terminal's cursor or turn the direction of a text, is `\uXXXX` in the
+ * pointer, so a line is a violation. */
 uint32_t ciderglen_violations(uint32_t kind, const uint8_t *document, size_t document_len, uint8_t *buffer,
                               size_t buffer_capacity, size_t *output_len, size_t *count);
 
@@ -172,7 +175,10 @@ uint32_t ciderglen_violations(uint32_t kind, const uint8_t *document, size_t doc
  * document is valid is not asked here.
  *
  * Returns CIDERGLEN_INVALID_JSON, CIDERGLEN_UNKNOWN_KIND, CIDERGLEN_UNKNOWN_LEVEL or CIDERGLEN_UNKNOWN_PLATFORM if there is nothing
- * to list. After any status but CIDERGLEN_DONE and CIDERGLEN_BUFFER_TOO_SMALL `*count` is 0. */
+ * to list. After any status but CIDERGLEN_DONE and CIDERGLEN_BUFFER_TOO_SMALL `*count` is 0.
+ *
+ * A newline in the name of a member, and what else could move a terminal's cursor or turn the direction of a text, is `\uXXXX` in the
+ * pointer, so a line is a broken rule. */
 uint32_t ciderglen_broken_rules(uint32_t kind, uint32_t level, uint32_t platform, const uint8_t *document,
                                 size_t document_len, uint8_t *buffer, size_t buffer_capacity, size_t *output_len,
                                 size_t *count);

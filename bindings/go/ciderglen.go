@@ -164,8 +164,8 @@ func Pretty(kind Kind, document []byte) ([]byte, error) {
 }
 
 // Violations returns the number of violations of the schema in a document, and a line for each: its place as a JSON pointer, a
-// colon, a space, what was expected there and a newline. There are none exactly if the document is valid. The error is
-// ErrInvalidJSON, ErrUnknownKind or ErrOutOfMemory.
+// colon, a space, what was expected there and a newline. A newline or control character in the name of a member is \uXXXX in the
+// pointer. There are none exactly if the document is valid. The error is ErrInvalidJSON, ErrUnknownKind or ErrOutOfMemory.
 func Violations(kind Kind, document []byte) (count int, lines []byte, err error) {
 	var found C.size_t
 	lines, err = output(256, func(buffer *C.uint8_t, capacity C.size_t, length *C.size_t) C.uint32_t {

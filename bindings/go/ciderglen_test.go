@@ -86,6 +86,11 @@ func TestErrors(t *testing.T) {
 			t.Errorf("Pretty(%d, %q): %v", it.kind, it.document, err)
 		}
 	}
+	hostile := "{\"schemaVersion\":2,\"manifests\":[],\"annotations\":{\"a\\nb\u009b\u202e\":1,\"c\":1}}"
+	expected := "/annotations/a\\u000ab\\u009b\\u202e: a string\n/annotations/c: a string\n"
+	if count, lines, err := Violations(Index, []byte(hostile)); count != 2 || string(lines) != expected || err != nil {
+		t.Errorf("%d violations, %q, %v", count, lines, err)
+	}
 	if _, err := Normalize(Layout, nil); err != ErrInvalidJSON {
 		t.Error(err)
 	}

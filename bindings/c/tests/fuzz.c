@@ -104,7 +104,7 @@ static void document_holds(uint32_t kind, struct bytes input) {
     } else {
         /* a name in a pointer can hold newlines of its own */
         CHECK(status == CIDERGLEN_INVALID_DOCUMENT && listed == CIDERGLEN_DONE && violations.count > 0);
-        CHECK(newlines(lines) >= violations.count && lines.at[lines.len - 1] == '\n');
+        CHECK(newlines(lines) == violations.count && lines.at[lines.len - 1] == '\n');
     }
     free(normal.at);
     free(lines.at);

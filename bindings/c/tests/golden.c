@@ -154,6 +154,9 @@ static void others(void) {
     CHECK(ciderglen_violations(14, TEXT("{}"), buffer, sizeof buffer, &output_len, &count) == CIDERGLEN_UNKNOWN_KIND && count == 0);
     CHECK(ciderglen_normalize(CIDERGLEN_KIND_LAYOUT, none, 0, buffer, sizeof buffer, &output_len) == CIDERGLEN_INVALID_JSON);
     CHECK(ciderglen_violations(CIDERGLEN_KIND_LAYOUT, TEXT("{}"), buffer, sizeof buffer, &output_len, &count) == CIDERGLEN_DONE && count == 1);
+    const char escaped[] = "/annotations/a\\u000ab: a string\n";
+    CHECK(ciderglen_violations(CIDERGLEN_KIND_INDEX, TEXT("{\"schemaVersion\":2,\"manifests\":[],\"annotations\":{\"a\\nb\":1}}"), buffer, sizeof buffer, &output_len, &count) == CIDERGLEN_DONE && count == 1);
+    CHECK(output_len == sizeof escaped - 1 && !memcmp(buffer, escaped, output_len));
     CHECK(ciderglen_reference(TEXT("busybox"), buffer, sizeof buffer, &output_len, &parts) == CIDERGLEN_DONE);
     CHECK(output_len == 32 && !memcmp(buffer, "docker.io/library/busybox:latest", 32));
     CHECK(parts.registry == 9 && parts.repository == 15 && parts.tag == 6 && parts.digest == 0);

@@ -223,7 +223,8 @@ def normalize_pretty(kind: Kind, document: bytes) -> bytes:
 def violations(kind: Kind, document: bytes) -> List[str]:
     """Returns all violations of the schema in a document: the place as a JSON pointer, a colon, a space and what was expected there.
 
-    The list is empty exactly if the document is valid. Raises InvalidJSON or MemoryError.
+    A control character or newline in the name of a member is `\\uXXXX` in the pointer. The list is empty exactly if the document is
+    valid. Raises InvalidJSON or MemoryError.
     """
     document, count = bytes(document), ctypes.c_size_t()
     lines = _output(256, _library.ciderglen_violations, Kind(kind), document, len(document), outputs=(ctypes.byref(count),))

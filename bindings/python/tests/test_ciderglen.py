@@ -47,6 +47,9 @@ class Documents(unittest.TestCase):
         self.assertRaises(InvalidDocument, ciderglen.normalize, Kind.LAYOUT, b"{}")
         self.assertRaises(ValueError, ciderglen.normalize, 14, b"{}")
         self.assertEqual(ciderglen.violations(Kind.LAYOUT, b'{"imageLayoutVersion":1}'), ["/imageLayoutVersion: a string"])
+        hostile = b'{"schemaVersion":2,"manifests":[],"annotations":{"a\\nb\\u001b[2J\xc2\x9b\xe2\x80\xae":1,"c":1}}'
+        expected = ["/annotations/a\\u000ab\\u001b[2J\\u009b\\u202e: a string", "/annotations/c: a string"]
+        self.assertEqual(ciderglen.violations(Kind.INDEX, hostile), expected)
 
     def test_broken_rules(self):
         document = b'{"imageLayoutVersion":"1.0.1"}'

@@ -264,7 +264,8 @@ pub fn normalize_pretty(kind: Kind, document: &[u8]) -> Result<Vec<u8>, Error> {
 pub struct Violations {
     /// How many there are: none exactly if the document is valid.
     pub count: usize,
-    /// A line for each: its place as a JSON pointer, a colon, a space and what was expected there.
+    /// A line for each: its place as a JSON pointer, a colon, a space and what was expected there. A newline or control character in
+    /// the name of a member is `\uXXXX` in the pointer.
     pub lines: String,
 }
 

@@ -161,6 +161,9 @@ fn report(
 ///
 /// Returns CIDERGLEN_INVALID_JSON, CIDERGLEN_UNKNOWN_KIND, CIDERGLEN_UNKNOWN_LEVEL or CIDERGLEN_UNKNOWN_PLATFORM if there is nothing
 /// to list. After any status but CIDERGLEN_DONE and CIDERGLEN_BUFFER_TOO_SMALL `*count` is 0.
+///
+/// A newline in the name of a member, and what else could move a terminal's cursor or turn the direction of a text, is `\uXXXX` in the
+/// pointer, so a line is a broken rule.
 #[unsafe(no_mangle)]
 pub extern "C" fn ciderglen_broken_rules(
     alloc: Global,

@@ -77,6 +77,9 @@ fn report(
 ///
 /// Returns CIDERGLEN_INVALID_JSON or CIDERGLEN_UNKNOWN_KIND if the document has no violations to list. After any status but
 /// CIDERGLEN_DONE and CIDERGLEN_BUFFER_TOO_SMALL `*count` is 0.
+///
+/// A newline in the name of a member, and what else could move a terminal's cursor or turn the direction of a text, is `\uXXXX` in the
+/// pointer, so a line is a violation.
 #[unsafe(no_mangle)]
 pub extern "C" fn ciderglen_violations(
     alloc: Global,

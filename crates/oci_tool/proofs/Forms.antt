@@ -71,7 +71,7 @@ unformatted_asked a kind bytes fits h = unformatted_if a.kind a kind bytes fits 
 listed_if : (asked : Option Kind) (a : Format) (bytes : List ℕ) (Clean : Type 0) → IfSome asked (λ k. (p : Plain) → MeansBytes (shape_of k) bytes p → Clean) → ¬ Clean
     → IfSome asked (λ k. IsUnformattedAs k a bytes)
 listed_if None a bytes Clean all not = tt
-listed_if (Some k) a bytes Clean all not = inl (λ p means w. not (all p means))
+listed_if (Some k) a bytes Clean all not = inl (inl (λ p means w. not (all p means)))
 
 -- where something is listed that is not listed of a document
 pub unformatted_listed : (a : Format) (bytes : List ℕ) (Clean : Type 0) → IfSome a.kind (λ k. (p : Plain) → MeansBytes (shape_of k) bytes p → Clean) → ¬ Clean → IsUnformatted a bytes
