@@ -1,4 +1,4 @@
-use Rattle.std.proofs.Common.{◌≡◌, [], ap, subst}
+use Rattle.std.proofs.Common.{◌≡◌, [], sym, subst}
 use Rattle.std.specs.Prelude.{◌↔◌}
 use Rattle.std.proofs.lemmas.Result.{IfOk-weaker}
 use Rattle.serde_json.specs.View.{view}
@@ -8,4 +8,8 @@ use Rattle.oci_check.proofs.Unlisted.{none_of_both}
 use Rattle.oci_check.proofs.examine.unlisted_members.Goals as goal
 
 pub returns : goal.returns
-returns c = ?
+returns c =
+    let all = unknown (shape_of c.args.kind) [] (view c.args.value.now) in
+    IfOk-weaker c.new.result _ _
+    (λ r same. subst (λ v. (v.items ≡ []) ↔ (all ≡ [])) (sym same) (none_of_both c.in_ok-errors.errors.items all c.in_ok-errors.ensures))
+    c.new.ensures.errors
