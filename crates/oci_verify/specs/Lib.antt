@@ -1,1 +1,2 @@
+pub mod Writes
 pub use Rattle.oci_layout.specs.Sound

@@ -1,6 +1,7 @@
 //! Telling findings, as lines or as one JSON document.
-ghost use Rattle.std.specs.Prelude.{IfOk, string_bytes};
+ghost use Rattle.std.specs.Prelude.{IfOk, OnOk, string_bytes};
 ghost use Rattle.oci_escape.specs.Escaped.{IsLine};
+ghost use Rattle.oci_verify.specs.Writes.{WritesLine};
 
 use crate::options::Options;
 use oci_escape::line_of;
@@ -58,7 +59,9 @@ impl Told {
         options: &Options,
         finding: &Finding,
         writer: &mut W,
-    ) -> Result<()> {
+    ) -> Result<()>
+        ensures { OnOk result (WritesLine (W.contents writer.old) (W.contents writer.new)) }
+    {
         if finding.is_note {
             self.notes = self.notes.saturating_add(1);
         } else {
@@ -81,7 +84,9 @@ impl Told {
         claims: u64,
         bytes: u64,
         writer: &mut W,
-    ) -> Result<()> {
+    ) -> Result<()>
+        ensures { OnOk result (WritesLine (W.contents writer.old) (W.contents writer.new)) }
+    {
         if options.json {
             let text = self.document(alloc, claims, bytes)?;
             write_text(text.as_bytes(), writer)?;
