@@ -10,6 +10,6 @@ use Rattle.oci_check.proofs.examine.unlisted_members.Goals as goal
 pub returns : goal.returns
 returns c =
     let all = unknown (shape_of c.args.kind) [] (view c.args.value.now) in
-    IfOk-weaker c.new.result _ _
+    IfOk-weaker c.new-2.result _ _
     (λ r same. subst (λ v. (v.items ≡ []) ↔ (all ≡ [])) (sym same) (none_of_both c.in_ok-errors.errors.items all c.in_ok-errors.ensures))
-    c.new.ensures.errors
+    c.new-2.ensures.errors
