@@ -286,7 +286,13 @@ fn index_findings(alloc: Global, fault: Option<Fault>, detail: Detail) -> Result
         Some(Fault::Ambiguous(member)) => {
             let name = member.name();
             let place = format!(in alloc; "index.json#/{name}")?;
-            add_fault(alloc, "ambiguous", place.as_str(), member.text(), &mut found)?;
+            add_fault(
+                alloc,
+                "ambiguous",
+                place.as_str(),
+                member.text(),
+                &mut found,
+            )?;
         }
         _ => {}
     }
