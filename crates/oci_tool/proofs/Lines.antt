@@ -12,18 +12,9 @@ use Rattle.oci_doc_run.specs.Outputs.{WritesReference, WritesDigest, reference_l
 use Rattle.oci_tool.specs.Texts.{IsFileLine, AreReferenceLines, AreDigestLines, Joins}
 use Rattle.oci_check.proofs.Each.{one_more}
 
-of_known : (algorithm : Algorithm) (known : Option (List ℕ)) (c : Checksum) → IfSome known (λ bytes. c ≡ checksum_of algorithm bytes)
-    → IfSome known (λ bytes. checksum_text c ≡ checksum_text (checksum_of algorithm bytes))
-of_known algorithm None c h = tt
-of_known algorithm (Some bytes) c h = ap checksum_text h
-
-pub is_line : (algorithm : Algorithm) (known : Option (List ℕ)) (c : Checksum) (line : List ℕ) → IfSome known (λ bytes. c ≡ checksum_of algorithm bytes)
-    → (shown : List ℕ) × (line ≡ checksum_text c ++ (codes "  " ++ (shown ++ 10 ∷ []))) → IsFileLine algorithm known line
-is_line algorithm known c line of (shown, is) = (checksum_text c, shown, of_known algorithm known c of, is)
-
 -- the line of a file that nothing changed
-pub line_moved : (algorithm : Algorithm) (new old : List ℕ → Option (List ℕ)) (name line : List ℕ) → new ≡ old → IsFileLine algorithm (new name) line → IsFileLine algorithm (old name) line
-line_moved algorithm new old name line same is = subst (λ holds. IsFileLine algorithm (holds name) line) same is
+pub line_moved : (algorithm : Algorithm) (new old : List ℕ → Option (List ℕ)) (name line : List ℕ) → new ≡ old → IsFileLine algorithm (new name) name line → IsFileLine algorithm (old name) name line
+line_moved algorithm new old name line same is = subst (λ holds. IsFileLine algorithm (holds name) name line) same is
 
 appends_both : (old mid new : Option (List ℕ)) (a b : List ℕ) → Appends old mid a → Appends mid new b → Appends old new (a ++ b)
 appends_both None mid new a b first next = tt

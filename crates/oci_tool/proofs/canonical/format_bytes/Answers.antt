@@ -1,6 +1,8 @@
-use Rattle.std.proofs.Common.{◌≡◌, Some}
+use Rattle.std.proofs.Common.{◌≡◌, Some, rules}
 use Rattle.std.specs.Io.KnownBytes.{Appends}
 use Rattle.std.proofs.lemmas.Result.{IfOk-weaker}
+use Rattle.serde_json.specs.View.{view}
+use Rattle.oci_json_io.specs.Engines.{ReadsAs}
 use Rattle.oci_tool.proofs.Forms.{unformatted_asked, unformatted_listed}
 use Rattle.oci_tool.proofs.Held.{formats_asked}
 use Rattle.oci_tool.proofs.canonical.format_bytes.Goals as goal
@@ -25,6 +27,14 @@ returns-in-Some-clause-written g c =
 
 pub returns-in-Some-clause-refused : goal.returns-in-Some-clause-refused
 returns-in-Some-clause-refused g c =
+    let reads : ReadsAs c.args.bytes.now (view c.in_ok-before.before) = search rules in
     IfOk-weaker c.format_kept.result _ _
     (λ s refused one. unformatted_asked c.args.asked.now c.in-Some.kind c.args.bytes.now c.in-Some.ensures.kind (refused one))
-    c.format_kept.ensures.refused
+    (c.format_kept.ensures.refused reads)
+
+pub returns-in-Some-clause-kept : goal.returns-in-Some-clause-kept
+returns-in-Some-clause-kept g c =
+    let reads : ReadsAs c.args.bytes.now (view c.in_ok-before.before) = search rules in
+    IfOk-weaker c.format_kept.result _ _
+    (λ s listed zero checks file unasked. (c.in-Some.kind, view c.in_ok-before.before, c.in-Some.ensures.kind, reads, listed zero checks file unasked))
+    c.format_kept.ensures.kept
