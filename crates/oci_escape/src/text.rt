@@ -6,9 +6,9 @@ ghost use Rattle.oci_escape.specs.Escaped.{escaped, escape, is_unsafe, shown_as,
 use crate::laws::is_one_line;
 use std::alloc::{AllocError, Global};
 
-/// The text with each character that ends a line, moves a terminal's cursor or turns the direction of a text as `\uXXXX`: the
+/// The text with each character that ends a line, moves a terminal's cursor or reverses the direction of a text as `\uXXXX`: the
 /// controls of C0 and C1 with DEL, U+2028 and U+2029, and the bidirectional formatting characters U+202A to U+202E and U+2066 to
-/// U+2069. All others are as they are, the backslash too. Inside a JSON text such a character stands in strings alone, where this
+/// U+2069. All others are as they are, the backslash too. Inside a JSON text such a character is in strings alone, where this
 /// is its escape (RFC 8259, section 7), so the text means the same. Fails if out of memory.
 pub fn escaped(text: &str, alloc: Global) -> Result<String, AllocError>
     ensures { IfOk result (λ t. string_bytes t ≡ escaped text.now) }
@@ -42,7 +42,7 @@ fn push_shown(shown: &mut String, c: char) -> Result<(), AllocError>
     }
 }
 
-/// Whether a character ends a line, moves a cursor or turns the direction of a text.
+/// Whether a character ends a line, moves a cursor or reverses the direction of a text.
 pub(crate) fn is_unsafe(c: char) -> bool
     ensures { result ≡ is_unsafe c }
 {

@@ -31,5 +31,5 @@ pub use memory::{Kept, Memory};
 pub use path::blob_path;
 pub use shelf::Shelf;
 pub use store::{ImageLayout, Listed, Opened, Store};
-pub use top::{Top, read_top};
+pub use top::{DOCUMENT_LIMIT, Top, read_top};
 pub use walk::{Detail, Mention, Walk, walk_all};

@@ -6,6 +6,9 @@ use crate::layout::read_sized;
 use crate::store::{ImageLayout, Opened};
 use std::alloc::{AllocError, Global};
 
+/// How large a document may be, which is what registries have to take: 4 MiB (distribution specification, "Pushing Manifests").
+pub const DOCUMENT_LIMIT: u64 = 4194304;
+
 /// A file beside `blobs`, read whole.
 #[derive(Drop)]
 pub enum Top {

@@ -209,7 +209,7 @@ fn object_line(
     json_line(out, alloc)
 }
 
-/// The line of the JSON text that was written. What is escaped in it stands in strings, so the text means the same.
+/// The line of the JSON text that was written. What is escaped in it is in strings, so the text means the same.
 pub fn json_line(out: Writer, alloc: Global) -> Result<String, AllocError>
     ensures { IfOk result (λ t. IsLine (string_bytes t)) }
 {

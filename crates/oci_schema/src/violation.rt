@@ -105,7 +105,7 @@ impl fmt::Display for Expected {
 }
 
 /// The line of the violation: its pointer, `: ` and what is expected there. The pointer is escaped, so that no name of a member ends
-/// the line, moves a terminal's cursor or turns the direction of what is read.
+/// the line, moves a terminal's cursor or reverses the direction of what is read.
 impl fmt::Display for Violation {
     ghost use Rattle.std.specs.Prelude.{Some};
     ghost use Rattle.oci_schema.specs.Lines.{line};

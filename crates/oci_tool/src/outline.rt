@@ -8,7 +8,7 @@ use crate::texts::{complain_of, is_wrong};
 use oci_check::inspect::kind_of;
 use oci_json_io::write_text;
 use oci_kinds::Kind;
-use oci_layout::{Kind as ContentKind, blob_path, read_document};
+use oci_layout::{DOCUMENT_LIMIT, Kind as ContentKind, blob_path, read_document};
 use oci_report::outline::{Child, below, children_of, has_tree, heading, push_row};
 use oci_report::title_of;
 use oci_text::Digest;
@@ -21,9 +21,6 @@ use std::io::{ErrorKind, Write};
 const ROWS: usize = 100000;
 
 const DEPTH: usize = 16;
-
-/// How large a document may be, which is what registries have to take: 4 MiB (distribution specification, "Pushing Manifests").
-const LIMIT: u64 = 4194304;
 
 /// A line that is still to be drawn.
 #[derive(Drop)]
@@ -46,7 +43,7 @@ pub fn tree<S: Store, W: Write, E: Write>(
 ) -> Result<u8>
     ensures { IfOk result IsStatus }
 {
-    match store.read_document(alloc, asked.file, LIMIT) {
+    match store.read_document(alloc, asked.file, DOCUMENT_LIMIT) {
         Ok(bytes) => tree_of_bytes(asked, bytes.as_slice(), alloc, store, writer, errors),
         Err(fault) => {
             complain_of(asked.file, &fault, alloc, errors);
@@ -165,7 +162,7 @@ fn draw_at<S: Store>(
     if kind.schema().is_none() {
         return draw_marked(row, mark_of(store.presence(alloc, path)), alloc, text);
     }
-    match store.read_document(alloc, path, LIMIT) {
+    match store.read_document(alloc, path, DOCUMENT_LIMIT) {
         Ok(bytes) => draw_document(kind, bytes.as_slice(), row, rows, alloc, text),
         Err(fault) => draw_marked(row, mark_of_fault(fault.kind()), alloc, text),
     }

@@ -1,4 +1,5 @@
 //! How a layout is verified.
+use oci_layout::DOCUMENT_LIMIT;
 
 /// How a layout is verified, and how that is reported.
 #[derive(Clone, Copy, Debug, PartialEq, Eq)]
@@ -14,9 +15,6 @@ pub struct Options {
     /// How large a document may be, in bytes.
     pub limit: u64,
 }
-
-/// What registries have to take: 4 MiB (distribution specification, "Pushing Manifests").
-pub const DOCUMENT_LIMIT: u64 = 4194304;
 
 impl Options {
     /// No option, and documents of 4 MiB at most.
