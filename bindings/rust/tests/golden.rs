@@ -58,7 +58,8 @@ fn errors() {
     let lines = "/imageLayoutVersion: a string\n".to_string();
     assert_eq!(found, Ok(Violations { count: 1, lines }));
     let hostile = "{\"schemaVersion\":2,\"manifests\":[],\"annotations\":{\"a\\nb\u{9b}\u{202e}\":1,\"c\":1}}";
-    let lines = "/annotations/a\\u000ab\\u009b\\u202e: a string\n/annotations/c: a string\n".to_string();
+    let lines =
+        "/annotations/a\\u000ab\\u009b\\u202e: a string\n/annotations/c: a string\n".to_string();
     let found = violations(Kind::Index, hostile.as_bytes());
     assert_eq!(found, Ok(Violations { count: 2, lines }));
     assert_eq!(violations(Kind::Layout, b""), Err(Error::InvalidJson));
