@@ -173,7 +173,7 @@ impl {r.name}Builder {{
     prelude += ["[]"] * ("[]" in clauses) + ["◌⊎◌"] * ("⊎" in body)
     out += imported("std.specs.Prelude", prelude, True)
     if r.required:
-        out += imported("oci_json_model.specs.Built", ["IsUnset"], True) + imported(f"{r.book.crate}.specs.{r.name}Builder", [f"{r.word}_unset"], True)
+        out += imported("oci_model.specs.Built", ["IsUnset"], True) + imported(f"{r.book.crate}.specs.{r.name}Builder", [f"{r.word}_unset"], True)
     return out + plain_imports(r, clauses) + setters + body + filled_or_default(r) + "}\n"
 
 
@@ -183,12 +183,12 @@ def plain_imports(r, text):
     for rust, _ in OPEN_NAMES.values():
         out += imported(f"oci_text.specs.{rust}", used([f"{snake(rust)}_name"], text), True)
     if "plain." in text:
-        out += "    ghost use Rattle.oci_json_model.specs.Plain as plain;\n"
-    out += imported("oci_json_model.specs.Plain", used(["filled"], text), True)
-    out += imported("oci_runtime_names.specs.CapabilitySets", used(["set_plain"], text), True)
+        out += "    ghost use Rattle.oci_model.specs.Plain as plain;\n"
+    out += imported("oci_model.specs.Plain", used(["filled"], text), True)
+    out += imported("oci_text.specs.CapabilitySets", used(["set_plain"], text), True)
     for path, words in r.book.words.items():
         out += imported(path, used(words, text), True)
-    out += imported("oci_json_model.specs.Types", [t for t in used(PLAIN_TERMS, text) if t != "given"], True)
+    out += imported("oci_model.specs.Types", [t for t in used(PLAIN_TERMS, text) if t != "given"], True)
     for name in r.enums():
         out += imported(f"{r.book.names[name]}.specs.{name}", used([f"{snake(name)}_name", f"{snake(name)}_default"], text), True)
     for name, crate in r.parts():

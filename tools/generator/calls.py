@@ -3,9 +3,9 @@ from generator.text import imported
 
 SHAPES = "oci_shapes"
 CALL_IMPORTS = """    ghost use Rattle.std.specs.Prelude.{IfSome, OnOk};
-    ghost use Rattle.oci_text_base.specs.Refused.{IsMemory, IsSchema, IsJson, IsMemoryOrIo, IsMemorySerDeOrIo};
-    ghost use Rattle.oci_json_model.specs.Value.{value as json_of};
-    ghost use Rattle.oci_json_io.specs.Engines.{MeansBytes, IsNoJson, IsNoDocument, AppendsCompact, AppendsPretty, BeginsCompact, BeginsPretty, KeepsUnlessIo, IsCompactText, IsPrettyText, ReadsBack};
+    ghost use Rattle.oci_base.specs.Refused.{IsMemory, IsSchema, IsJson, IsMemoryOrIo, IsMemorySerDeOrIo};
+    ghost use Rattle.oci_model.specs.Value.{value as json_of};
+    ghost use Rattle.oci_json.specs.Engines.{MeansBytes, IsNoJson, IsNoDocument, AppendsCompact, AppendsPretty, BeginsCompact, BeginsPretty, KeepsUnlessIo, IsCompactText, IsPrettyText, ReadsBack};
 """
 
 
@@ -16,7 +16,7 @@ def readers(r):
     pub fn from_file<R: Files>(rt: &R, alloc: Global, path: &str) -> Result<{n}>
         ensures kind {{ IfErr result IsMemorySerDeOrIo }}
     {{
-        oci_json_io::from_file(rt, alloc, path)
+        oci_json::from_file(rt, alloc, path)
     }}
 
     /// Reads to the end and deserializes the bytes. Fails with `Io` if a read fails, or `SerDe` if the bytes are not JSON or the schema
@@ -27,7 +27,7 @@ def readers(r):
         ensures schema {{ IfErr result (λ e. IsSchema e → IfSome (R.remaining reader) (IsNoDocument {shape})) }}
         ensures kind {{ IfErr result IsMemorySerDeOrIo }}
     {{
-        oci_json_io::from_reader(alloc, reader)
+        oci_json::from_reader(alloc, reader)
     }}
 """
 
@@ -38,14 +38,14 @@ def file_writers(r):
     pub fn to_file<R: Files>(&self, rt: &R, alloc: Global, path: &str) -> Result<()>
         ensures kind { IfErr result IsMemoryOrIo }
     {
-        oci_json_io::to_file(rt, self, alloc, path)
+        oci_json::to_file(rt, self, alloc, path)
     }
 
     /// Serializes to pretty JSON in the file at `path`, which is created or truncated once the JSON is complete.
     pub fn to_file_pretty<R: Files>(&self, rt: &R, alloc: Global, path: &str) -> Result<()>
         ensures kind { IfErr result IsMemoryOrIo }
     {
-        oci_json_io::to_file_pretty(rt, self, alloc, path)
+        oci_json::to_file_pretty(rt, self, alloc, path)
     }
 """
 
@@ -62,7 +62,7 @@ def writers(r):
         ensures unwritten {{ IfErr result (KeepsUnlessIo {before_after}) }}
         ensures kind {{ IfErr result IsMemoryOrIo }}
     {{
-        oci_json_io::to_writer(self, alloc, writer)
+        oci_json::to_writer(self, alloc, writer)
     }}
 
     /// Serializes to pretty JSON. On `Io` a prefix of it was written, on `Memory` nothing.
@@ -72,7 +72,7 @@ def writers(r):
         ensures unwritten {{ IfErr result (KeepsUnlessIo {before_after}) }}
         ensures kind {{ IfErr result IsMemoryOrIo }}
     {{
-        oci_json_io::to_writer_pretty(self, alloc, writer)
+        oci_json::to_writer_pretty(self, alloc, writer)
     }}
 """
 
@@ -86,7 +86,7 @@ def string_writers(r):
         ensures reads_back {{ OnOk result (ReadsBack {json}) }}
         ensures kind {{ IfErr result IsMemory }}
     {{
-        oci_json_io::to_string(self, alloc)
+        oci_json::to_string(self, alloc)
     }}
 
     /// Serializes to a pretty JSON string: one line per member or item, indented by two spaces per level, without a final newline.
@@ -94,7 +94,7 @@ def string_writers(r):
         ensures ok {{ IfOk result (IsPrettyText {json}) }}
         ensures kind {{ IfErr result IsMemory }}
     {{
-        oci_json_io::to_string_pretty(self, alloc)
+        oci_json::to_string_pretty(self, alloc)
     }}
 """
 
@@ -109,7 +109,7 @@ def calls_source(r):
 ghost use Rattle.std.specs.Prelude.{{IfOk, IfErr}};
 
 use super::{r.name};
-use oci_text_base::Result;
+use oci_base::Result;
 use std::alloc::Global;
 use std::io::{{Read, Write}};
 use std::rt::Files;
@@ -124,8 +124,8 @@ def display(r):
     return f"""
 impl fmt::Display for {r.name} {{
     ghost use Rattle.std.specs.Prelude.{{OnOk}};
-    ghost use Rattle.oci_json_model.specs.Value.{{value as json_of}};
-    ghost use Rattle.oci_json_io.specs.Engines.{{DisplaysPretty}};
+    ghost use Rattle.oci_model.specs.Value.{{value as json_of}};
+    ghost use Rattle.oci_json.specs.Engines.{{DisplaysPretty}};
     ghost use Rattle.{SHAPES}.specs.{r.name}.{{{r.word}}};
     ghost use Rattle.{r.book.crate}.specs.{r.name}.{{{r.word}_plain}};
 
@@ -134,7 +134,7 @@ impl fmt::Display for {r.name} {{
     fn fmt<W: fmt::Write>(&self, f: &mut fmt::Formatter<W>) -> fmt::Result
         ensures pretty {{ OnOk result (DisplaysPretty W.write_str_gives f.old (json_of {r.word} ({r.word}_plain self.now)) f.new) }}
     {{
-        oci_json_io::display_pretty(self, *self.{r.display}.allocator(), f)
+        oci_json::display_pretty(self, *self.{r.display}.allocator(), f)
     }}
 }}
 """

@@ -39,7 +39,7 @@ def record_of(r, results):
 def lemma_imports(r, well):
     """The imports of the lemmas by which the defaults in its shape are well formed."""
     own = {f"default_{snake(name)}_fits": name for name, _ in r.parts()}
-    out = imported("oci_json_members.specs.DefaultMembers", [it for it in sorted(r.default_lemmas()) if it not in own], True)
+    out = imported("oci_model.specs.DefaultMembers", [it for it in sorted(r.default_lemmas()) if it not in own], True)
     for lemma in used(own, well):
         out += imported(f"{r.book.default_home(own[lemma])}.specs.Default{own[lemma]}", [lemma], True)
     return out
@@ -54,12 +54,12 @@ def law_imports(r, same, well):
     if "ErrorCode" in r.words():
         out += imported("oci_text.specs.ErrorCode", ["error_code_same"], True)
     if any(m.type.kind == "Keys" for m in r.members):
-        out += imported("oci_json_members.specs.Keys", ["same_keys"], True)
+        out += imported("oci_model.specs.Keys", ["same_keys"], True)
     if any(m.type.kind == "Caps" for m in r.members):
-        out += imported("oci_runtime_names.specs.CapabilitySets", ["same_sets"], True)
+        out += imported("oci_text.specs.CapabilitySets", ["same_sets"], True)
     for name in r.enums():
         out += imported(f"{r.book.names[name]}.specs.{name}", [f"{snake(name)}_same"], True)
-    out += lemma_imports(r, well) + imported("oci_json_model.specs.Same", same_terms(same), True)
+    out += lemma_imports(r, well) + imported("oci_model.specs.Same", same_terms(same), True)
     out += imported(f"{SHAPES}.specs.{r.name}", [r.word], True)
     out += imported(f"{r.book.crate}.specs.{r.name}", [f"{r.word}_plain"] + [f"{r.word}_same"] * r.own_equality(), True)
     for name, crate in r.parts() * (not r.own_equality()):
@@ -97,7 +97,7 @@ def consuming(r):
         Self::from_value_owned(alloc, value)
     }}
 
-    #[tactic(auto, using(oci_json_model::proofs::Readers::refuses_others))]
+    #[tactic(auto, using(oci_model::proofs::Readers::refuses_others))]
     fn from_value_owned(alloc: Global, value: Value) -> Result<{r.name}> {{
         let Some{opened} = {call}(alloc, value, &[{listed}])? else {{
             return Err(fault::refused(NAME, ""));

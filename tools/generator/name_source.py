@@ -19,10 +19,10 @@ def head(n):
     if n.refusal or parsed:
         out += f"ghost use Rattle.{n.crate}.specs.declared.{w}.{name}.{{{name}}};\n"
     out += f"ghost use Rattle.{n.crate}.specs.{name}.{{{', '.join(words)}}};\n\n"
-    out += "use oci_json_members::OciDefault;\n" * ("absent" in marks)
+    out += "use oci_model::OciDefault;\n" * ("absent" in marks)
     model = ["ClosedName", "OciMember"] + ["named"] * two + ["parse_name"] * bool(parsed or n.refusal and not n.shows()) + ["read_name", "write_name"]
-    out += f"use oci_json_model::{{{', '.join(model)}}};\n"
-    out += "use oci_text_base::" + ("{OciSpecError, Result};\n" if n.refusal else "{Result, UnknownName};\n" if parsed else "Result;\n")
+    out += f"use oci_model::{{{', '.join(model)}}};\n"
+    out += "use oci_base::" + ("{OciSpecError, Result};\n" if n.refusal else "{Result, UnknownName};\n" if parsed else "Result;\n")
     out += "use serde_json::Value;\nuse std::alloc::" + ("{AllocError, Global}" if n.refusal else "Global") + ";\n"
     return out + "use std::fmt;\n" * ("display" in marks)
 
@@ -222,8 +222,8 @@ def member(n):
     return f"""
 impl OciMember for {name} {{
     ghost use Rattle.std.specs.Prelude.{{refl}};
-    ghost use Rattle.oci_json_model.specs.Shape.{{named}};
-    ghost use Rattle.oci_json_model.specs.ClosedNames.{{same_variants, variant_plain}};
+    ghost use Rattle.oci_model.specs.Shape.{{named}};
+    ghost use Rattle.oci_model.specs.ClosedNames.{{same_variants, variant_plain}};
     ghost use Rattle.{n.crate}.specs.{name}.{{{w}_same, {w}_table}};
 
     ghost shape = {{ named {w}_table }};
@@ -269,7 +269,7 @@ def absent(n):
     w, name = n.word, n.name
     return f"""
 impl OciDefault for {name} {{
-    ghost use Rattle.oci_json_model.specs.Plain as plain_tree;
+    ghost use Rattle.oci_model.specs.Plain as plain_tree;
     ghost use Rattle.{n.crate}.specs.{name}.{{{w}_default}};
 
     ghost default_plain = {{ plain_tree.variant ({w}_name {w}_default) }};
@@ -286,7 +286,7 @@ def source(n):
     uses = ""
     if n.refusal:
         out += (spelled(n) if n.shows() else "") + unknown(n)
-        uses = imported("std.specs.Prelude", ["Some"], True) + imported("oci_text_base.specs.Refused", ["Refuses"], True) + "\n"
+        uses = imported("std.specs.Prelude", ["Some"], True) + imported("oci_base.specs.Refused", ["Refuses"], True) + "\n"
     if calls(n):
         out += f"impl {n.name} {{\n{uses}{calls(n)[1:]}}}\n\n"
     return out + closed_name(n) + member(n) + (absent(n) if "absent" in n.marks else "")

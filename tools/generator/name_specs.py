@@ -6,7 +6,7 @@ def head(n):
     return f"""-- {n.title}
 use Rattle.std.specs.Prelude.{{◌≡◌, ◌↔◌, ℕ, List, [], ◌∷◌, {more}true, Some, codes, map, refl}}
 use denote.Enum.Bare.{{sameb}}
-use Rattle.oci_json_model.specs.Variants.{{variant_of, told_by_name}}
+use Rattle.oci_model.specs.Variants.{{variant_of, told_by_name}}
 use Rattle.{n.crate}.specs.contracts.{n.word}.{n.name}.{{the_type}}
 use Rattle.{n.crate}.specs.declared.{n.word}.{n.name}.{{{n.name}}}
 use Rattle.{n.crate}.specs.declared.{n.word}.{n.name}.TheVariants.{{{', '.join(v.name for v in n.variants)}}}
@@ -65,8 +65,8 @@ def unspelled(n):
     return f"""-- A text that is in none of the tables is no variant's.
 use Rattle.std.proofs.Common.{{◌≡◌, ℕ, List, Option, Some, None, codes, sym}}
 use Rattle.std.specs.Prelude.{{IsTrue, IfNone}}
-use Rattle.oci_text_base.specs.Names.{{is_listed}}
-use Rattle.oci_json_model.specs.Variants.{{listed}}
+use Rattle.oci_base.specs.Names.{{is_listed}}
+use Rattle.oci_model.specs.Variants.{{listed}}
 use Rattle.{n.crate}.specs.{name}.{{{w}_name, {w}_shown, {w}_table, all_{w}, {w}_back}}
 use Rattle.{n.crate}.specs.declared.{w}.{name}.{{{name}}}
 use Rattle.{n.crate}.specs.declared.{w}.{name}.TheVariants.{{{', '.join(v.name for v in n.variants)}}}

@@ -19,7 +19,7 @@ def read_answers(r):
         for n, m in enumerate(members):
             known = f"{word}.{n + 1}"
             lines += f"    (let told = {known} in search rules,\n" if m.type.text in ("i32", "i64") else f"    ({known},\n"
-    together = imported("oci_json_model.proofs.Together", ["answered"] if len(split) > 1 else [])
+    together = imported("oci_model.proofs.Together", ["answered"] if len(split) > 1 else [])
     return f"""-- What each member decodes to.
 {imported("std.proofs.Common", ["refl"] + used(["rules"], lines))}{together}use Rattle.{r.book.crate}.proofs.{r.word}.{r.name}OciRecord.from_value.Goals as goal
 
@@ -57,7 +57,7 @@ def owned_answers(r):
 use Rattle.std.proofs.Common.{{refl}}
 use Rattle.std.proofs.lemmas.Option.{{MatchOption-at_some}}
 use Rattle.serde_json.specs.View.{{view}}
-use Rattle.oci_json_model.proofs.Together.{{answered}}
+use Rattle.oci_model.proofs.Together.{{answered}}
 use Rattle.{r.book.crate}.proofs.{r.word}.{r.name}OciRecord.from_value_owned.Goals as goal
 
 pub returns-clause-ok : goal.returns-clause-ok
@@ -81,7 +81,7 @@ def write_answers(r):
     return f"""-- What is written without an error, and why there is one.
 use Rattle.std.proofs.Common.{{codes, ap, refl, sym, ◌∙◌}}
 use Rattle.serde_json.specs.Data.{{{data}}}
-{imported("oci_json_model.specs.Value", used(["with_member"], lines))}use Rattle.oci_json_model.proofs.Unfaulted.{{before, refused, unfaulted, unfaulted_view}}
+{imported("oci_model.specs.Value", used(["with_member"], lines))}use Rattle.oci_model.proofs.Unfaulted.{{before, refused, unfaulted, unfaulted_view}}
 use Rattle.{r.book.crate}.proofs.{r.word}.{r.name}OciRecord.to_value.Goals as goal
 
 pub returns-clause-ok : goal.returns-clause-ok
@@ -114,9 +114,9 @@ def copy_answers(r):
         term = (next(terms) if m.optional else f"ap filled ({next(terms)})") if m.copies() else "search rules" if m.type.text in ("i32", "i64") and not m.optional else "refl"
         lines += f"    ap₂ slot ({term}) (\n" if " " in term else f"    ap₂ slot {term} (\n"
     names = "".join(f"    let {it} in\n" for it in lets)
-    together = imported("oci_json_model.proofs.Together", ["answered"] if "answered" in lines else [])
+    together = imported("oci_model.proofs.Together", ["answered"] if "answered" in lines else [])
     return f"""-- What each member of a copy is.
-{imported("std.proofs.Common", ["ap", "ap₂", "refl"] + used(["rules"], lines))}{together}use Rattle.oci_json_model.specs.Plain.{{{", ".join(["document"] + used(["filled"], lines) + ["slot"])}}}
+{imported("std.proofs.Common", ["ap", "ap₂", "refl"] + used(["rules"], lines))}{together}use Rattle.oci_model.specs.Plain.{{{", ".join(["document"] + used(["filled"], lines) + ["slot"])}}}
 use Rattle.{r.book.crate}.proofs.{r.word}.{r.name}OciRecord.duplicate.Goals as goal
 
 pub returns-clause-ok : goal.returns-clause-ok
@@ -157,11 +157,11 @@ returns-clause-{m.field} c =
     of_error = ""
     if len(calls) == 4:
         answers += memory_answer(asked[0].field, calls)
-        of_error = f"""{imported("oci_text_base.specs.declared.error.OciSpecError", ["OciSpecError"])}{imported("oci_text_base.specs.declared.error.OciSpecError.TheVariants", ["Memory"])}"""
-        of_error += imported("oci_json_model.proofs.Refusals", ["each_4", "left_with"])
+        of_error = f"""{imported("oci_base.specs.declared.error.OciSpecError", ["OciSpecError"])}{imported("oci_base.specs.declared.error.OciSpecError.TheVariants", ["Memory"])}"""
+        of_error += imported("oci_model.proofs.Refusals", ["each_4", "left_with"])
     filled = imported("std.proofs.Common", used(["ap"], answers) + ["◌≡◌", "Err"] * bool(of_error)) + of_error
-    filled += imported("oci_json_model.specs.Plain", used(["filled"], answers))
+    filled += imported("oci_model.specs.Plain", used(["filled"], answers))
     return f"""-- What was set, or else the default, of each field whose default takes memory.
-{filled}use Rattle.oci_json_model.proofs.Together.{{answered}}
+{filled}use Rattle.oci_model.proofs.Together.{{answered}}
 use Rattle.{r.book.crate}.proofs.{builder}.{r.name}Builder.build.Goals as goal
 {answers}"""

@@ -3,7 +3,7 @@ it stands for the record's shape in `oci_shapes`."""
 import os
 import re
 
-TYPES = "oci_schema_types"
+TYPES = "oci_schema"
 SHAPES = "oci_shapes"
 CRATE = "oci_schemas"
 TOOL = "tools/gen_records"
@@ -153,7 +153,7 @@ pub fn {word}() -> &'static Schema
     def book_source(self, module, crate):
         entries = [it for it in self.entries if it[3] == module]
         body = "".join(self.record(it) for it in entries)
-        ghost = ["Rattle.std.specs.Prelude.{◌≡◌}", "Rattle.oci_json_model.specs.Shape.{rows}",
+        ghost = ["Rattle.std.specs.Prelude.{◌≡◌}", "Rattle.oci_model.specs.Shape.{rows}",
                  f"Rattle.{TYPES}.specs.Shapes.{{members_in, schema_shape, shape_at}}", f"Rattle.{CRATE}.specs.Table.{{shapes}}"]
         ghost += [f"Rattle.{SHAPES}.specs.{name}.{{{word}}}" for name, word, *_ in entries]
         words = set(re.findall(r"(?:One|List|Map)\((\w+)\)", body))
@@ -171,7 +171,7 @@ pub fn {word}() -> &'static Schema
         return f"""// {header('tools/records')}
 //! The table of all records.
 ghost use Rattle.std.specs.Prelude.{{◌≡◌}};
-ghost use Rattle.oci_json_model.specs.Shape.{{rows}};
+ghost use Rattle.oci_model.specs.Shape.{{rows}};
 ghost use Rattle.{TYPES}.specs.Shapes.{{members_in, shape_at}};
 ghost use Rattle.{CRATE}.specs.Table.{{shapes}};
 
@@ -212,7 +212,7 @@ pub fn record_at(place: usize) -> &'static Record
 """
 
     def table_spec(self):
-        out = f"-- {header('tools/records')}\n-- The shapes of all records, each at its record's place.\nuse Rattle.std.specs.Prelude.{{List, [], ◌∷◌}}\nuse Rattle.oci_json_model.specs.Shape.{{Shape}}\n"
+        out = f"-- {header('tools/records')}\n-- The shapes of all records, each at its record's place.\nuse Rattle.std.specs.Prelude.{{List, [], ◌∷◌}}\nuse Rattle.oci_model.specs.Shape.{{Shape}}\n"
         out += "".join(f"use Rattle.{SHAPES}.specs.{name}.{{{word}}}\n" for name, word, *_ in self.entries)
         return out + "\nabbrev pub shapes : List Shape\nshapes =\n" + "".join(f"    {word} ∷\n" for _, word, *_ in self.entries) + "    []\n"
 

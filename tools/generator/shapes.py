@@ -31,9 +31,9 @@ def name_imports(r, rows):
         out += imported(f"oci_text.specs.{rust}", [tables] * (rust in r.words()))
     out += imported("oci_text.specs.ErrorCode", ["error_codes"] * ("ErrorCode" in r.words()))
     if re.search(r"\bplain\.", rows):
-        out += "use Rattle.oci_json_model.specs.Plain as plain\n"
+        out += "use Rattle.oci_model.specs.Plain as plain\n"
     if "document" in rows:
-        out += imported("oci_json_model.specs.Plain", ["Plain", "document", "slots"] + used(["empty", "filled"], rows))
+        out += imported("oci_model.specs.Plain", ["Plain", "document", "slots"] + used(["empty", "filled"], rows))
     for name in r.enums():
         w = snake(name)
         out += imported(f"{r.book.names[name]}.specs.{name}", [w + "_table"] + used([w + "_name", w + "_default"], rows))
@@ -47,8 +47,8 @@ def shape_spec(r):
     prelude = ["[]"] * ("[]" in terms) + ["◌∷◌"] * ("∷" in terms) + ["codes"] + ["Some"] * ("Some (codes" in rows) + used(["pos", "false", "true"], terms)
     out = f"-- {r.about}\n" + imported("std.specs.Prelude", prelude) + name_imports(r, terms)
     shapes = ["Shape", "rows", "no_rows"] + used(SHAPE_WORDS, re.sub(r'codes "[^"]*"', "", rows))
-    out += imported("oci_json_model.specs.Shape", shapes) + imported("oci_json_model.specs.Types", used(list(NUMBERS), rows))
-    out += imported("oci_runtime_names.specs.Capability", ["capability_table"] * any(m.type.kind == "Caps" for m in r.members))
+    out += imported("oci_model.specs.Shape", shapes) + imported("oci_model.specs.Types", used(list(NUMBERS), rows))
+    out += imported("oci_text.specs.Capability", ["capability_table"] * any(m.type.kind == "Caps" for m in r.members))
     for name, _ in r.parts():
         out += imported(f"{SHAPES}.specs.{name}", [snake(name)] + used([f"default_{snake(name)}"], rows))
     return out + f"""
@@ -86,8 +86,8 @@ def well(books, folder):
         visit(word)
     own = {f"default_{r.word}_fits": r.name for r in records if r.default_is_in_a_shape()}
     lemmas = sorted({it for _, found in by_word.values() for it in found})
-    out = "-- Each shape is well formed.\n" + imported("oci_json_model.specs.WellFormed", ["WellFormed"])
-    out += imported("oci_json_members.specs.DefaultMembers", [it for it in lemmas if it not in own])
+    out = "-- Each shape is well formed.\n" + imported("oci_model.specs.WellFormed", ["WellFormed"])
+    out += imported("oci_model.specs.DefaultMembers", [it for it in lemmas if it not in own])
     out += "".join(imported(f"{SHAPES}.specs.Default{name}", [lemma]) for lemma, name in sorted(own.items()) if lemma in lemmas)
     out += "".join(imported(f"{SHAPES}.specs.{name}", [word]) for name, word, _, _ in sorted(shapes, key=lambda it: it[1]))
     for word in order:

@@ -42,7 +42,7 @@ def equality(r):
     return f"""
 impl PartialEq for {r.name} {{
     ghost use Rattle.std.specs.Cmp.{{partial_equiv_from_equiv}};
-    ghost use Rattle.oci_json_readers.specs.SameFree.{{agrees_equiv}};
+    ghost use Rattle.oci_model.specs.SameFree.{{agrees_equiv}};
     ghost use Rattle.{r.book.crate}.specs.{r.name}.{{{r.word}_eq, {r.word}_same}};
 
     ghost eq = {{ {r.word}_eq }};
@@ -57,7 +57,7 @@ impl PartialEq for {r.name} {{
 }}
 
 impl Eq for {r.name} {{
-    ghost use Rattle.oci_json_readers.specs.SameFree.{{agrees_equiv}};
+    ghost use Rattle.oci_model.specs.SameFree.{{agrees_equiv}};
     ghost use Rattle.{r.book.crate}.specs.{r.name}.{{{r.word}_same}};
 
     ghost laws = {{ agrees_equiv {r.word}_same }};

@@ -77,9 +77,9 @@ def plain_imports(r, plain, default):
         out += imported(f"oci_text.specs.{rust}", [f"{snake(rust)}_name"] * (rust in r.words()))
     out += imported("oci_text.specs.ErrorCode", ["error_code_name"] * ("ErrorCode" in r.words()))
     if re.search(r"\bplain\.", plain + default):
-        out += "use Rattle.oci_json_model.specs.Plain as plain\n"
+        out += "use Rattle.oci_model.specs.Plain as plain\n"
     bare = re.sub(r"\bplain\.\w+", "", default)
-    return out + imported("oci_json_model.specs.Plain", ["Plain", "document", "slots"] + used(["empty", "filled", "no_plains"], bare))
+    return out + imported("oci_model.specs.Plain", ["Plain", "document", "slots"] + used(["empty", "filled", "no_plains"], bare))
 
 
 def enum_imports(r, default, lends):
@@ -95,14 +95,14 @@ def enum_imports(r, default, lends):
 
 def kind_imports(r, plain, lends, equal):
     """Imports of the model's words, and of those of kinds of members."""
-    out = imported("oci_json_model.specs.Types", list(dict.fromkeys(used(PLAIN_TERMS, plain))))
+    out = imported("oci_model.specs.Types", list(dict.fromkeys(used(PLAIN_TERMS, plain))))
     kinds = {m.type.kind for m in r.members}
-    out += imported("oci_json_members.specs.Keys", ["keys_plain"] * ("Keys" in kinds))
-    out += imported("oci_runtime_names.specs.CapabilitySets", ["set_plain"] * ("Caps" in kinds))
+    out += imported("oci_model.specs.Keys", ["keys_plain"] * ("Keys" in kinds))
+    out += imported("oci_text.specs.CapabilitySets", ["set_plain"] * ("Caps" in kinds))
     if equal:
-        out += imported("oci_json_model.specs.Same", ["Agrees"] + same_terms(equal))
-        out += imported("oci_json_readers.specs.FreeValues", ["free_values_plain", "free_eq"]) + imported("oci_json_readers.specs.SameFree", ["same_free"])
-    out += imported("oci_json_model.specs.Lent", used(["text_row", "option_row", "list_row", "map_row"], lends))
+        out += imported("oci_model.specs.Same", ["Agrees"] + same_terms(equal))
+        out += imported("oci_model.specs.FreeValues", ["free_values_plain", "free_eq"]) + imported("oci_model.specs.SameFree", ["same_free"])
+    out += imported("oci_model.specs.Lent", used(["text_row", "option_row", "list_row", "map_row"], lends))
     return out + "use Rattle.std.specs.Borrow as borrow\n" * ("borrow." in lends)
 
 
@@ -140,7 +140,7 @@ def builder_spec(r):
     unset = " ∷ ".join(f'(codes "{f}", is_none b.{f})' for f in r.required)
     return f"""-- The required fields of the builder of `{r.name}`.
 use Rattle.std.specs.Prelude.{{ℕ, List, [], ◌∷◌, Option, codes, is_none}}
-use Rattle.oci_json_model.specs.Built.{{first_unset}}
+use Rattle.oci_model.specs.Built.{{first_unset}}
 use Rattle.{r.book.crate}.specs.declared.{r.word}.{"builder." * ("builder" in r.long)}{r.name}Builder.{{{r.name}Builder}}
 
 -- the first required field that is not set

@@ -23,8 +23,8 @@ def kinds_specs(model):
     """The rules of each kind: those of its books."""
     out = "-- The rules of each kind of documents: those of its books.\n"
     out += "use Rattle.std.specs.Prelude.{List, [], ◌++◌}\n"
-    out += "use Rattle.oci_kinds.specs.declared.kind.Kind.{Kind}\n"
-    out += f"use Rattle.oci_kinds.specs.declared.kind.Kind.TheVariants.{{{', '.join(variant(it) for it in model.kinds)}}}\n"
+    out += "use Rattle.oci_schemas.specs.declared.kind.Kind.{Kind}\n"
+    out += f"use Rattle.oci_schemas.specs.declared.kind.Kind.TheVariants.{{{', '.join(variant(it) for it in model.kinds)}}}\n"
     out += "use Rattle.oci_rules.specs.Rules.{Rule}\n"
     out += defined(model, model.kinds)
     out += "\nabbrev pub rules_of : Kind → List Rule\n"
@@ -43,8 +43,8 @@ def kinds_source(model):
     out = "//! The books of rules of each kind of documents.\n#![tactic(auto)]\n"
     out += "ghost use Rattle.std.specs.Prelude.{◌≡◌, map, IfOk};\nghost use Rattle.std.specs.List.{flat_map};\n"
     out += "ghost use Rattle.oci_rules.specs.Tables.{rule_of};\n"
-    out += f"ghost use Rattle.{CRATE}.specs.Kinds as kinds;\nghost use Rattle.oci_kinds.specs.declared.kind.Kind.TheVariants as kind;\n\n"
-    out += "use oci_kinds::Kind;\nuse oci_rules::Rule;\n"
+    out += f"ghost use Rattle.{CRATE}.specs.Kinds as kinds;\nghost use Rattle.oci_schemas.specs.declared.kind.Kind.TheVariants as kind;\n\n"
+    out += "use oci_schemas::Kind;\nuse oci_rules::Rule;\n"
     for crate, words in sorted(used.items()):
         out += f"use {crate}::{{{', '.join(sorted(set(words)))}}};\n"
     out += "use std::alloc::{AllocError, Global};\n"
@@ -71,9 +71,9 @@ def places(model):
     """That each place of each kind's rules stands in the shape of its documents."""
     out = "-- Each place of the rules of a kind stands in the shape of its documents.\n"
     out += "use Rattle.std.specs.Prelude.{◌≡◌, true, refl}\n"
-    out += "use Rattle.oci_kinds.specs.declared.kind.Kind.{Kind}\n"
-    out += f"use Rattle.oci_kinds.specs.declared.kind.Kind.TheVariants.{{{', '.join(variant(it) for it in model.kinds)}}}\n"
-    out += f"use Rattle.oci_kinds.specs.Kinds.{{shape_of}}\nuse Rattle.{CRATE}.specs.Kinds.{{rules_of}}\nuse Rattle.{CRATE}.specs.Stands.{{stands_in}}\n"
+    out += "use Rattle.oci_schemas.specs.declared.kind.Kind.{Kind}\n"
+    out += f"use Rattle.oci_schemas.specs.declared.kind.Kind.TheVariants.{{{', '.join(variant(it) for it in model.kinds)}}}\n"
+    out += f"use Rattle.oci_schemas.specs.Kinds.{{shape_of}}\nuse Rattle.{CRATE}.specs.Kinds.{{rules_of}}\nuse Rattle.{CRATE}.specs.Stands.{{stands_in}}\n"
     out += "\npub each_stands : (kind : Kind) → stands_in (shape_of kind) (rules_of kind) ≡ true\n"
     return out + "".join(f"each_stands {variant(kind)} = refl\n" for kind in model.kinds)
 

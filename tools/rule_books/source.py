@@ -70,7 +70,7 @@ def imports(rules, group, model):
     out = "ghost use Rattle.std.specs.Prelude.{◌≡◌, map};\nghost use Rattle.std.specs.List.{flat_map};\nghost use Rattle.oci_rules.specs.Tables.{rule_of};\n"
     out += f"ghost use Rattle.{crate}.specs.{pascal(group.file)} as defined;\n\n"
     out += f"use crate::lists::{{{', '.join(sorted(shared))}}};\n" if shared else ""
-    out += "use oci_rule_texts::Grammar;\n" if "Grammar" in words else ""
+    out += "use oci_grammars::Grammar;\n" if "Grammar" in words else ""
     return out + f"use oci_rules::{{{', '.join(types)}}};\n\n"
 
 

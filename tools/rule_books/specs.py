@@ -94,7 +94,7 @@ def imports(text, model, file, crate):
     out = f"use Rattle.std.specs.Prelude.{{{', '.join(prelude)}}}\n"
     variants = [it for it in dict.fromkeys(model.grammars.values()) if it in words]
     if variants:
-        out += f"use Rattle.oci_rule_texts.specs.declared.grammar.Grammar.TheVariants.{{{', '.join(variants)}}}\n"
+        out += f"use Rattle.oci_grammars.specs.declared.grammar.Grammar.TheVariants.{{{', '.join(variants)}}}\n"
     used = [it for it in WORDS if it in words]
     out += f"use Rattle.oci_rules.specs.Rules.{{{', '.join(used)}}}\n"
     if "every" in words:

@@ -1,7 +1,7 @@
 //! The commands of the program, with their arguments and help texts, as tables of which clap's commands are made.
 use clap::builder::ValueParser;
 use clap::{Arg, ArgAction, Command};
-use oci_report::sarif::VERSION;
+use oci_findings::sarif::VERSION;
 use std::alloc::{AllocError, Global};
 
 const STATUS: &str =

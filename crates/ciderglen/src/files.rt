@@ -1,6 +1,6 @@
 //! The files of the system as a store.
+use oci_commands::{Presence, Store};
 use oci_content::{Algorithm, Checksum, digest_of_reader};
-use oci_tool::{Presence, Store};
 use std::alloc::Global;
 use std::fs::Metadata;
 use std::io::{Error, ErrorKind, Read, Write};

@@ -2,14 +2,14 @@
 use crate::commands::ciderglen;
 use clap::error::ErrorKind;
 use clap::{ArgMatches, Error};
+use oci_base::escaped;
+use oci_commands::verify::Options;
+use oci_commands::{Asked, Check, Compare, Format, Style, Unknown};
 use oci_content::Algorithm;
-use oci_escape::escaped;
-use oci_kinds::Kind;
+use oci_findings::kind_named;
 use oci_policies::Bump;
-use oci_report::kind_named;
 use oci_rules::{Level, Platform, Rule};
-use oci_tool::{Asked, Check, Compare, Format, Style, Unknown};
-use oci_verify::Options;
+use oci_schemas::Kind;
 use std::alloc::{AllocError, Global};
 use std::{env, io};
 

@@ -10,12 +10,12 @@ mod watch;
 use clap::{ArgMatches, Error};
 use files::FileStore;
 use line::{asked, escaped_words, lack_in, matches_of, options_in, status_of, words_of};
+use oci_commands::texts::{complain, complain_of};
+use oci_commands::verify::Options;
+use oci_commands::{Asked, Tree};
 use oci_layout::Folder;
 use oci_policies::{Bump, Policy, PolicyError};
 use oci_rules::Rule;
-use oci_tool::texts::{complain, complain_of};
-use oci_tool::{Asked, Tree};
-use oci_verify::Options;
 use rules::Specifications;
 use std::alloc::AllocError;
 use std::fmt::Display;
@@ -180,7 +180,7 @@ fn run(rt: &HostRuntime, asked: &Asked<'_>) -> u8 {
     let mut store = FileStore::new(rt);
     let mut writer = rt.stdout();
     let mut errors = rt.stderr();
-    oci_tool::run(
+    oci_commands::run(
         &Specifications,
         asked,
         rt.alloc(),
@@ -198,7 +198,7 @@ fn verify(rt: &HostRuntime, options: &Options, root: &str) -> u8 {
     let folder = Folder { rt, root };
     let mut writer = rt.stdout();
     let mut errors = rt.stderr();
-    oci_verify::run(
+    oci_commands::verify::run(
         &folder,
         options,
         rt.alloc(),

@@ -1,9 +1,9 @@
 //! The books of rules of the specifications.
 ghost use Rattle.oci_rule_books.specs.Kinds.{rules_of};
 
-use oci_kinds::Kind;
+use oci_commands::RuleBooks;
 use oci_rules::Rule;
-use oci_tool::RuleBooks;
+use oci_schemas::Kind;
 use std::alloc::{AllocError, Global};
 
 /// The rules of the specifications.

@@ -1,6 +1,6 @@
 -- The words that the program knows.
 use Rattle.std.specs.Prelude.{◌≡◌, ℕ, List, [], ◌∷◌, codes, bytes_eq, Option, Some, None, if◌then◌else◌}
-use Rattle.oci_kinds.specs.Kinds.{kind_of}
+use Rattle.oci_schemas.specs.Kinds.{kind_of}
 use Rattle.oci_bench.specs.declared.arguments.Task.{Task}
 use Rattle.oci_bench.specs.declared.arguments.Task.TheVariants.{Typed, Schema, Texts}
 use Rattle.oci_bench.specs.declared.documents.TypedCall.{TypedCall}

@@ -5,7 +5,7 @@ ghost use Rattle.oci_bench.specs.Words.{Names, NamesWords};
 use crate::documents::TypedCall;
 use crate::references::TextCall;
 use crate::schemas::SchemaCall;
-use oci_kinds::Kind;
+use oci_schemas::Kind;
 
 /// A call, and how often it is made.
 #[derive(Clone, Copy)]

@@ -1,5 +1,5 @@
 //! The documents on standard input.
-use oci_kinds::Kind;
+use oci_schemas::Kind;
 
 /// A document of a kind.
 #[derive(Clone, Copy)]

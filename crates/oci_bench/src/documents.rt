@@ -4,16 +4,15 @@ ghost use Rattle.oci_bench.specs.Words.{typed_call_of};
 
 use crate::arguments::Run;
 use anyhow::Result;
+use oci_descriptor::Descriptor;
 use oci_distribution::{ErrorResponse, RepositoryList, TagList};
 use oci_features::Features;
-use oci_image::ImageConfiguration;
-use oci_image_descriptor::Descriptor;
-use oci_image_manifest::{ArtifactManifest, ImageIndex, ImageManifest, OciLayout};
-use oci_json_io::{from_slice, to_string};
-use oci_json_model::OciRecord;
-use oci_kinds::Kind;
+use oci_image::{ArtifactManifest, ImageConfiguration, ImageIndex, ImageManifest, OciLayout};
+use oci_json::{from_slice, to_string};
+use oci_model::OciRecord;
 use oci_reference::Reference;
 use oci_runtime::{ContainerProcessState, Spec, State};
+use oci_schemas::Kind;
 use std::alloc::Global;
 
 /// A call on the record of a document.

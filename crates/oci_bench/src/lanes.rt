@@ -1,10 +1,10 @@
 //! Both lanes, from a document's bytes to its canonical form: straight from the bytes, and by way of a value.
 use crate::cases::{Case, next_case};
 use anyhow::Result as Done;
+use oci_base::{OciSpecError, Result, SerDeError};
+use oci_schema::bytes::{Workspace, is_valid_bytes, normalize_bytes};
 use oci_schema::{is_valid, normalize};
-use oci_schema_bytes::{Workspace, is_valid_bytes, normalize_bytes};
 use oci_schemas::OciRecords;
-use oci_text_base::{OciSpecError, Result, SerDeError};
 use serde_json::Value;
 use std::alloc::Global;
 use std::io::{BufWriter, Write};

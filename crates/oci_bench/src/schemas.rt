@@ -6,9 +6,8 @@ use crate::arguments::Run;
 use crate::tape::copy;
 use anyhow::Result;
 use json::Scratch;
-use oci_kinds::Kind;
-use oci_schema_bytes::{Workspace, normalize_bytes};
-use oci_schemas::OciRecords;
+use oci_schema::bytes::{Workspace, normalize_bytes};
+use oci_schemas::{Kind, OciRecords};
 use serde_json::Value;
 use std::alloc::Global;
 
@@ -86,7 +85,7 @@ fn by_value(alloc: Global, kind: Kind, bytes: &[u8]) -> Result<()> {
 
 fn by_streams(alloc: Global, kind: Kind, bytes: &[u8]) -> Result<()> {
     let mut written = Vec::new(alloc);
-    oci_schema_bytes::normalize(&OciRecords, kind.schema(), alloc, bytes, &mut written)?;
+    oci_schema::bytes::normalize(&OciRecords, kind.schema(), alloc, bytes, &mut written)?;
     Ok(())
 }
 

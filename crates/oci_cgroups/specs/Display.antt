@@ -2,7 +2,7 @@
 -- "Allowed Device list" and "Network", `priorities`).
 use Rattle.std.specs.Prelude.{ℕ, ℤ, List, [], ◌++◌, Option, Some, None, codes, string_bytes, option_map, unwrap_or, decimal}
 use Rattle.std.specs.Fmt.{signed_decimal}
-use Rattle.oci_runtime_names.specs.LinuxDeviceType.{linux_device_type_name}
+use Rattle.oci_text.specs.LinuxDeviceType.{linux_device_type_name}
 use Rattle.oci_cgroups.specs.declared.linux_device_cgroup.LinuxDeviceCgroup.{LinuxDeviceCgroup}
 use Rattle.oci_cgroups.specs.declared.linux_interface_priority.LinuxInterfacePriority.{LinuxInterfacePriority}
 

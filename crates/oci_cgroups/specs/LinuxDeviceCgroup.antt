@@ -3,13 +3,13 @@
 use Rattle.std.specs.Prelude.{[], ◌∷◌, false, Option, String, Bool, ℤ}
 use Rattle.std.specs.Borrow.{Lends, MutBor, Fml}
 use Rattle.std.specs.declared.alloc.Global.{Global}
-use Rattle.oci_json_model.specs.Plain as plain
-use Rattle.oci_json_model.specs.Plain.{Plain, document, slots, empty, filled}
-use Rattle.oci_runtime_names.specs.LinuxDeviceType.{linux_device_type_name}
-use Rattle.oci_runtime_names.specs.declared.linux_device_type.LinuxDeviceType.{LinuxDeviceType}
-use Rattle.oci_runtime_names.specs.contracts.linux_device_type.LinuxDeviceType as linux_device_type
-use Rattle.oci_json_model.specs.Types.{given, perhaps, text_plain, truth_plain, integer_plain, variant_plain}
-use Rattle.oci_json_model.specs.Lent.{text_row, option_row}
+use Rattle.oci_model.specs.Plain as plain
+use Rattle.oci_model.specs.Plain.{Plain, document, slots, empty, filled}
+use Rattle.oci_text.specs.LinuxDeviceType.{linux_device_type_name}
+use Rattle.oci_text.specs.declared.linux_device_type.LinuxDeviceType.{LinuxDeviceType}
+use Rattle.oci_text.specs.contracts.linux_device_type.LinuxDeviceType as linux_device_type
+use Rattle.oci_model.specs.Types.{given, perhaps, text_plain, truth_plain, integer_plain, variant_plain}
+use Rattle.oci_model.specs.Lent.{text_row, option_row}
 use Rattle.std.specs.Borrow as borrow
 use Rattle.oci_cgroups.specs.declared.linux_device_cgroup.LinuxDeviceCgroup.{LinuxDeviceCgroup}
 use Rattle.oci_cgroups.specs.contracts.linux_device_cgroup.LinuxDeviceCgroup.{the_row}

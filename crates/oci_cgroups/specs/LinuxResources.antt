@@ -4,9 +4,9 @@ use Rattle.std.specs.Prelude.{[], ◌∷◌, Option, String, Vec}
 use Rattle.std.specs.Borrow.{Lends, MutBor, Fml}
 use Rattle.std.specs.declared.alloc.Global.{Global}
 use Rattle.std.specs.BTreeMap.{BTreeMap}
-use Rattle.oci_json_model.specs.Plain.{Plain, document, slots, empty}
-use Rattle.oci_json_model.specs.Types.{perhaps, text_plain, list_plain, map_plain}
-use Rattle.oci_json_model.specs.Lent.{text_row, option_row, list_row, map_row}
+use Rattle.oci_model.specs.Plain.{Plain, document, slots, empty}
+use Rattle.oci_model.specs.Types.{perhaps, text_plain, list_plain, map_plain}
+use Rattle.oci_model.specs.Lent.{text_row, option_row, list_row, map_row}
 use Rattle.oci_cgroups.specs.LinuxDeviceCgroup.{linux_device_cgroup_plain}
 use Rattle.oci_cgroups.specs.declared.linux_device_cgroup.LinuxDeviceCgroup.{LinuxDeviceCgroup}
 use Rattle.oci_cgroups.specs.contracts.linux_device_cgroup.LinuxDeviceCgroup as linux_device_cgroup
@@ -28,9 +28,9 @@ use Rattle.oci_cgroups.specs.contracts.linux_hugepage_limit.LinuxHugepageLimit a
 use Rattle.oci_cgroups.specs.LinuxNetwork.{linux_network_plain}
 use Rattle.oci_cgroups.specs.declared.linux_network.LinuxNetwork.{LinuxNetwork}
 use Rattle.oci_cgroups.specs.contracts.linux_network.LinuxNetwork as linux_network
-use Rattle.oci_cgroups_rdma.specs.LinuxRdma.{linux_rdma_plain}
-use Rattle.oci_cgroups_rdma.specs.declared.linux_rdma.LinuxRdma.{LinuxRdma}
-use Rattle.oci_cgroups_rdma.specs.contracts.linux_rdma.LinuxRdma as linux_rdma
+use Rattle.oci_cgroups.specs.LinuxRdma.{linux_rdma_plain}
+use Rattle.oci_cgroups.specs.declared.linux_rdma.LinuxRdma.{LinuxRdma}
+use Rattle.oci_cgroups.specs.contracts.linux_rdma.LinuxRdma as linux_rdma
 use Rattle.oci_cgroups.specs.declared.linux_resources.LinuxResources.{LinuxResources}
 use Rattle.oci_cgroups.specs.contracts.linux_resources.LinuxResources.{the_row}
 

@@ -2,7 +2,7 @@
 //! interface to `net_prio.ifpriomap`.
 use crate::linux_device_cgroup::LinuxDeviceCgroup;
 use crate::linux_interface_priority::LinuxInterfacePriority;
-use oci_runtime_names::LinuxDeviceType;
+use oci_text::LinuxDeviceType;
 use std::fmt;
 
 // a number, or all of them

@@ -1,4 +1,4 @@
-//! The cgroup limits of a container: memory, CPU, tasks, devices, huge pages and the network.
+//! The cgroup limits of a container: memory, CPU, tasks, devices, huge pages, the network and RDMA.
 #![tactic(auto)]
 
 mod display;
@@ -10,6 +10,7 @@ pub mod linux_interface_priority;
 pub mod linux_memory;
 pub mod linux_network;
 pub mod linux_pids;
+pub mod linux_rdma;
 pub mod linux_resources;
 pub mod linux_throttle_device;
 pub mod linux_weight_device;
@@ -22,7 +23,7 @@ pub use linux_interface_priority::{LinuxInterfacePriority, LinuxInterfacePriorit
 pub use linux_memory::{LinuxMemory, LinuxMemoryBuilder};
 pub use linux_network::{LinuxNetwork, LinuxNetworkBuilder};
 pub use linux_pids::{LinuxPids, LinuxPidsBuilder};
+pub use linux_rdma::{LinuxRdma, LinuxRdmaBuilder};
 pub use linux_resources::{LinuxResources, LinuxResourcesBuilder};
 pub use linux_throttle_device::{LinuxThrottleDevice, LinuxThrottleDeviceBuilder};
 pub use linux_weight_device::{LinuxWeightDevice, LinuxWeightDeviceBuilder};
-pub use oci_cgroups_rdma::{LinuxRdma, LinuxRdmaBuilder};

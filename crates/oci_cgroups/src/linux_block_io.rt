@@ -4,11 +4,11 @@ ghost use Rattle.std.specs.Prelude.{◌≡◌, IfOk, IfErr};
 
 use crate::linux_throttle_device::LinuxThrottleDevice;
 use crate::linux_weight_device::LinuxWeightDevice;
-use oci_json_model::{
-    ObjectWriter, OciRecord, copy_optional, try_join2, try_join5, write_optional,
+use oci_base::{OciSpecError, Result};
+use oci_model::{
+    ObjectWriter, OciRecord, Optional, copy_optional, read3, read4, try_join2, try_join5,
+    write_optional,
 };
-use oci_json_readers::{Optional, read3, read4};
-use oci_text_base::{OciSpecError, Result};
 use serde_json::Value;
 use std::alloc::Global;
 
@@ -194,8 +194,8 @@ impl LinuxBlockIo {
 }
 
 impl OciRecord for LinuxBlockIo {
-    ghost use Rattle.oci_json_members.specs.DefaultMembers.{default_number};
-    ghost use Rattle.oci_json_model.specs.Same.{same_document, same_more, same_last, same_perhaps, same_lists, same_numbers};
+    ghost use Rattle.oci_model.specs.DefaultMembers.{default_number};
+    ghost use Rattle.oci_model.specs.Same.{same_document, same_more, same_last, same_perhaps, same_lists, same_numbers};
     ghost use Rattle.oci_shapes.specs.LinuxBlockIo.{linux_block_io};
     ghost use Rattle.oci_cgroups.specs.LinuxBlockIo.{linux_block_io_plain};
     ghost use Rattle.oci_cgroups.specs.contracts.linux_weight_device.LinuxWeightDeviceOciRecord.TheImpl.Laws.{same-law as linux_weight_device_same};

@@ -5,9 +5,10 @@ ghost use Rattle.std.specs.Prelude.{◌≡◌, IfOk, IfErr};
 pub mod builder;
 
 pub use builder::LinuxCpuBuilder;
-use oci_json_model::{ObjectWriter, OciRecord, copy_optional, try_join2, write_optional};
-use oci_json_readers::{Optional, read4, read5};
-use oci_text_base::{OciSpecError, Result};
+use oci_base::{OciSpecError, Result};
+use oci_model::{
+    ObjectWriter, OciRecord, Optional, copy_optional, read4, read5, try_join2, write_optional,
+};
 use serde_json::Value;
 use std::alloc::Global;
 
@@ -220,7 +221,7 @@ impl LinuxCpu {
 }
 
 impl OciRecord for LinuxCpu {
-    ghost use Rattle.oci_json_model.specs.Same.{same_document, same_more, same_last, same_perhaps, same_texts, same_numbers, same_integers};
+    ghost use Rattle.oci_model.specs.Same.{same_document, same_more, same_last, same_perhaps, same_texts, same_numbers, same_integers};
     ghost use Rattle.oci_shapes.specs.LinuxCpu.{linux_cpu};
     ghost use Rattle.oci_cgroups.specs.LinuxCpu.{linux_cpu_plain};
 

@@ -2,11 +2,12 @@
 //! A rule for which devices a container may use, and how (runtime specification, "Linux Container Configuration", "Allowed Device list").
 ghost use Rattle.std.specs.Prelude.{◌≡◌, IfOk, IfErr};
 
-use oci_json_members::write_nullable;
-use oci_json_model::{ObjectWriter, OciRecord, copy_optional, write_optional, write_required};
-use oci_json_readers::{Defaulted, Nullable, Optional, read5};
-use oci_runtime_names::LinuxDeviceType;
-use oci_text_base::{OciSpecError, Result};
+use oci_base::{OciSpecError, Result};
+use oci_model::{
+    Defaulted, Nullable, ObjectWriter, OciRecord, Optional, copy_optional, read5, write_nullable,
+    write_optional, write_required,
+};
+use oci_text::LinuxDeviceType;
 use serde_json::Value;
 use std::alloc::Global;
 
@@ -183,9 +184,9 @@ impl LinuxDeviceCgroup {
 }
 
 impl OciRecord for LinuxDeviceCgroup {
-    ghost use Rattle.oci_runtime_names.specs.LinuxDeviceType.{linux_device_type_same};
-    ghost use Rattle.oci_json_members.specs.DefaultMembers.{default_truth};
-    ghost use Rattle.oci_json_model.specs.Same.{same_document, same_more, same_last, same_given, same_perhaps, same_texts, same_integers, same_truths, same_variants};
+    ghost use Rattle.oci_text.specs.LinuxDeviceType.{linux_device_type_same};
+    ghost use Rattle.oci_model.specs.DefaultMembers.{default_truth};
+    ghost use Rattle.oci_model.specs.Same.{same_document, same_more, same_last, same_given, same_perhaps, same_texts, same_integers, same_truths, same_variants};
     ghost use Rattle.oci_shapes.specs.LinuxDeviceCgroup.{linux_device_cgroup};
     ghost use Rattle.oci_cgroups.specs.LinuxDeviceCgroup.{linux_device_cgroup_plain};
 
@@ -259,8 +260,8 @@ pub struct LinuxDeviceCgroupBuilder {
 
 impl LinuxDeviceCgroupBuilder {
     ghost use Rattle.std.specs.Prelude.{Some, unwrap_or, option_map, false};
-    ghost use Rattle.oci_json_model.specs.Plain as plain;
-    ghost use Rattle.oci_json_model.specs.Types.{truth_plain};
+    ghost use Rattle.oci_model.specs.Plain as plain;
+    ghost use Rattle.oci_model.specs.Types.{truth_plain};
 
     /// Sets `allow`: whether the rule allows what it names; else it forbids it. REQUIRED; `false` is read where it is absent.
     pub fn allow(mut self, allow: bool) -> Self

@@ -2,9 +2,8 @@
 //! How much of the huge pages of one size a container may use (runtime specification, "Linux Container Configuration", "Huge page limits").
 ghost use Rattle.std.specs.Prelude.{◌≡◌, IfOk, IfErr};
 
-use oci_json_model::{ObjectWriter, OciMember, OciRecord, write_required};
-use oci_json_readers::{Defaulted, read2};
-use oci_text_base::{OciSpecError, Result};
+use oci_base::{OciSpecError, Result};
+use oci_model::{Defaulted, ObjectWriter, OciMember, OciRecord, read2, write_required};
 use serde_json::Value;
 use std::alloc::Global;
 
@@ -80,8 +79,8 @@ impl LinuxHugepageLimit {
 }
 
 impl OciRecord for LinuxHugepageLimit {
-    ghost use Rattle.oci_json_members.specs.DefaultMembers.{default_number, default_text};
-    ghost use Rattle.oci_json_model.specs.Same.{same_document, same_more, same_last, same_given, same_texts, same_integers};
+    ghost use Rattle.oci_model.specs.DefaultMembers.{default_number, default_text};
+    ghost use Rattle.oci_model.specs.Same.{same_document, same_more, same_last, same_given, same_texts, same_integers};
     ghost use Rattle.oci_shapes.specs.LinuxHugepageLimit.{linux_hugepage_limit};
     ghost use Rattle.oci_cgroups.specs.LinuxHugepageLimit.{linux_hugepage_limit_plain};
 
@@ -126,8 +125,8 @@ pub struct LinuxHugepageLimitBuilder {
 
 impl LinuxHugepageLimitBuilder {
     ghost use Rattle.std.specs.Prelude.{Some, unwrap_or, option_map, pos, []};
-    ghost use Rattle.oci_json_model.specs.Plain as plain;
-    ghost use Rattle.oci_json_model.specs.Types.{text_plain, integer_plain};
+    ghost use Rattle.oci_model.specs.Plain as plain;
+    ghost use Rattle.oci_model.specs.Types.{text_plain, integer_plain};
 
     /// Sets `page_size`: the size of the pages, a number with a unit, as `64KB`, `2MB` or `1GB`. REQUIRED; the form is not checked here.
     pub fn page_size(mut self, page_size: String) -> Self

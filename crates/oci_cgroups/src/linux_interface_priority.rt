@@ -2,9 +2,8 @@
 //! The priority of a container's traffic on one network interface (runtime specification, "Linux Container Configuration", "Network").
 ghost use Rattle.std.specs.Prelude.{◌≡◌, IfOk, IfErr};
 
-use oci_json_model::{ObjectWriter, OciMember, OciRecord, write_required};
-use oci_json_readers::{Defaulted, read2};
-use oci_text_base::{OciSpecError, Result};
+use oci_base::{OciSpecError, Result};
+use oci_model::{Defaulted, ObjectWriter, OciMember, OciRecord, read2, write_required};
 use serde_json::Value;
 use std::alloc::Global;
 
@@ -79,8 +78,8 @@ impl LinuxInterfacePriority {
 }
 
 impl OciRecord for LinuxInterfacePriority {
-    ghost use Rattle.oci_json_members.specs.DefaultMembers.{default_number, default_text};
-    ghost use Rattle.oci_json_model.specs.Same.{same_document, same_more, same_last, same_given, same_texts, same_numbers};
+    ghost use Rattle.oci_model.specs.DefaultMembers.{default_number, default_text};
+    ghost use Rattle.oci_model.specs.Same.{same_document, same_more, same_last, same_given, same_texts, same_numbers};
     ghost use Rattle.oci_shapes.specs.LinuxInterfacePriority.{linux_interface_priority};
     ghost use Rattle.oci_cgroups.specs.LinuxInterfacePriority.{linux_interface_priority_plain};
 
@@ -125,8 +124,8 @@ pub struct LinuxInterfacePriorityBuilder {
 
 impl LinuxInterfacePriorityBuilder {
     ghost use Rattle.std.specs.Prelude.{Some, unwrap_or, option_map, pos, []};
-    ghost use Rattle.oci_json_model.specs.Plain as plain;
-    ghost use Rattle.oci_json_model.specs.Types.{text_plain, number_plain};
+    ghost use Rattle.oci_model.specs.Plain as plain;
+    ghost use Rattle.oci_model.specs.Types.{text_plain, number_plain};
 
     /// Sets `name`: the name of the interface, in the network namespace of the runtime. REQUIRED; the empty string is read where it is
     /// absent.

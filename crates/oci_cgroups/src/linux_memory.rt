@@ -5,9 +5,8 @@ ghost use Rattle.std.specs.Prelude.{◌≡◌, IfOk, IfErr};
 pub mod builder;
 
 pub use builder::LinuxMemoryBuilder;
-use oci_json_model::{ObjectWriter, OciRecord, try_join2, write_optional};
-use oci_json_readers::{Optional, read4, read5};
-use oci_text_base::{OciSpecError, Result};
+use oci_base::{OciSpecError, Result};
+use oci_model::{ObjectWriter, OciRecord, Optional, read4, read5, try_join2, write_optional};
 use serde_json::Value;
 use std::alloc::Global;
 
@@ -202,7 +201,7 @@ impl LinuxMemory {
 }
 
 impl OciRecord for LinuxMemory {
-    ghost use Rattle.oci_json_model.specs.Same.{same_document, same_more, same_last, same_perhaps, same_numbers, same_integers, same_truths};
+    ghost use Rattle.oci_model.specs.Same.{same_document, same_more, same_last, same_perhaps, same_numbers, same_integers, same_truths};
     ghost use Rattle.oci_shapes.specs.LinuxMemory.{linux_memory};
     ghost use Rattle.oci_cgroups.specs.LinuxMemory.{linux_memory_plain};
 

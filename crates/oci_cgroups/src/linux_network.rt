@@ -3,9 +3,8 @@
 ghost use Rattle.std.specs.Prelude.{◌≡◌, IfOk, IfErr};
 
 use crate::linux_interface_priority::LinuxInterfacePriority;
-use oci_json_model::{ObjectWriter, OciRecord, copy_optional, write_optional};
-use oci_json_readers::{Optional, read2};
-use oci_text_base::{OciSpecError, Result};
+use oci_base::{OciSpecError, Result};
+use oci_model::{ObjectWriter, OciRecord, Optional, copy_optional, read2, write_optional};
 use serde_json::Value;
 use std::alloc::Global;
 
@@ -83,8 +82,8 @@ impl LinuxNetwork {
 }
 
 impl OciRecord for LinuxNetwork {
-    ghost use Rattle.oci_json_members.specs.DefaultMembers.{default_number, default_text};
-    ghost use Rattle.oci_json_model.specs.Same.{same_document, same_more, same_last, same_perhaps, same_lists, same_numbers};
+    ghost use Rattle.oci_model.specs.DefaultMembers.{default_number, default_text};
+    ghost use Rattle.oci_model.specs.Same.{same_document, same_more, same_last, same_perhaps, same_lists, same_numbers};
     ghost use Rattle.oci_shapes.specs.LinuxNetwork.{linux_network};
     ghost use Rattle.oci_cgroups.specs.LinuxNetwork.{linux_network_plain};
     ghost use Rattle.oci_cgroups.specs.contracts.linux_interface_priority.LinuxInterfacePriorityOciRecord.TheImpl.Laws.{same-law as linux_interface_priority_same};

@@ -2,9 +2,8 @@
 //! How many tasks a container may have (runtime specification, "Linux Container Configuration", "PIDs").
 ghost use Rattle.std.specs.Prelude.{◌≡◌, IfOk, IfErr};
 
-use oci_json_model::{ObjectWriter, OciRecord, write_required};
-use oci_json_readers::{Defaulted, read1};
-use oci_text_base::{OciSpecError, Result};
+use oci_base::{OciSpecError, Result};
+use oci_model::{Defaulted, ObjectWriter, OciRecord, read1, write_required};
 use serde_json::Value;
 use std::alloc::Global;
 
@@ -53,8 +52,8 @@ impl LinuxPids {
 }
 
 impl OciRecord for LinuxPids {
-    ghost use Rattle.oci_json_members.specs.DefaultMembers.{default_number};
-    ghost use Rattle.oci_json_model.specs.Same.{same_document, same_last, same_given, same_integers};
+    ghost use Rattle.oci_model.specs.DefaultMembers.{default_number};
+    ghost use Rattle.oci_model.specs.Same.{same_document, same_last, same_given, same_integers};
     ghost use Rattle.oci_shapes.specs.LinuxPids.{linux_pids};
     ghost use Rattle.oci_cgroups.specs.LinuxPids.{linux_pids_plain};
 
@@ -91,8 +90,8 @@ pub struct LinuxPidsBuilder {
 
 impl LinuxPidsBuilder {
     ghost use Rattle.std.specs.Prelude.{Some, unwrap_or, option_map, pos};
-    ghost use Rattle.oci_json_model.specs.Plain as plain;
-    ghost use Rattle.oci_json_model.specs.Types.{integer_plain};
+    ghost use Rattle.oci_model.specs.Plain as plain;
+    ghost use Rattle.oci_model.specs.Types.{integer_plain};
 
     /// Sets `limit`: the largest number of tasks; -1 is no limit. REQUIRED; 0 is read where it is absent.
     pub fn limit(mut self, limit: i64) -> Self

@@ -4,6 +4,7 @@ ghost use Rattle.std.specs.Prelude.{◌≡◌, IfOk, IfErr};
 
 pub mod builder;
 
+use crate::LinuxRdma;
 use crate::linux_block_io::LinuxBlockIo;
 use crate::linux_cpu::LinuxCpu;
 use crate::linux_device_cgroup::LinuxDeviceCgroup;
@@ -12,12 +13,11 @@ use crate::linux_memory::LinuxMemory;
 use crate::linux_network::LinuxNetwork;
 use crate::linux_pids::LinuxPids;
 pub use builder::LinuxResourcesBuilder;
-use oci_cgroups_rdma::LinuxRdma;
-use oci_json_model::{
-    ObjectWriter, OciRecord, copy_optional, try_join2, try_join3, try_join4, write_optional,
+use oci_base::{OciSpecError, Result};
+use oci_model::{
+    ObjectWriter, OciRecord, Optional, copy_optional, read4, read5, try_join2, try_join3,
+    try_join4, write_optional,
 };
-use oci_json_readers::{Optional, read4, read5};
-use oci_text_base::{OciSpecError, Result};
 use serde_json::Value;
 use std::alloc::Global;
 use std::collections::BTreeMap;
@@ -306,8 +306,8 @@ impl LinuxResources {
 }
 
 impl OciRecord for LinuxResources {
-    ghost use Rattle.oci_json_members.specs.DefaultMembers.{default_number, default_text, default_truth};
-    ghost use Rattle.oci_json_model.specs.Same.{same_document, same_more, same_last, same_perhaps, same_texts, same_lists, same_maps};
+    ghost use Rattle.oci_model.specs.DefaultMembers.{default_number, default_text, default_truth};
+    ghost use Rattle.oci_model.specs.Same.{same_document, same_more, same_last, same_perhaps, same_texts, same_lists, same_maps};
     ghost use Rattle.oci_shapes.specs.LinuxResources.{linux_resources};
     ghost use Rattle.oci_cgroups.specs.LinuxResources.{linux_resources_plain};
     ghost use Rattle.oci_cgroups.specs.contracts.linux_device_cgroup.LinuxDeviceCgroupOciRecord.TheImpl.Laws.{same-law as linux_device_cgroup_same};
@@ -317,7 +317,7 @@ impl OciRecord for LinuxResources {
     ghost use Rattle.oci_cgroups.specs.contracts.linux_block_io.LinuxBlockIoOciRecord.TheImpl.Laws.{same-law as linux_block_io_same};
     ghost use Rattle.oci_cgroups.specs.contracts.linux_hugepage_limit.LinuxHugepageLimitOciRecord.TheImpl.Laws.{same-law as linux_hugepage_limit_same};
     ghost use Rattle.oci_cgroups.specs.contracts.linux_network.LinuxNetworkOciRecord.TheImpl.Laws.{same-law as linux_network_same};
-    ghost use Rattle.oci_cgroups_rdma.specs.contracts.linux_rdma.LinuxRdmaOciRecord.TheImpl.Laws.{same-law as linux_rdma_same};
+    ghost use Rattle.oci_cgroups.specs.contracts.linux_rdma.LinuxRdmaOciRecord.TheImpl.Laws.{same-law as linux_rdma_same};
 
     ghost shape = { linux_resources };
 

@@ -2,9 +2,8 @@
 //! The most that a container may read from or write to one device (runtime specification, "Linux Container Configuration", "Block IO").
 ghost use Rattle.std.specs.Prelude.{◌≡◌, IfOk, IfErr};
 
-use oci_json_model::{ObjectWriter, OciRecord, write_required};
-use oci_json_readers::{Defaulted, read3};
-use oci_text_base::{OciSpecError, Result};
+use oci_base::{OciSpecError, Result};
+use oci_model::{Defaulted, ObjectWriter, OciRecord, read3, write_required};
 use serde_json::Value;
 use std::alloc::Global;
 
@@ -64,8 +63,8 @@ impl LinuxThrottleDevice {
 }
 
 impl OciRecord for LinuxThrottleDevice {
-    ghost use Rattle.oci_json_members.specs.DefaultMembers.{default_number};
-    ghost use Rattle.oci_json_model.specs.Same.{same_document, same_more, same_last, same_given, same_numbers, same_integers};
+    ghost use Rattle.oci_model.specs.DefaultMembers.{default_number};
+    ghost use Rattle.oci_model.specs.Same.{same_document, same_more, same_last, same_given, same_numbers, same_integers};
     ghost use Rattle.oci_shapes.specs.LinuxThrottleDevice.{linux_throttle_device};
     ghost use Rattle.oci_cgroups.specs.LinuxThrottleDevice.{linux_throttle_device_plain};
 
@@ -110,8 +109,8 @@ pub struct LinuxThrottleDeviceBuilder {
 
 impl LinuxThrottleDeviceBuilder {
     ghost use Rattle.std.specs.Prelude.{Some, unwrap_or, option_map, pos};
-    ghost use Rattle.oci_json_model.specs.Plain as plain;
-    ghost use Rattle.oci_json_model.specs.Types.{number_plain, integer_plain};
+    ghost use Rattle.oci_model.specs.Plain as plain;
+    ghost use Rattle.oci_model.specs.Types.{number_plain, integer_plain};
 
     /// Sets `major`: the device's major number. REQUIRED; 0 is read where it is absent.
     pub fn major(mut self, major: i64) -> Self

@@ -2,9 +2,10 @@
 //! The share that a container has of one device's input and output (runtime specification, "Linux Container Configuration", "Block IO").
 ghost use Rattle.std.specs.Prelude.{◌≡◌, IfOk, IfErr};
 
-use oci_json_model::{ObjectWriter, OciRecord, write_optional, write_required};
-use oci_json_readers::{Defaulted, Optional, read4};
-use oci_text_base::{OciSpecError, Result};
+use oci_base::{OciSpecError, Result};
+use oci_model::{
+    Defaulted, ObjectWriter, OciRecord, Optional, read4, write_optional, write_required,
+};
 use serde_json::Value;
 use std::alloc::Global;
 
@@ -75,8 +76,8 @@ impl LinuxWeightDevice {
 }
 
 impl OciRecord for LinuxWeightDevice {
-    ghost use Rattle.oci_json_members.specs.DefaultMembers.{default_number};
-    ghost use Rattle.oci_json_model.specs.Same.{same_document, same_more, same_last, same_given, same_perhaps, same_numbers, same_integers};
+    ghost use Rattle.oci_model.specs.DefaultMembers.{default_number};
+    ghost use Rattle.oci_model.specs.Same.{same_document, same_more, same_last, same_given, same_perhaps, same_numbers, same_integers};
     ghost use Rattle.oci_shapes.specs.LinuxWeightDevice.{linux_weight_device};
     ghost use Rattle.oci_cgroups.specs.LinuxWeightDevice.{linux_weight_device_plain};
 
@@ -136,8 +137,8 @@ pub struct LinuxWeightDeviceBuilder {
 
 impl LinuxWeightDeviceBuilder {
     ghost use Rattle.std.specs.Prelude.{Some, unwrap_or, option_map, pos};
-    ghost use Rattle.oci_json_model.specs.Plain as plain;
-    ghost use Rattle.oci_json_model.specs.Types.{integer_plain};
+    ghost use Rattle.oci_model.specs.Plain as plain;
+    ghost use Rattle.oci_model.specs.Types.{integer_plain};
 
     /// Sets `major`: the device's major number. REQUIRED; 0 is read where it is absent.
     pub fn major(mut self, major: i64) -> Self

@@ -2,8 +2,8 @@
 use Rattle.std.proofs.Common.{◌≡◌, ◌≢◌, ℕ, ◌<◌, List, ◌∷◌, ◌++◌, length, get_or, Option, Some, None, IfSome, IfNone, refl, ap, ◌∙◌, lit<}
 use Rattle.std.proofs.lemmas.Str.Pattern.{IsSplitOnceResult, split_after}
 use denote.Ref.{Bor}
-use Rattle.oci_text_base.specs.Classes.{is_lower}
-use Rattle.oci_text_base.proofs.Lacks.{lacks_in, lacks_at}
+use Rattle.oci_base.specs.Classes.{is_lower}
+use Rattle.oci_base.proofs.Lacks.{lacks_in, lacks_at}
 use Rattle.oci_content.specs.Content.{algorithm_name, IsBy}
 use Rattle.oci_content.specs.declared.algorithm.Algorithm.{Algorithm}
 use Rattle.oci_content.specs.declared.algorithm.Algorithm.TheVariants.{Sha256, Sha384, Sha512}

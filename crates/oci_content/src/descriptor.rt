@@ -4,7 +4,7 @@ ghost use Rattle.oci_content.specs.Content.{Tells, IsContentOf};
 
 use crate::judging::{verify_bytes, verify_reader_bytes};
 use crate::verdict::Verdict;
-use oci_image_descriptor::Descriptor;
+use oci_descriptor::Descriptor;
 use std::io;
 use std::io::Read;
 

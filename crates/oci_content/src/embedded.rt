@@ -6,7 +6,7 @@ use crate::judging::verify_bytes;
 use crate::verdict::Verdict;
 use base64::DecodeAllocError;
 use base64::engine::general_purpose::STANDARD;
-use oci_image_descriptor::Descriptor;
+use oci_descriptor::Descriptor;
 use std::alloc::{AllocError, Global};
 
 /// What is found of the content that a descriptor holds itself, in `data` (image specification, "Content Descriptors",

@@ -1,7 +1,7 @@
 -- What is added to a list of differences.
 use Rattle.std.proofs.Common.{◌≡◌, ◌≤◌, ◌+◌, inl, inr, ℕ, zero, suc, List, [], length, false, true≢false, Option, Some, None, is_some, option_map, refl, sym, ap, ◌∙◌, subst, arith}
 use Rattle.std.specs.Prelude.{◌↔◌}
-use Rattle.oci_json_model.specs.Sizes.{size, items_size, members_size}
+use Rattle.oci_model.specs.Sizes.{size, items_size, members_size}
 use Rattle.serde_json.specs.Data.{Data, array, object, Items, no_items, item, Members, member}
 use Rattle.serde_json.specs.Find.{get, get_item}
 use Rattle.oci_schema.specs.Places.{under_name, under_index}

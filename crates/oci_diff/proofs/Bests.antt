@@ -13,8 +13,8 @@ use Rattle.serde_json.specs.Events.{items_len}
 use Rattle.serde_json.specs.Find.{get_item}
 use Rattle.serde_json.specs.View.{items_view}
 use Rattle.serde_json.specs.declared.value.Value.{Value}
-use Rattle.oci_json_readers.specs.Alike.{is_same}
-use Rattle.oci_json_readers.specs.SameTrees.{same_if_equal}
+use Rattle.oci_model.specs.Alike.{is_same}
+use Rattle.oci_model.specs.SameTrees.{same_if_equal}
 use Rattle.oci_diff.specs.Aligned.{AreAligned, AreSameAt, Lead, first_after, second_after}
 use Rattle.oci_diff.specs.Best.{sames, IsLongest, IsStepOf, are_alike, extra, gain_of, worth, best, score_at, IsRow, HasRows}
 use Rattle.oci_diff.specs.Same.{AreSame}

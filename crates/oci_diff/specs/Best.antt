@@ -5,7 +5,7 @@ use Rattle.std.specs.declared.alloc.Global.{Global}
 use Rattle.serde_json.specs.Data.{Data, Items}
 use Rattle.serde_json.specs.Events.{items_len}
 use Rattle.serde_json.specs.Find.{get_item}
-use Rattle.oci_json_readers.specs.Alike.{is_same}
+use Rattle.oci_model.specs.Alike.{is_same}
 use Rattle.oci_diff.specs.Aligned.{AreAligned}
 use Rattle.oci_diff.specs.declared.aligned.TheConstants.{SHORT}
 use Rattle.oci_diff.specs.declared.aligned.Step.{Step}

@@ -5,7 +5,7 @@ ghost use Rattle.serde_json.specs.View.{items_view};
 ghost use Rattle.oci_diff.specs.Aligned.{AreAligned, IsStep, IsWithin, first_after, second_after};
 ghost use Rattle.oci_diff.specs.Best.{IsLongest, IsStepOf, IsRow, HasRows, best, gain_of, score_at, worth};
 
-use oci_json_readers::alike::equal_trees;
+use oci_model::alike::equal_trees;
 use serde_json::Value;
 use std::alloc::{AllocError, Global};
 

@@ -10,7 +10,7 @@ ghost use Rattle.oci_diff.specs.Differs.{IsSo, HoldsAt, StandAt, AddsIf};
 ghost use Rattle.oci_diff.specs.Same.{AreSame};
 
 use crate::aligned::{Step, alignment};
-use oci_json_readers::alike::equal_trees;
+use oci_model::alike::equal_trees;
 use oci_schema::place::{under_index, under_name};
 use serde_json::{Map, Value};
 use std::alloc::{AllocError, Global};

@@ -7,7 +7,7 @@ pub mod RepositoryList
 pub mod RepositoryListBuilder
 pub mod TagList
 pub mod TagListBuilder
-pub use Rattle.oci_json_model.specs.Built
+pub use Rattle.oci_model.specs.Built
 pub use Rattle.oci_reference.specs.Accepted
 pub use Rattle.oci_reference.specs.Parts
 pub use Rattle.oci_reference.specs.Whole

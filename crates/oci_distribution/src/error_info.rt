@@ -2,13 +2,12 @@
 //! One error of a registry's reply (distribution specification, "Error Codes").
 ghost use Rattle.std.specs.Prelude.{◌≡◌, IfOk, IfErr};
 
-use oci_json_members::{copy_optional_as, write_optional_as};
-use oci_json_model::{
-    ObjectWriter, OciMember, OciRecord, copy_optional, try_join3, write_optional, write_required,
+use oci_base::{OciSpecError, Result, UninitializedFieldError};
+use oci_model::{
+    As, Detail, ObjectWriter, OciMember, OciRecord, Optional, Required, copy_optional,
+    copy_optional_as, read3, try_join3, write_optional, write_optional_as, write_required,
 };
-use oci_json_readers::{As, Detail, Optional, Required, read3};
 use oci_text::ErrorCode;
-use oci_text_base::{OciSpecError, Result, UninitializedFieldError};
 use serde_json::Value;
 use std::alloc::Global;
 
@@ -67,7 +66,7 @@ impl ErrorInfo {
 
 impl OciRecord for ErrorInfo {
     ghost use Rattle.oci_text.specs.ErrorCode.{error_code_same};
-    ghost use Rattle.oci_json_model.specs.Same.{same_document, same_more, same_last, same_given, same_perhaps, same_texts, same_variants};
+    ghost use Rattle.oci_model.specs.Same.{same_document, same_more, same_last, same_given, same_perhaps, same_texts, same_variants};
     ghost use Rattle.oci_shapes.specs.ErrorInfo.{error_info};
     ghost use Rattle.oci_distribution.specs.ErrorInfo.{error_info_plain};
 
@@ -125,7 +124,7 @@ pub struct ErrorInfoBuilder {
 
 impl ErrorInfoBuilder {
     ghost use Rattle.std.specs.Prelude.{Some};
-    ghost use Rattle.oci_json_model.specs.Built.{IsUnset};
+    ghost use Rattle.oci_model.specs.Built.{IsUnset};
     ghost use Rattle.oci_distribution.specs.ErrorInfoBuilder.{error_info_unset};
 
     /// Sets `code`: the error's identifier. MUST be one of the specification's codes; any other is rejected.

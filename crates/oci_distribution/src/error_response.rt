@@ -5,9 +5,8 @@ ghost use Rattle.std.specs.Prelude.{◌≡◌, IfOk, IfErr};
 mod own;
 
 use crate::error_info::ErrorInfo;
-use oci_json_model::{ObjectWriter, OciMember, OciRecord, write_required};
-use oci_json_readers::{Required, read1};
-use oci_text_base::{OciSpecError, Result, UninitializedFieldError};
+use oci_base::{OciSpecError, Result, UninitializedFieldError};
+use oci_model::{ObjectWriter, OciMember, OciRecord, Required, read1, write_required};
 pub use own::ERR_REGISTRY;
 use serde_json::Value;
 use std::alloc::Global;
@@ -46,7 +45,7 @@ impl ErrorResponse {
 }
 
 impl OciRecord for ErrorResponse {
-    ghost use Rattle.oci_json_model.specs.Same.{same_document, same_last, same_given, same_lists};
+    ghost use Rattle.oci_model.specs.Same.{same_document, same_last, same_given, same_lists};
     ghost use Rattle.oci_shapes.specs.ErrorResponse.{error_response};
     ghost use Rattle.oci_distribution.specs.ErrorResponse.{error_response_plain};
     ghost use Rattle.oci_distribution.specs.contracts.error_info.ErrorInfoOciRecord.TheImpl.Laws.{same-law as error_info_same};
@@ -86,7 +85,7 @@ pub struct ErrorResponseBuilder {
 
 impl ErrorResponseBuilder {
     ghost use Rattle.std.specs.Prelude.{Some};
-    ghost use Rattle.oci_json_model.specs.Built.{IsUnset};
+    ghost use Rattle.oci_model.specs.Built.{IsUnset};
     ghost use Rattle.oci_distribution.specs.ErrorResponseBuilder.{error_response_unset};
 
     /// Sets `errors`: the errors, in the registry's order. None at all is not rejected.

@@ -2,9 +2,8 @@
 //! The repositories of a registry (distribution specification, "Listing Repositories").
 ghost use Rattle.std.specs.Prelude.{◌≡◌, IfOk, IfErr};
 
-use oci_json_model::{ObjectWriter, OciMember, OciRecord, write_required};
-use oci_json_readers::{Required, read1};
-use oci_text_base::{OciSpecError, Result, UninitializedFieldError};
+use oci_base::{OciSpecError, Result, UninitializedFieldError};
+use oci_model::{ObjectWriter, OciMember, OciRecord, Required, read1, write_required};
 use serde_json::Value;
 use std::alloc::Global;
 
@@ -51,7 +50,7 @@ impl RepositoryList {
 }
 
 impl OciRecord for RepositoryList {
-    ghost use Rattle.oci_json_model.specs.Same.{same_document, same_last, same_given, same_texts, same_lists};
+    ghost use Rattle.oci_model.specs.Same.{same_document, same_last, same_given, same_texts, same_lists};
     ghost use Rattle.oci_shapes.specs.RepositoryList.{repository_list};
     ghost use Rattle.oci_distribution.specs.RepositoryList.{repository_list_plain};
 
@@ -90,7 +89,7 @@ pub struct RepositoryListBuilder {
 
 impl RepositoryListBuilder {
     ghost use Rattle.std.specs.Prelude.{Some};
-    ghost use Rattle.oci_json_model.specs.Built.{IsUnset};
+    ghost use Rattle.oci_model.specs.Built.{IsUnset};
     ghost use Rattle.oci_distribution.specs.RepositoryListBuilder.{repository_list_unset};
 
     /// Sets `repositories`: the names of the repositories. Their grammar is not checked here.

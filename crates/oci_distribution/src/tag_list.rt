@@ -2,9 +2,8 @@
 //! The tags of a repository (distribution specification, "Listing Tags").
 ghost use Rattle.std.specs.Prelude.{◌≡◌, IfOk, IfErr};
 
-use oci_json_model::{ObjectWriter, OciMember, OciRecord, try_join2, write_required};
-use oci_json_readers::{Required, read2};
-use oci_text_base::{OciSpecError, Result, UninitializedFieldError};
+use oci_base::{OciSpecError, Result, UninitializedFieldError};
+use oci_model::{ObjectWriter, OciMember, OciRecord, Required, read2, try_join2, write_required};
 use serde_json::Value;
 use std::alloc::Global;
 
@@ -68,7 +67,7 @@ impl TagList {
 }
 
 impl OciRecord for TagList {
-    ghost use Rattle.oci_json_model.specs.Same.{same_document, same_more, same_last, same_given, same_texts, same_lists};
+    ghost use Rattle.oci_model.specs.Same.{same_document, same_more, same_last, same_given, same_texts, same_lists};
     ghost use Rattle.oci_shapes.specs.TagList.{tag_list};
     ghost use Rattle.oci_distribution.specs.TagList.{tag_list_plain};
 
@@ -109,7 +108,7 @@ pub struct TagListBuilder {
 
 impl TagListBuilder {
     ghost use Rattle.std.specs.Prelude.{Some};
-    ghost use Rattle.oci_json_model.specs.Built.{IsUnset};
+    ghost use Rattle.oci_model.specs.Built.{IsUnset};
     ghost use Rattle.oci_distribution.specs.TagListBuilder.{tag_list_unset};
 
     /// Sets `name`: the name of the repository. Its grammar is not checked here.

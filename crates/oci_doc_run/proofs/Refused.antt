@@ -2,12 +2,12 @@
 use Rattle.std.proofs.Common.{List, ℕ, Option, Some, None, inl, refl}
 use Rattle.std.specs.Prelude.{IfSome}
 use Rattle.std.specs.Io.KnownBytes.{Keeps}
-use Rattle.oci_text_base.specs.Refused.{IsJson, IsSchema, IsMemorySerDeOrIo}
-use Rattle.oci_text_base.specs.declared.error.OciSpecError.{OciSpecError}
-use Rattle.oci_text_base.specs.declared.error.OciSpecError.TheVariants.{Other, Io, SerDe, Builder, Memory}
-use Rattle.oci_text_base.specs.declared.error.SerDeError.TheVariants.{Json, Schema}
+use Rattle.oci_base.specs.Refused.{IsJson, IsSchema, IsMemorySerDeOrIo}
+use Rattle.oci_base.specs.declared.error.OciSpecError.{OciSpecError}
+use Rattle.oci_base.specs.declared.error.OciSpecError.TheVariants.{Other, Io, SerDe, Builder, Memory}
+use Rattle.oci_base.specs.declared.error.SerDeError.TheVariants.{Json, Schema}
 use Rattle.oci_shapes.specs.Descriptor.{descriptor}
-use Rattle.oci_json_io.specs.Engines.{IsNoJson, IsNoDocument}
+use Rattle.oci_json.specs.Engines.{IsNoJson, IsNoDocument}
 use Rattle.oci_doc_run.specs.Refusals.{refusal_of, TellsOfPin}
 
 -- what nobody wrote to is as it was

@@ -2,10 +2,10 @@
 use Rattle.std.specs.Prelude.{ℕ, List, [], ◌∷◌, ◌++◌, codes, bytes_eq, Option, Some, None, option_map, if◌then◌else◌, ⊤}
 use Rattle.oci_reference.specs.Accepted.{Accepted}
 use Rattle.oci_reference.specs.Parts.{Parts}
-use Rattle.oci_kinds.specs.declared.kind.Kind.{Kind}
+use Rattle.oci_schemas.specs.declared.kind.Kind.{Kind}
 use Rattle.oci_doc_run.specs.declared.command.Command.{Command}
 use Rattle.oci_doc_run.specs.declared.command.Command.TheVariants.{Normalize, Pretty, Reference, Digest, Pin}
-use Rattle.oci_kinds.specs.Kinds.{kind_of}
+use Rattle.oci_schemas.specs.Kinds.{kind_of}
 
 -- a command with its word
 pub data Asked : Type 0 where

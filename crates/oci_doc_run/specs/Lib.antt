@@ -1,4 +1,4 @@
 pub mod Commands
-pub use Rattle.oci_kinds.specs.Kinds
+pub use Rattle.oci_schemas.specs.Kinds
 pub mod Outputs
 pub mod Refusals

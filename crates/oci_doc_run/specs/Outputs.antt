@@ -1,17 +1,17 @@
 -- What each command writes.
 use Rattle.std.specs.Prelude.{ℕ, List, [], ◌∷◌, ◌++◌, codes, Option, Some, None, IfSome}
 use Rattle.oci_shapes.specs.Descriptor.{descriptor}
-use Rattle.oci_image_descriptor.specs.Descriptor.{descriptor_plain}
-use Rattle.oci_image_descriptor.specs.declared.descriptor.Descriptor.{Descriptor}
-use Rattle.oci_json_io.specs.Engines.{MeansBytes, WritesDocument}
+use Rattle.oci_descriptor.specs.Descriptor.{descriptor_plain}
+use Rattle.oci_descriptor.specs.declared.descriptor.Descriptor.{Descriptor}
+use Rattle.oci_json.specs.Engines.{MeansBytes, WritesDocument}
 use Rattle.oci_schema.specs.Normalizes.{WritesPretty}
 use Rattle.oci_reference.specs.Accepted.{Accepted}
 use Rattle.oci_reference.specs.Parts.{Parts, resolved}
 use Rattle.oci_reference.specs.Replaced.{pinned}
 use Rattle.oci_reference.specs.Whole.{whole}
-use Rattle.oci_text_base.specs.Digest.{IsDigest}
+use Rattle.oci_base.specs.Digest.{IsDigest}
 use Rattle.oci_doc_run.specs.Commands.{Asked, norm, pretty, reference, digest, pin}
-use Rattle.oci_kinds.specs.Kinds.{shape_of}
+use Rattle.oci_schemas.specs.Kinds.{shape_of}
 
 -- a word, a space, the value and a line feed
 abbrev pub line : List ℕ → List ℕ → List ℕ

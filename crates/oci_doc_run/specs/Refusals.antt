@@ -1,22 +1,22 @@
 -- What the program tells where it refuses, and what that says of the words, the input and the output.
 use Rattle.std.specs.Prelude.{◌≡◌, ◌⊎◌, ℕ, List, [], ◌∷◌, ◌++◌, codes, string_bytes, Option, Some, IfSome, ⊤}
 use Rattle.std.specs.Io.KnownBytes.{Keeps}
-use Rattle.oci_text_base.specs.Digest.{digest_refusal}
-use Rattle.oci_text_base.specs.declared.error.OciSpecError.{OciSpecError}
-use Rattle.oci_text_base.specs.declared.error.OciSpecError.TheVariants as error
-use Rattle.oci_text_base.specs.declared.error.SerDeError.{SerDeError}
-use Rattle.oci_text_base.specs.declared.error.SerDeError.TheVariants as serde
+use Rattle.oci_base.specs.Digest.{digest_refusal}
+use Rattle.oci_base.specs.declared.error.OciSpecError.{OciSpecError}
+use Rattle.oci_base.specs.declared.error.OciSpecError.TheVariants as error
+use Rattle.oci_base.specs.declared.error.SerDeError.{SerDeError}
+use Rattle.oci_base.specs.declared.error.SerDeError.TheVariants as serde
 use Rattle.oci_shapes.specs.Descriptor.{descriptor}
-use Rattle.oci_json_model.specs.Shape.{Shape}
-use Rattle.oci_json_io.specs.Engines.{AppendsSome, WritesDocument, IsNoJson, IsNoDocument, IsNotNormalized}
-use Rattle.oci_reference_scan.specs.declared.error.ParseError.{ParseError}
-use Rattle.oci_reference_scan.specs.declared.error.ParseError.TheVariants as parse
+use Rattle.oci_model.specs.Shape.{Shape}
+use Rattle.oci_json.specs.Engines.{AppendsSome, WritesDocument, IsNoJson, IsNoDocument, IsNotNormalized}
+use Rattle.oci_reference.specs.declared.error.ParseError.{ParseError}
+use Rattle.oci_reference.specs.declared.error.ParseError.TheVariants as parse
 use Rattle.oci_reference.specs.Accepted as reference_texts
 use Rattle.oci_schema.specs.Normalizes.{WritesPretty}
 use Rattle.oci_doc_run.specs.declared.refusal.Refusal.{Refusal}
 use Rattle.oci_doc_run.specs.declared.refusal.Refusal.TheVariants.{Other, Io, Json, Schema, Builder, Memory, Reference}
 use Rattle.oci_doc_run.specs.Commands.{Asked, norm, pretty, reference, digest, pin}
-use Rattle.oci_kinds.specs.Kinds.{shape_of}
+use Rattle.oci_schemas.specs.Kinds.{shape_of}
 use Rattle.oci_doc_run.specs.Outputs.{WritesReference, WritesDigest, WritesPinned}
 
 -- ---- the line

@@ -9,7 +9,7 @@ use crate::document::{normal_of_kind, pretty_of_kind};
 use crate::pinning::pinned;
 use crate::refusal::Refusal;
 use crate::text::{digest, reference};
-use oci_kinds::Kind;
+use oci_schemas::Kind;
 use std::alloc::Global;
 use std::io::{Read, Write};
 

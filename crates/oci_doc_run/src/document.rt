@@ -1,15 +1,14 @@
 //! The commands on documents.
 ghost use Rattle.std.specs.Prelude.{OnOk, IfErr};
 ghost use Rattle.std.specs.Io.KnownBytes.{Appends};
-ghost use Rattle.oci_json_io.specs.Engines.{WritesDocument};
+ghost use Rattle.oci_json.specs.Engines.{WritesDocument};
 ghost use Rattle.oci_schema.specs.Normalizes.{WritesPretty};
-ghost use Rattle.oci_kinds.specs.Kinds.{shape_of};
+ghost use Rattle.oci_schemas.specs.Kinds.{shape_of};
 ghost use Rattle.oci_doc_run.specs.Refusals.{TellsOfNormal, TellsOfPretty};
 
 use crate::refusal::Refusal;
-use oci_kinds::Kind;
 use oci_schema::{normalize, normalize_pretty};
-use oci_schemas::OciRecords;
+use oci_schemas::{Kind, OciRecords};
 use std::alloc::Global;
 use std::io::{Read, Write};
 

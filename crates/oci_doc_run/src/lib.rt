@@ -10,7 +10,7 @@ pub mod streams;
 pub mod text;
 
 pub use command::Command;
-pub use oci_kinds::Kind;
+pub use oci_schemas::Kind;
 pub use program::run;
 pub use refusal::Refusal;
 pub use streams::run_on_streams;

@@ -2,20 +2,20 @@
 ghost use Rattle.std.specs.Prelude.{◌≡◌, IfOk, IfErr, IfSome, OnOk, string_bytes};
 ghost use Rattle.std.specs.Io.KnownBytes.{Appends, Keeps};
 ghost use Rattle.oci_shapes.specs.Descriptor.{descriptor};
-ghost use Rattle.oci_image_descriptor.specs.Descriptor.{descriptor_plain};
-ghost use Rattle.oci_image_descriptor.specs.declared.descriptor.Descriptor.{Descriptor};
-ghost use Rattle.oci_json_io.specs.Engines.{MeansBytes, IsNoDocument, IsNoJson};
-ghost use Rattle.oci_text_base.specs.Refused.{IsJson, IsSchema, IsMemorySerDeOrIo};
+ghost use Rattle.oci_descriptor.specs.Descriptor.{descriptor_plain};
+ghost use Rattle.oci_descriptor.specs.declared.descriptor.Descriptor.{Descriptor};
+ghost use Rattle.oci_json.specs.Engines.{MeansBytes, IsNoDocument, IsNoJson};
+ghost use Rattle.oci_base.specs.Refused.{IsJson, IsSchema, IsMemorySerDeOrIo};
 ghost use Rattle.oci_doc_run.specs.Commands.{pin, LeavesInput};
 ghost use Rattle.oci_doc_run.specs.Outputs.{pinned_line, WritesPinned};
 ghost use Rattle.oci_doc_run.specs.Refusals.{TellsOfPin};
 
 use crate::refusal::Refusal;
-use oci_image_descriptor::Descriptor;
+use oci_base::OciSpecError;
+use oci_descriptor::Descriptor;
 use oci_json::{from_reader, write_text};
 use oci_pin::pin;
 use oci_reference::Reference;
-use oci_text_base::OciSpecError;
 use std::alloc::Global;
 use std::io::{Read, Write};
 

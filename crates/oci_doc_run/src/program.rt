@@ -1,7 +1,7 @@
 //! The program's whole work.
 ghost use Rattle.std.specs.Prelude.{◌≡◌, ◌<◌, ◌↔◌, map, string_bytes, None, IfSome};
 ghost use Rattle.std.specs.Io.KnownBytes.{Appends, Keeps};
-ghost use Rattle.oci_json_io.specs.Engines.{AppendsSome};
+ghost use Rattle.oci_json.specs.Engines.{AppendsSome};
 ghost use Rattle.oci_doc_run.specs.declared.refusal.Refusal.{Refusal};
 ghost use Rattle.oci_doc_run.specs.Commands.{command_of, usage, LeavesInput};
 ghost use Rattle.oci_doc_run.specs.Outputs.{Writes};

@@ -1,12 +1,12 @@
 //! Why a command was refused, and the line that tells it.
 ghost use Rattle.std.specs.Prelude.{◌≡◌, ◌∷◌, ◌++◌, [], OnOk, OnErr};
 ghost use Rattle.std.specs.Io.KnownBytes.{Appends};
-ghost use Rattle.oci_json_io.specs.Engines.{AppendsSome};
+ghost use Rattle.oci_json.specs.Engines.{AppendsSome};
 ghost use Rattle.oci_doc_run.specs.Refusals.{mark, reason, parse_name, line_of};
 
+use oci_base::{OciSpecError, SerDeError};
 use oci_json::write_text;
-use oci_reference_scan::ParseError;
-use oci_text_base::{OciSpecError, SerDeError};
+use oci_reference::ParseError;
 use std::alloc::AllocError;
 use std::io;
 use std::io::Write;

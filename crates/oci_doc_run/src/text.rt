@@ -1,15 +1,15 @@
 //! The commands on references and digests.
 ghost use Rattle.std.specs.Prelude.{◌≡◌, ◌++◌, List, ℕ, OnOk, IfOk, IfErr, option_map, string_bytes};
 ghost use Rattle.std.specs.Io.KnownBytes.{Appends};
-ghost use Rattle.oci_text_base.specs.Digest.{IsDigest};
+ghost use Rattle.oci_base.specs.Digest.{IsDigest};
 ghost use Rattle.oci_doc_run.specs.Outputs.{line, line_if, reference_lines, digest_lines, WritesReference, WritesDigest};
 ghost use Rattle.oci_doc_run.specs.Refusals.{TellsOfReference, TellsOfDigest};
 
 use crate::refusal::Refusal;
+use oci_base::OciSpecError;
 use oci_json::write_text;
 use oci_reference::Reference;
 use oci_text::Digest;
-use oci_text_base::OciSpecError;
 use std::alloc::{AllocError, Global};
 use std::io::Write;
 

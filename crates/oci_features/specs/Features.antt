@@ -4,10 +4,10 @@ use Rattle.std.specs.Prelude.{[], ◌∷◌, Option, String, Vec}
 use Rattle.std.specs.Borrow.{Lends, MutBor, Fml}
 use Rattle.std.specs.declared.alloc.Global.{Global}
 use Rattle.std.specs.BTreeMap.{BTreeMap}
-use Rattle.oci_json_model.specs.Plain as plain
-use Rattle.oci_json_model.specs.Plain.{Plain, document, slots, empty, filled}
-use Rattle.oci_json_model.specs.Types.{given, perhaps, text_plain, list_plain, map_plain}
-use Rattle.oci_json_model.specs.Lent.{text_row, option_row, list_row, map_row}
+use Rattle.oci_model.specs.Plain as plain
+use Rattle.oci_model.specs.Plain.{Plain, document, slots, empty, filled}
+use Rattle.oci_model.specs.Types.{given, perhaps, text_plain, list_plain, map_plain}
+use Rattle.oci_model.specs.Lent.{text_row, option_row, list_row, map_row}
 use Rattle.oci_features.specs.LinuxFeature.{linux_feature_plain}
 use Rattle.oci_features.specs.declared.linux_feature.LinuxFeature.{LinuxFeature}
 use Rattle.oci_features.specs.contracts.linux_feature.LinuxFeature as linux_feature

@@ -10,4 +10,4 @@ pub mod MountExtensions
 pub mod NetDevices
 pub mod Seccomp
 pub mod Selinux
-pub use Rattle.oci_json_model.specs.Types
+pub use Rattle.oci_model.specs.Types

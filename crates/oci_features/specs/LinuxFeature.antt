@@ -3,12 +3,12 @@
 use Rattle.std.specs.Prelude.{[], ◌∷◌, Option, String, Vec}
 use Rattle.std.specs.Borrow.{Lends, MutBor, Fml}
 use Rattle.std.specs.declared.alloc.Global.{Global}
-use Rattle.oci_json_model.specs.Plain.{Plain, document, slots, empty}
-use Rattle.oci_runtime_names.specs.LinuxNamespaceType.{linux_namespace_type_name}
-use Rattle.oci_runtime_names.specs.declared.linux_namespace_type.LinuxNamespaceType.{LinuxNamespaceType}
-use Rattle.oci_runtime_names.specs.contracts.linux_namespace_type.LinuxNamespaceType as linux_namespace_type
-use Rattle.oci_json_model.specs.Types.{perhaps, text_plain, variant_plain, list_plain}
-use Rattle.oci_json_model.specs.Lent.{text_row, option_row, list_row}
+use Rattle.oci_model.specs.Plain.{Plain, document, slots, empty}
+use Rattle.oci_text.specs.LinuxNamespaceType.{linux_namespace_type_name}
+use Rattle.oci_text.specs.declared.linux_namespace_type.LinuxNamespaceType.{LinuxNamespaceType}
+use Rattle.oci_text.specs.contracts.linux_namespace_type.LinuxNamespaceType as linux_namespace_type
+use Rattle.oci_model.specs.Types.{perhaps, text_plain, variant_plain, list_plain}
+use Rattle.oci_model.specs.Lent.{text_row, option_row, list_row}
 use Rattle.oci_features.specs.Cgroup.{cgroup_plain}
 use Rattle.oci_features.specs.declared.cgroup.Cgroup.{Cgroup}
 use Rattle.oci_features.specs.contracts.cgroup.Cgroup as cgroup

@@ -3,9 +3,9 @@
 use Rattle.std.specs.Prelude.{[], ◌∷◌, Option, String, Vec}
 use Rattle.std.specs.Borrow.{Lends, MutBor, Fml}
 use Rattle.std.specs.declared.alloc.Global.{Global}
-use Rattle.oci_json_model.specs.Plain.{Plain, document, slots, empty}
-use Rattle.oci_json_model.specs.Types.{perhaps, text_plain, list_plain}
-use Rattle.oci_json_model.specs.Lent.{text_row, option_row, list_row}
+use Rattle.oci_model.specs.Plain.{Plain, document, slots, empty}
+use Rattle.oci_model.specs.Types.{perhaps, text_plain, list_plain}
+use Rattle.oci_model.specs.Lent.{text_row, option_row, list_row}
 use Rattle.oci_features.specs.declared.memory_policy.MemoryPolicy.{MemoryPolicy}
 use Rattle.oci_features.specs.contracts.memory_policy.MemoryPolicy.{the_row}
 

@@ -2,9 +2,9 @@
 -- What a runtime can do with mounts beyond the usual (runtime specification, "Linux Features Structure", `mountExtensions`).
 use Rattle.std.specs.Prelude.{[], ◌∷◌, Option}
 use Rattle.std.specs.Borrow.{Lends, MutBor, Fml}
-use Rattle.oci_json_model.specs.Plain.{Plain, document, slots, empty}
-use Rattle.oci_json_model.specs.Types.{perhaps}
-use Rattle.oci_json_model.specs.Lent.{option_row}
+use Rattle.oci_model.specs.Plain.{Plain, document, slots, empty}
+use Rattle.oci_model.specs.Types.{perhaps}
+use Rattle.oci_model.specs.Lent.{option_row}
 use Rattle.oci_features.specs.IDMap.{id_map_plain}
 use Rattle.oci_features.specs.declared.id_map.IDMap.{IDMap}
 use Rattle.oci_features.specs.contracts.id_map.IDMap as id_map

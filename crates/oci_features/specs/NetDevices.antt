@@ -2,9 +2,9 @@
 -- Whether a runtime can move network devices into a container, whatever its host can (runtime specification, "Linux Features Structure", `netDevices`).
 use Rattle.std.specs.Prelude.{[], ◌∷◌, Option, Bool}
 use Rattle.std.specs.Borrow.{Lends, MutBor, Fml}
-use Rattle.oci_json_model.specs.Plain.{Plain, document, slots, empty}
-use Rattle.oci_json_model.specs.Types.{perhaps, truth_plain}
-use Rattle.oci_json_model.specs.Lent.{option_row}
+use Rattle.oci_model.specs.Plain.{Plain, document, slots, empty}
+use Rattle.oci_model.specs.Types.{perhaps, truth_plain}
+use Rattle.oci_model.specs.Lent.{option_row}
 use Rattle.std.specs.Borrow as borrow
 use Rattle.oci_features.specs.declared.net_devices.NetDevices.{NetDevices}
 use Rattle.oci_features.specs.contracts.net_devices.NetDevices.{the_row}

@@ -3,15 +3,15 @@
 use Rattle.std.specs.Prelude.{[], ◌∷◌, Option, String, Vec, Bool}
 use Rattle.std.specs.Borrow.{Lends, MutBor, Fml}
 use Rattle.std.specs.declared.alloc.Global.{Global}
-use Rattle.oci_json_model.specs.Plain.{Plain, document, slots, empty}
-use Rattle.oci_runtime_names.specs.LinuxSeccompAction.{linux_seccomp_action_name}
-use Rattle.oci_runtime_names.specs.declared.linux_seccomp_action.LinuxSeccompAction.{LinuxSeccompAction}
-use Rattle.oci_runtime_names.specs.contracts.linux_seccomp_action.LinuxSeccompAction as linux_seccomp_action
-use Rattle.oci_runtime_names.specs.SArch.{s_arch_name}
-use Rattle.oci_runtime_names.specs.declared.s_arch.SArch.{SArch}
-use Rattle.oci_runtime_names.specs.contracts.s_arch.SArch as s_arch
-use Rattle.oci_json_model.specs.Types.{perhaps, text_plain, truth_plain, variant_plain, list_plain}
-use Rattle.oci_json_model.specs.Lent.{text_row, option_row, list_row}
+use Rattle.oci_model.specs.Plain.{Plain, document, slots, empty}
+use Rattle.oci_text.specs.LinuxSeccompAction.{linux_seccomp_action_name}
+use Rattle.oci_text.specs.declared.linux_seccomp_action.LinuxSeccompAction.{LinuxSeccompAction}
+use Rattle.oci_text.specs.contracts.linux_seccomp_action.LinuxSeccompAction as linux_seccomp_action
+use Rattle.oci_text.specs.SArch.{s_arch_name}
+use Rattle.oci_text.specs.declared.s_arch.SArch.{SArch}
+use Rattle.oci_text.specs.contracts.s_arch.SArch as s_arch
+use Rattle.oci_model.specs.Types.{perhaps, text_plain, truth_plain, variant_plain, list_plain}
+use Rattle.oci_model.specs.Lent.{text_row, option_row, list_row}
 use Rattle.std.specs.Borrow as borrow
 use Rattle.oci_features.specs.declared.seccomp.Seccomp.{Seccomp}
 use Rattle.oci_features.specs.contracts.seccomp.Seccomp.{the_row}

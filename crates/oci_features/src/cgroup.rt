@@ -2,10 +2,8 @@
 //! What a runtime can do with control groups, whatever its host has (runtime specification, "Linux Features Structure", `cgroup`).
 ghost use Rattle.std.specs.Prelude.{◌≡◌, IfOk, IfErr};
 
-use oci_json_members::write_nullable;
-use oci_json_model::{ObjectWriter, OciRecord};
-use oci_json_readers::{Nullable, read5};
-use oci_text_base::{OciSpecError, Result};
+use oci_base::{OciSpecError, Result};
+use oci_model::{Nullable, ObjectWriter, OciRecord, read5, write_nullable};
 use serde_json::Value;
 use std::alloc::Global;
 
@@ -181,7 +179,7 @@ impl Cgroup {
 }
 
 impl OciRecord for Cgroup {
-    ghost use Rattle.oci_json_model.specs.Same.{same_document, same_more, same_last, same_perhaps, same_truths};
+    ghost use Rattle.oci_model.specs.Same.{same_document, same_more, same_last, same_perhaps, same_truths};
     ghost use Rattle.oci_shapes.specs.Cgroup.{cgroup};
     ghost use Rattle.oci_features.specs.Cgroup.{cgroup_plain};
 

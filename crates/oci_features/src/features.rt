@@ -3,13 +3,11 @@
 ghost use Rattle.std.specs.Prelude.{◌≡◌, IfOk, IfErr};
 
 use crate::linux_feature::LinuxFeature;
-use oci_json_members::write_nullable;
-use oci_json_model::{
-    ObjectWriter, OciMember, OciRecord, copy_optional, try_join2, try_join3, try_join4,
-    write_required,
+use oci_base::{OciSpecError, Result};
+use oci_model::{
+    Nullable, ObjectWriter, OciMember, OciRecord, Required, copy_optional, read3, read4, try_join2,
+    try_join3, try_join4, write_nullable, write_required,
 };
-use oci_json_readers::{Nullable, Required, read3, read4};
-use oci_text_base::{OciSpecError, Result};
 use serde_json::Value;
 use std::alloc::Global;
 use std::collections::BTreeMap;
@@ -246,7 +244,7 @@ impl Features {
 }
 
 impl OciRecord for Features {
-    ghost use Rattle.oci_json_model.specs.Same.{same_document, same_more, same_last, same_given, same_perhaps, same_texts, same_lists, same_maps};
+    ghost use Rattle.oci_model.specs.Same.{same_document, same_more, same_last, same_given, same_perhaps, same_texts, same_lists, same_maps};
     ghost use Rattle.oci_shapes.specs.Features.{features};
     ghost use Rattle.oci_features.specs.Features.{features_plain};
     ghost use Rattle.oci_features.specs.contracts.linux_feature.LinuxFeatureOciRecord.TheImpl.Laws.{same-law as linux_feature_same};
@@ -359,8 +357,8 @@ pub struct FeaturesBuilder {
 
 impl FeaturesBuilder {
     ghost use Rattle.std.specs.Prelude.{Some, unwrap_or, option_map, []};
-    ghost use Rattle.oci_json_model.specs.Plain as plain;
-    ghost use Rattle.oci_json_model.specs.Types.{text_plain};
+    ghost use Rattle.oci_model.specs.Plain as plain;
+    ghost use Rattle.oci_model.specs.Types.{text_plain};
 
     /// Sets `oci_version_min`: the lowest version of the runtime specification that the runtime knows, as `1.0.0`; it MUST accept it as
     /// `ociVersion`. REQUIRED; the form is not checked here.

@@ -2,10 +2,8 @@
 //! Whether a runtime has mounts with mapped IDs, whatever its host has (runtime specification, "Linux Features Structure", `mountExtensions`, `idmap`).
 ghost use Rattle.std.specs.Prelude.{◌≡◌, IfOk, IfErr};
 
-use oci_json_members::write_nullable;
-use oci_json_model::{ObjectWriter, OciRecord};
-use oci_json_readers::{Nullable, read1};
-use oci_text_base::{OciSpecError, Result};
+use oci_base::{OciSpecError, Result};
+use oci_model::{Nullable, ObjectWriter, OciRecord, read1, write_nullable};
 use serde_json::Value;
 use std::alloc::Global;
 
@@ -70,7 +68,7 @@ impl IDMap {
 }
 
 impl OciRecord for IDMap {
-    ghost use Rattle.oci_json_model.specs.Same.{same_document, same_last, same_perhaps, same_truths};
+    ghost use Rattle.oci_model.specs.Same.{same_document, same_last, same_perhaps, same_truths};
     ghost use Rattle.oci_shapes.specs.IDMap.{id_map};
     ghost use Rattle.oci_features.specs.IDMap.{id_map_plain};
 

@@ -2,9 +2,8 @@
 //! What a runtime can do with Intel's Resource Director Technology, whatever its host has (runtime specification, "Linux Features Structure", `intelRdt`).
 ghost use Rattle.std.specs.Prelude.{◌≡◌, IfOk, IfErr};
 
-use oci_json_model::{ObjectWriter, OciRecord, write_optional};
-use oci_json_readers::{Optional, read3};
-use oci_text_base::{OciSpecError, Result};
+use oci_base::{OciSpecError, Result};
+use oci_model::{ObjectWriter, OciRecord, Optional, read3, write_optional};
 use serde_json::Value;
 use std::alloc::Global;
 
@@ -127,7 +126,7 @@ impl IntelRdt {
 }
 
 impl OciRecord for IntelRdt {
-    ghost use Rattle.oci_json_model.specs.Same.{same_document, same_more, same_last, same_perhaps, same_truths};
+    ghost use Rattle.oci_model.specs.Same.{same_document, same_more, same_last, same_perhaps, same_truths};
     ghost use Rattle.oci_shapes.specs.IntelRdt.{intel_rdt};
     ghost use Rattle.oci_features.specs.IntelRdt.{intel_rdt_plain};
 

@@ -13,11 +13,11 @@ use crate::net_devices::NetDevices;
 use crate::seccomp::Seccomp;
 use crate::selinux::Selinux;
 pub use builder::LinuxFeatureBuilder;
-use oci_json_members::write_nullable;
-use oci_json_model::{ObjectWriter, OciRecord, copy_optional, try_join2, try_join5};
-use oci_json_readers::{Nullable, read5};
-use oci_runtime_names::LinuxNamespaceType;
-use oci_text_base::{OciSpecError, Result};
+use oci_base::{OciSpecError, Result};
+use oci_model::{
+    Nullable, ObjectWriter, OciRecord, copy_optional, read5, try_join2, try_join5, write_nullable,
+};
+use oci_text::LinuxNamespaceType;
 use serde_json::Value;
 use std::alloc::Global;
 
@@ -328,8 +328,8 @@ impl LinuxFeature {
 }
 
 impl OciRecord for LinuxFeature {
-    ghost use Rattle.oci_runtime_names.specs.LinuxNamespaceType.{linux_namespace_type_same};
-    ghost use Rattle.oci_json_model.specs.Same.{same_document, same_more, same_last, same_perhaps, same_texts, same_lists, same_variants};
+    ghost use Rattle.oci_text.specs.LinuxNamespaceType.{linux_namespace_type_same};
+    ghost use Rattle.oci_model.specs.Same.{same_document, same_more, same_last, same_perhaps, same_texts, same_lists, same_variants};
     ghost use Rattle.oci_shapes.specs.LinuxFeature.{linux_feature};
     ghost use Rattle.oci_features.specs.LinuxFeature.{linux_feature_plain};
     ghost use Rattle.oci_features.specs.contracts.cgroup.CgroupOciRecord.TheImpl.Laws.{same-law as cgroup_same};

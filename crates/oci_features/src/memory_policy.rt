@@ -2,10 +2,10 @@
 //! What a runtime knows of memory policies (runtime specification, "Linux Features Structure", `memoryPolicy`).
 ghost use Rattle.std.specs.Prelude.{◌≡◌, IfOk, IfErr};
 
-use oci_json_members::write_nullable;
-use oci_json_model::{ObjectWriter, OciRecord, copy_optional, try_join2};
-use oci_json_readers::{Nullable, read2};
-use oci_text_base::{OciSpecError, Result};
+use oci_base::{OciSpecError, Result};
+use oci_model::{
+    Nullable, ObjectWriter, OciRecord, copy_optional, read2, try_join2, write_nullable,
+};
 use serde_json::Value;
 use std::alloc::Global;
 
@@ -97,7 +97,7 @@ impl MemoryPolicy {
 }
 
 impl OciRecord for MemoryPolicy {
-    ghost use Rattle.oci_json_model.specs.Same.{same_document, same_more, same_last, same_perhaps, same_texts, same_lists};
+    ghost use Rattle.oci_model.specs.Same.{same_document, same_more, same_last, same_perhaps, same_texts, same_lists};
     ghost use Rattle.oci_shapes.specs.MemoryPolicy.{memory_policy};
     ghost use Rattle.oci_features.specs.MemoryPolicy.{memory_policy_plain};
 

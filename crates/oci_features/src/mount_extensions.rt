@@ -3,10 +3,8 @@
 ghost use Rattle.std.specs.Prelude.{◌≡◌, IfOk, IfErr};
 
 use crate::id_map::IDMap;
-use oci_json_members::write_nullable;
-use oci_json_model::{ObjectWriter, OciRecord, copy_optional};
-use oci_json_readers::{Nullable, read1};
-use oci_text_base::{OciSpecError, Result};
+use oci_base::{OciSpecError, Result};
+use oci_model::{Nullable, ObjectWriter, OciRecord, copy_optional, read1, write_nullable};
 use serde_json::Value;
 use std::alloc::Global;
 
@@ -70,7 +68,7 @@ impl MountExtensions {
 }
 
 impl OciRecord for MountExtensions {
-    ghost use Rattle.oci_json_model.specs.Same.{same_document, same_last, same_perhaps};
+    ghost use Rattle.oci_model.specs.Same.{same_document, same_last, same_perhaps};
     ghost use Rattle.oci_shapes.specs.MountExtensions.{mount_extensions};
     ghost use Rattle.oci_features.specs.MountExtensions.{mount_extensions_plain};
     ghost use Rattle.oci_features.specs.contracts.id_map.IDMapOciRecord.TheImpl.Laws.{same-law as id_map_same};

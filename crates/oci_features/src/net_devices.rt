@@ -2,10 +2,8 @@
 //! Whether a runtime can move network devices into a container, whatever its host can (runtime specification, "Linux Features Structure", `netDevices`).
 ghost use Rattle.std.specs.Prelude.{◌≡◌, IfOk, IfErr};
 
-use oci_json_members::write_nullable;
-use oci_json_model::{ObjectWriter, OciRecord};
-use oci_json_readers::{Nullable, read1};
-use oci_text_base::{OciSpecError, Result};
+use oci_base::{OciSpecError, Result};
+use oci_model::{Nullable, ObjectWriter, OciRecord, read1, write_nullable};
 use serde_json::Value;
 use std::alloc::Global;
 
@@ -70,7 +68,7 @@ impl NetDevices {
 }
 
 impl OciRecord for NetDevices {
-    ghost use Rattle.oci_json_model.specs.Same.{same_document, same_last, same_perhaps, same_truths};
+    ghost use Rattle.oci_model.specs.Same.{same_document, same_last, same_perhaps, same_truths};
     ghost use Rattle.oci_shapes.specs.NetDevices.{net_devices};
     ghost use Rattle.oci_features.specs.NetDevices.{net_devices_plain};
 

@@ -2,11 +2,11 @@
 //! What a runtime knows of filters of system calls (runtime specification, "Linux Features Structure", `seccomp`).
 ghost use Rattle.std.specs.Prelude.{◌≡◌, IfOk, IfErr};
 
-use oci_json_members::write_nullable;
-use oci_json_model::{ObjectWriter, OciRecord, copy_optional, try_join2, try_join5};
-use oci_json_readers::{Nullable, read3};
-use oci_runtime_names::{LinuxSeccompAction, SArch};
-use oci_text_base::{OciSpecError, Result};
+use oci_base::{OciSpecError, Result};
+use oci_model::{
+    Nullable, ObjectWriter, OciRecord, copy_optional, read3, try_join2, try_join5, write_nullable,
+};
+use oci_text::{LinuxSeccompAction, SArch};
 use serde_json::Value;
 use std::alloc::Global;
 
@@ -210,9 +210,9 @@ impl Seccomp {
 }
 
 impl OciRecord for Seccomp {
-    ghost use Rattle.oci_runtime_names.specs.LinuxSeccompAction.{linux_seccomp_action_same};
-    ghost use Rattle.oci_runtime_names.specs.SArch.{s_arch_same};
-    ghost use Rattle.oci_json_model.specs.Same.{same_document, same_more, same_last, same_perhaps, same_texts, same_lists, same_truths, same_variants};
+    ghost use Rattle.oci_text.specs.LinuxSeccompAction.{linux_seccomp_action_same};
+    ghost use Rattle.oci_text.specs.SArch.{s_arch_same};
+    ghost use Rattle.oci_model.specs.Same.{same_document, same_more, same_last, same_perhaps, same_texts, same_lists, same_truths, same_variants};
     ghost use Rattle.oci_shapes.specs.Seccomp.{seccomp};
     ghost use Rattle.oci_features.specs.Seccomp.{seccomp_plain};
 

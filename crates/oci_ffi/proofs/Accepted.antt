@@ -2,8 +2,8 @@
 use Rattle.std.proofs.Common.{◌≡◌, ℕ, List, arith}
 use Rattle.oci_reference.specs.Accepted.{Accepted, Tells}
 use Rattle.oci_reference.specs.Parts.{Parts}
-use Rattle.oci_reference_scan.specs.declared.error.ParseError.{ParseError}
-use Rattle.oci_reference_scan.specs.declared.error.ParseError.TheVariants.{DigestInvalidFormat, DigestInvalidLength, DigestUnsupported, NameContainsUppercase, NameEmpty, NameTooLong, ReferenceInvalidFormat, TagInvalidFormat, Memory}
+use Rattle.oci_reference.specs.declared.error.ParseError.{ParseError}
+use Rattle.oci_reference.specs.declared.error.ParseError.TheVariants.{DigestInvalidFormat, DigestInvalidLength, DigestUnsupported, NameContainsUppercase, NameEmpty, NameTooLong, ReferenceInvalidFormat, TagInvalidFormat, Memory}
 use Rattle.oci_ffi.specs.References.{status_numbered}
 
 pub accepted_without_memory : (text : List ℕ) (e : ParseError) → status_numbered e ≡ 2 → Tells text e → (p : Parts) × Accepted text p

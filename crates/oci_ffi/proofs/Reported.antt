@@ -2,10 +2,10 @@
 use Rattle.std.proofs.Common.{◌≡◌, ℕ, List, [], ◌∷◌, length, map, refl, ap, suc, subst}
 use Rattle.std.specs.Prelude.{◌↔◌}
 use Rattle.serde_json.specs.Data.{Data}
-use Rattle.oci_json_model.specs.Plain.{Plain}
-use Rattle.oci_json_model.specs.Shape.{Shape}
-use Rattle.oci_json_model.specs.Means.{Means}
-use Rattle.oci_json_io.specs.Engines.{ReadsAs, MeansBytes}
+use Rattle.oci_model.specs.Plain.{Plain}
+use Rattle.oci_model.specs.Shape.{Shape}
+use Rattle.oci_model.specs.Means.{Means}
+use Rattle.oci_json.specs.Engines.{ReadsAs, MeansBytes}
 
 none_is_empty : {T : Type 0} (xs : List T) → length xs ≡ 0 → xs ≡ []
 none_is_empty [] e = refl

@@ -1,11 +1,11 @@
 -- The kinds of documents, by their numbers.
 use Rattle.std.specs.Prelude.{ℕ, ◌==◌, Option, Some, None, option_map, if◌then◌else◌}
-use Rattle.oci_json_model.specs.Shape.{Shape}
-use Rattle.oci_kinds.specs.Kinds as kinds
-use Rattle.oci_kinds.specs.declared.kind.Kind.{Kind}
-use Rattle.oci_kinds.specs.declared.kind.Kind.TheVariants.{Manifest, Index, Config, Artifact, Layout, Descriptor, Error, Repositories, Tags, Reference, Spec, State, ProcessState, Features}
-use Rattle.oci_schema_types.specs.Shapes.{schema_shape, shape_at}
-use Rattle.oci_schema_types.specs.declared.schema.Schema.{Schema}
+use Rattle.oci_model.specs.Shape.{Shape}
+use Rattle.oci_schemas.specs.Kinds as kinds
+use Rattle.oci_schemas.specs.declared.kind.Kind.{Kind}
+use Rattle.oci_schemas.specs.declared.kind.Kind.TheVariants.{Manifest, Index, Config, Artifact, Layout, Descriptor, Error, Repositories, Tags, Reference, Spec, State, ProcessState, Features}
+use Rattle.oci_schema.specs.Shapes.{schema_shape, shape_at}
+use Rattle.oci_schema.specs.declared.schema.Schema.{Schema}
 use Rattle.oci_schemas.specs.Table.{shapes}
 
 -- the JSON that a schema over the table of all records allows

@@ -1,8 +1,8 @@
 -- What is returned for a reference.
 use Rattle.std.specs.Prelude.{ℕ, [], length, unwrap_or}
 use Rattle.oci_reference.specs.Parts.{Parts}
-use Rattle.oci_reference_scan.specs.declared.error.ParseError.{ParseError}
-use Rattle.oci_reference_scan.specs.declared.error.ParseError.TheVariants.{DigestInvalidFormat, DigestInvalidLength, DigestUnsupported, NameContainsUppercase, NameEmpty, NameTooLong, ReferenceInvalidFormat, TagInvalidFormat, Memory}
+use Rattle.oci_reference.specs.declared.error.ParseError.{ParseError}
+use Rattle.oci_reference.specs.declared.error.ParseError.TheVariants.{DigestInvalidFormat, DigestInvalidLength, DigestUnsupported, NameContainsUppercase, NameEmpty, NameTooLong, ReferenceInvalidFormat, TagInvalidFormat, Memory}
 use Rattle.oci_ffi.specs.declared.reference.CiderglenReference.{CiderglenReference}
 
 -- the lengths of the parts in the whole text, 0 for one that is missing

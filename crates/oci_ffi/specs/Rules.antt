@@ -1,8 +1,8 @@
 -- The rules that are asked for, by the numbers of kinds, levels and platforms.
 use Rattle.std.specs.Prelude.{◌≡◌, ◌↔◌, ℕ, ◌==◌, List, [], ◌∷◌, length, Bool, true, false, Option, Some, None, if◌then◌else◌}
 use Rattle.serde_json.specs.Data.{Data}
-use Rattle.oci_json_io.specs.Engines.{ReadsAs}
-use Rattle.oci_kinds.specs.declared.kind.Kind.{Kind}
+use Rattle.oci_json.specs.Engines.{ReadsAs}
+use Rattle.oci_schemas.specs.declared.kind.Kind.{Kind}
 use Rattle.oci_rule_books.specs.Kinds.{rules_of}
 use Rattle.oci_rules.specs.Breaks.{KeepsAll}
 use Rattle.oci_rules.specs.Documents.{platform_in}

@@ -1,6 +1,6 @@
 //! Contents beside their descriptors.
 ghost use Rattle.std.specs.Prelude.{◌≡◌, ◌≤◌, ◌⊎◌, IsUtf8, length};
-ghost use Rattle.oci_text_base.specs.Digest.{IsDigestText};
+ghost use Rattle.oci_base.specs.Digest.{IsDigestText};
 ghost use Rattle.oci_content.specs.Content.{IsBy, IsContentOf, IsOther};
 ghost use Rattle.oci_content.specs.declared.algorithm.Algorithm.{Algorithm};
 ghost use Rattle.oci_content.specs.declared.checksum.Checksum.{Checksum};

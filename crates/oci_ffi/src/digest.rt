@@ -1,6 +1,6 @@
 //! Digests.
 ghost use Rattle.std.specs.Prelude.{◌≡◌, ◌⊎◌, IsUtf8};
-ghost use Rattle.oci_text_base.specs.Digest.{IsDigestText};
+ghost use Rattle.oci_base.specs.Digest.{IsDigestText};
 
 use crate::status::{DONE, INVALID_DIGEST, INVALID_UTF8};
 use oci_text::is_digest;

@@ -1,7 +1,7 @@
 //! The canonical form of a document.
 ghost use Rattle.std.specs.Prelude.{◌≡◌, ◌≤◌, ◌<◌, ◌↔◌, None, Some, IsSomeAnd};
-ghost use Rattle.oci_json_io.specs.Engines.{WritesDocument, IsNoJson, IsNotNormalized};
-ghost use Rattle.oci_json_model.specs.WellFormed.{WellFormed};
+ghost use Rattle.oci_json.specs.Engines.{WritesDocument, IsNoJson, IsNotNormalized};
+ghost use Rattle.oci_model.specs.WellFormed.{WellFormed};
 ghost use Rattle.oci_schema.specs.Normalizes.{WritesPretty};
 ghost use Rattle.oci_ffi.specs.Buffers.{Fills, Overflows, Untouched};
 ghost use Rattle.oci_ffi.specs.Kinds.{shape_of, shape_numbered};
@@ -11,7 +11,7 @@ use crate::input::status_of;
 use crate::kind::schema_of;
 use crate::normal::{compact_text, pretty_text};
 use crate::status::{BUFFER_TOO_SMALL, DONE, INVALID_DOCUMENT, INVALID_JSON, UNKNOWN_KIND};
-use oci_schema_types::Schema;
+use oci_schema::Schema;
 use std::alloc::Global;
 
 /// Normalizes a document by a schema, as `ciderglen_normalize` does.

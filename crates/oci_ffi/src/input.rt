@@ -1,9 +1,9 @@
 //! The statuses of errors.
 ghost use Rattle.std.specs.Prelude.{◌≡◌, ◌⊎◌};
-ghost use Rattle.oci_text_base.specs.Refused.{IsJson, IsSchema};
+ghost use Rattle.oci_base.specs.Refused.{IsJson, IsSchema};
 
 use crate::status::{INVALID_DOCUMENT, INVALID_JSON, OUT_OF_MEMORY};
-use oci_text_base::{OciSpecError, SerDeError};
+use oci_base::{OciSpecError, SerDeError};
 
 /// The status of an error.
 pub(crate) fn status_of(error: &OciSpecError) -> u32

@@ -1,10 +1,10 @@
 //! The kinds of documents, by their numbers.
 ghost use Rattle.std.specs.Prelude.{◌≡◌, IfSome, option_map};
-ghost use Rattle.oci_json_model.specs.WellFormed.{WellFormed};
+ghost use Rattle.oci_model.specs.WellFormed.{WellFormed};
 ghost use Rattle.oci_ffi.specs.Kinds.{kind_numbered, shape_of, shape_numbered};
 
-use oci_kinds::Kind;
-use oci_schema_types::Schema;
+use oci_schema::Schema;
+use oci_schemas::Kind;
 
 /// An image manifest.
 pub const MANIFEST: u32 = 0;

@@ -1,21 +1,20 @@
 //! The canonical form of a document in memory, and its texts.
 ghost use Rattle.std.specs.Prelude.{◌≡◌, Some, IfOk, IfErr, string_bytes};
 ghost use Rattle.serde_json.specs.View.{view};
-ghost use Rattle.oci_json_io.specs.Engines.{MeansBytes, WritesDocument, IsNoJson, IsNotNormalized};
-ghost use Rattle.oci_json_model.specs.Plain.{Plain};
-ghost use Rattle.oci_json_model.specs.Value.{value as json_of};
-ghost use Rattle.oci_json_model.specs.WellFormed.{WellFormed};
-ghost use Rattle.oci_json_model.specs.Writable.{Writable};
+ghost use Rattle.oci_json.specs.Engines.{MeansBytes, WritesDocument, IsNoJson, IsNotNormalized};
+ghost use Rattle.oci_model.specs.Plain.{Plain};
+ghost use Rattle.oci_model.specs.Value.{value as json_of};
+ghost use Rattle.oci_model.specs.WellFormed.{WellFormed};
+ghost use Rattle.oci_model.specs.Writable.{Writable};
 ghost use Rattle.oci_schema.specs.Normalizes.{WritesPretty};
-ghost use Rattle.oci_text_base.specs.Refused.{IsJson, IsSchema, IsMemoryOrSerDe};
+ghost use Rattle.oci_base.specs.Refused.{IsJson, IsSchema, IsMemoryOrSerDe};
 ghost use Rattle.oci_ffi.specs.Kinds.{shape_of};
 
-use oci_json_io::value_from_slice;
-use oci_schema::normalize_value;
-use oci_schema_bytes::{Workspace, normalize_bytes};
-use oci_schema_types::Schema;
+use oci_base::Result;
+use oci_json::value_from_slice;
+use oci_schema::bytes::{Workspace, normalize_bytes};
+use oci_schema::{Schema, normalize_value};
 use oci_schemas::OciRecords;
-use oci_text_base::Result;
 use serde_json::Value;
 use std::alloc::Global;
 
@@ -54,7 +53,7 @@ pub(crate) fn compact_text(schema: &Schema, alloc: Global, document: &[u8]) -> R
 }
 
 /// The pretty text of the canonical form of a document.
-#[tactic(auto, using(oci_json_io::proofs::Texts::is_pretty))]
+#[tactic(auto, using(oci_json::proofs::Texts::is_pretty))]
 pub(crate) fn pretty_text(schema: &Schema, alloc: Global, document: &[u8]) -> Result<String>
     requires { WellFormed (shape_of schema.now) }
     ensures ok { IfOk result (λ t. WritesPretty (shape_of schema.now) (Some document.now) (λ text. string_bytes t ≡ text)) }

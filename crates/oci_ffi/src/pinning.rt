@@ -1,15 +1,15 @@
 //! References pinned to content.
 ghost use Rattle.std.specs.Prelude.{◌≡◌, ◌≤◌, ◌<◌, ◌⊎◌, IfOk, IfErr, IsUtf8, string_bytes};
-ghost use Rattle.oci_image_descriptor.specs.Descriptor.{descriptor_plain};
-ghost use Rattle.oci_image_descriptor.specs.declared.descriptor.Descriptor.{Descriptor};
-ghost use Rattle.oci_json_io.specs.Engines.{MeansBytes, IsNoDocument, IsNoJson};
+ghost use Rattle.oci_descriptor.specs.Descriptor.{descriptor_plain};
+ghost use Rattle.oci_descriptor.specs.declared.descriptor.Descriptor.{Descriptor};
+ghost use Rattle.oci_json.specs.Engines.{MeansBytes, IsNoDocument, IsNoJson};
 ghost use Rattle.oci_reference.specs.Accepted.{Accepted, Tells};
 ghost use Rattle.oci_reference.specs.Parts.{Parts};
 ghost use Rattle.oci_reference.specs.Replaced.{pinned};
 ghost use Rattle.oci_reference.specs.Whole.{whole};
-ghost use Rattle.oci_reference_scan.specs.declared.error.ParseError.{ParseError};
+ghost use Rattle.oci_reference.specs.declared.error.ParseError.{ParseError};
 ghost use Rattle.oci_shapes.specs.Descriptor.{descriptor};
-ghost use Rattle.oci_text_base.specs.Refused.{IsJson, IsSchema};
+ghost use Rattle.oci_base.specs.Refused.{IsJson, IsSchema};
 ghost use Rattle.oci_ffi.specs.Buffers.{Fills, Overflows, Untouched};
 ghost use Rattle.oci_ffi.specs.References.{status_numbered};
 
@@ -19,11 +19,11 @@ use crate::reference::parse;
 use crate::status::{
     BUFFER_TOO_SMALL, DONE, INVALID_DOCUMENT, INVALID_JSON, INVALID_UTF8, NAME_EMPTY, UNKNOWN_KIND,
 };
-use oci_image_descriptor::Descriptor;
-use oci_json_io::from_slice;
+use oci_base::Result;
+use oci_descriptor::Descriptor;
+use oci_json::from_slice;
 use oci_pin::pin;
 use oci_reference::Reference;
-use oci_text_base::Result;
 use std::alloc::Global;
 
 /// The whole text of a reference with the digest of a descriptor.

@@ -3,7 +3,7 @@ ghost use Rattle.std.specs.Prelude.{◌≡◌, ◌≤◌, ◌<◌, ◌⊎◌, []
 ghost use Rattle.oci_reference.specs.Accepted.{Accepted, Tells};
 ghost use Rattle.oci_reference.specs.Parts.{Parts, resolved};
 ghost use Rattle.oci_reference.specs.Whole.{whole};
-ghost use Rattle.oci_reference_scan.specs.declared.error.ParseError.{ParseError};
+ghost use Rattle.oci_reference.specs.declared.error.ParseError.{ParseError};
 ghost use Rattle.oci_ffi.specs.Buffers.{Fills, Overflows, Untouched};
 ghost use Rattle.oci_ffi.specs.References.{lengths, status_numbered};
 

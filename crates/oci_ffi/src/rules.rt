@@ -1,8 +1,8 @@
 //! The rules that a document breaks.
 ghost use Rattle.std.specs.Prelude.{◌≡◌, ◌≤◌, ◌<◌, ◌++◌, ◌↔◌, ℕ, List, map, length, None, IfOk, OnOk, IsSomeAnd};
 ghost use Rattle.serde_json.specs.View.{view};
-ghost use Rattle.oci_json_io.specs.Engines.{IsNoJson};
-ghost use Rattle.oci_kinds.specs.declared.kind.Kind.{Kind};
+ghost use Rattle.oci_json.specs.Engines.{IsNoJson};
+ghost use Rattle.oci_schemas.specs.declared.kind.Kind.{Kind};
 ghost use Rattle.oci_rule_books.specs.Kinds as books;
 ghost use Rattle.oci_rules.specs.Breaks.{KeepsAll};
 ghost use Rattle.oci_rules.specs.Listed.{all_broken};
@@ -20,10 +20,10 @@ use crate::status::{
     BUFFER_TOO_SMALL, DONE, INVALID_JSON, OUT_OF_MEMORY, UNKNOWN_KIND, UNKNOWN_LEVEL,
     UNKNOWN_PLATFORM,
 };
-use oci_json_io::value_from_slice;
-use oci_kinds::Kind;
+use oci_json::value_from_slice;
 use oci_rule_books::rules_of;
 use oci_rules::{Broken, Level, Platform, Rule, broken};
+use oci_schemas::Kind;
 use serde_json::Value;
 use std::alloc::{AllocError, Global};
 

@@ -1,9 +1,9 @@
 //! The violations of a document's schema.
 ghost use Rattle.std.specs.Prelude.{◌≡◌, ◌≤◌, ◌<◌, ◌↔◌, ℕ, List, [], length, None, IfOk, IfErr, IsSomeAnd};
 ghost use Rattle.serde_json.specs.Data.{Data};
-ghost use Rattle.oci_json_io.specs.Engines.{MeansBytes, ReadsAs, IsNoJson};
-ghost use Rattle.oci_json_model.specs.Plain.{Plain};
-ghost use Rattle.oci_text_base.specs.Refused.{IsJson, IsSchema};
+ghost use Rattle.oci_json.specs.Engines.{MeansBytes, ReadsAs, IsNoJson};
+ghost use Rattle.oci_model.specs.Plain.{Plain};
+ghost use Rattle.oci_base.specs.Refused.{IsJson, IsSchema};
 ghost use Rattle.oci_ffi.specs.Buffers.{Fills, Overflows, Untouched};
 ghost use Rattle.oci_schema.specs.Violations.{violations as all_violations};
 ghost use Rattle.oci_ffi.specs.Kinds.{shape_of, shape_numbered};
@@ -12,11 +12,10 @@ use crate::buffer::put;
 use crate::input::status_of;
 use crate::kind::schema_of;
 use crate::status::{BUFFER_TOO_SMALL, DONE, INVALID_JSON, UNKNOWN_KIND};
-use oci_json_io::value_from_slice;
-use oci_schema::{violation_lines, violations};
-use oci_schema_types::Schema;
+use oci_base::Result;
+use oci_json::value_from_slice;
+use oci_schema::{Schema, violation_lines, violations};
 use oci_schemas::OciRecords;
-use oci_text_base::Result;
 use std::alloc::Global;
 
 /// The violations in a document.

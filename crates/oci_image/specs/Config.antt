@@ -4,10 +4,10 @@ use Rattle.std.specs.Prelude.{[], ◌∷◌, Option, String}
 use Rattle.std.specs.Borrow.{Lends, MutBor, Fml}
 use Rattle.std.specs.declared.alloc.Global.{Global}
 use Rattle.std.specs.BTreeMap.{BTreeMap}
-use Rattle.oci_json_model.specs.Plain.{Plain, document, slots, empty}
-use Rattle.oci_json_model.specs.Types.{perhaps, text_plain, list_plain, map_plain}
-use Rattle.oci_json_members.specs.Keys.{keys_plain}
-use Rattle.oci_json_model.specs.Lent.{text_row, option_row, map_row}
+use Rattle.oci_model.specs.Plain.{Plain, document, slots, empty}
+use Rattle.oci_model.specs.Types.{perhaps, text_plain, list_plain, map_plain}
+use Rattle.oci_model.specs.Keys.{keys_plain}
+use Rattle.oci_model.specs.Lent.{text_row, option_row, map_row}
 use Rattle.oci_image.specs.declared.config.Config.{Config}
 use Rattle.oci_image.specs.contracts.config.Config.{the_row}
 

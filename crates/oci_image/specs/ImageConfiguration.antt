@@ -5,10 +5,10 @@ use Rattle.std.specs.Borrow.{Lends, MutBor, Fml}
 use Rattle.std.specs.declared.alloc.Global.{Global}
 use Rattle.oci_text.specs.Arch.{arch_name}
 use Rattle.oci_text.specs.Os.{os_name}
-use Rattle.oci_json_model.specs.Plain as plain
-use Rattle.oci_json_model.specs.Plain.{Plain, document, slots, empty, filled}
-use Rattle.oci_json_model.specs.Types.{given, perhaps, text_plain, name_plain, list_plain}
-use Rattle.oci_json_model.specs.Lent.{option_row, list_row}
+use Rattle.oci_model.specs.Plain as plain
+use Rattle.oci_model.specs.Plain.{Plain, document, slots, empty, filled}
+use Rattle.oci_model.specs.Types.{given, perhaps, text_plain, name_plain, list_plain}
+use Rattle.oci_model.specs.Lent.{option_row, list_row}
 use Rattle.oci_image.specs.Config.{config_plain}
 use Rattle.oci_image.specs.RootFs.{root_fs_plain, default_root_fs}
 use Rattle.oci_image.specs.declared.root_fs.RootFs.{RootFs}

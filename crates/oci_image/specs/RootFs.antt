@@ -3,10 +3,10 @@
 use Rattle.std.specs.Prelude.{[], ◌∷◌, codes, String, Vec}
 use Rattle.std.specs.Borrow.{Lends, MutBor, Fml}
 use Rattle.std.specs.declared.alloc.Global.{Global}
-use Rattle.oci_json_model.specs.Plain as plain
-use Rattle.oci_json_model.specs.Plain.{Plain, document, slots, filled}
-use Rattle.oci_json_model.specs.Types.{given, text_plain, list_plain}
-use Rattle.oci_json_model.specs.Lent.{text_row, list_row}
+use Rattle.oci_model.specs.Plain as plain
+use Rattle.oci_model.specs.Plain.{Plain, document, slots, filled}
+use Rattle.oci_model.specs.Types.{given, text_plain, list_plain}
+use Rattle.oci_model.specs.Lent.{text_row, list_row}
 use Rattle.oci_image.specs.declared.root_fs.RootFs.{RootFs}
 use Rattle.oci_image.specs.contracts.root_fs.RootFs.{the_row}
 

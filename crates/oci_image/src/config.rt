@@ -5,13 +5,11 @@ ghost use Rattle.std.specs.Prelude.{◌≡◌, IfOk, IfErr};
 pub mod builder;
 
 pub use builder::ConfigBuilder;
-use oci_json_members::{Keys, copy_optional_as, write_optional_as};
-use oci_json_model::{
-    ObjectWriter, OciRecord, copy_optional, fault, optional_owned, taken_9, try_join2, try_join4,
-    try_join5, write_optional,
+use oci_base::{OciSpecError, Result};
+use oci_model::{
+    Keys, ObjectWriter, OciRecord, copy_optional, copy_optional_as, fault, optional_as_owned,
+    optional_owned, taken_9, try_join2, try_join4, try_join5, write_optional, write_optional_as,
 };
-use oci_json_readers::optional_as_owned;
-use oci_text_base::{OciSpecError, Result};
 use serde_json::Value;
 use std::alloc::Global;
 use std::collections::BTreeMap;
@@ -237,8 +235,8 @@ impl Config {
 }
 
 impl OciRecord for Config {
-    ghost use Rattle.oci_json_members.specs.Keys.{same_keys};
-    ghost use Rattle.oci_json_model.specs.Same.{same_document, same_more, same_last, same_perhaps, same_texts, same_lists, same_maps};
+    ghost use Rattle.oci_model.specs.Keys.{same_keys};
+    ghost use Rattle.oci_model.specs.Same.{same_document, same_more, same_last, same_perhaps, same_texts, same_lists, same_maps};
     ghost use Rattle.oci_shapes.specs.Config.{config};
     ghost use Rattle.oci_image.specs.Config.{config_plain};
 
@@ -251,7 +249,7 @@ impl OciRecord for Config {
         Self::from_value_owned(alloc, value)
     }
 
-    #[tactic(auto, using(oci_json_model::proofs::Readers::refuses_others))]
+    #[tactic(auto, using(oci_model::proofs::Readers::refuses_others))]
     fn from_value_owned(alloc: Global, value: Value) -> Result<Config> {
         let Some(
             (user, exposed_ports, env, entrypoint, cmd, volumes, working_dir, labels, stop_signal),

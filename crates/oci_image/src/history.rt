@@ -2,11 +2,11 @@
 //! How one layer of an image came about (image specification, "Image Configuration", `history`).
 ghost use Rattle.std.specs.Prelude.{◌≡◌, IfOk, IfErr};
 
-use oci_json_model::{
+use oci_base::{OciSpecError, Result};
+use oci_model::{
     ObjectWriter, OciRecord, copy_optional, fault, optional_owned, taken_5, try_join4, try_join5,
     write_optional,
 };
-use oci_text_base::{OciSpecError, Result};
 use serde_json::Value;
 use std::alloc::Global;
 
@@ -141,7 +141,7 @@ impl History {
 }
 
 impl OciRecord for History {
-    ghost use Rattle.oci_json_model.specs.Same.{same_document, same_more, same_last, same_perhaps, same_texts, same_truths};
+    ghost use Rattle.oci_model.specs.Same.{same_document, same_more, same_last, same_perhaps, same_texts, same_truths};
     ghost use Rattle.oci_shapes.specs.History.{history};
     ghost use Rattle.oci_image.specs.History.{history_plain};
 
@@ -154,7 +154,7 @@ impl OciRecord for History {
         Self::from_value_owned(alloc, value)
     }
 
-    #[tactic(auto, using(oci_json_model::proofs::Readers::refuses_others))]
+    #[tactic(auto, using(oci_model::proofs::Readers::refuses_others))]
     fn from_value_owned(alloc: Global, value: Value) -> Result<History> {
         let Some((created, author, created_by, comment, empty_layer)) = taken_5(
             alloc,

@@ -11,12 +11,12 @@ use crate::history::History;
 use crate::root_fs::RootFs;
 pub use builder::ImageConfigurationBuilder;
 pub use labels::LABEL_VERSION;
-use oci_json_model::{
+use oci_base::{OciSpecError, Result};
+use oci_model::{
     ObjectWriter, OciMember, OciRecord, copy_optional, fault, optional_owned, required_owned,
     taken_10, try_join2, try_join5, write_optional, write_required,
 };
 use oci_text::{Arch, Os};
-use oci_text_base::{OciSpecError, Result};
 use serde_json::Value;
 use std::alloc::Global;
 use std::fmt;
@@ -268,8 +268,8 @@ impl ImageConfiguration {
 
 impl fmt::Display for ImageConfiguration {
     ghost use Rattle.std.specs.Prelude.{OnOk};
-    ghost use Rattle.oci_json_model.specs.Value.{value as json_of};
-    ghost use Rattle.oci_json_io.specs.Engines.{DisplaysPretty};
+    ghost use Rattle.oci_model.specs.Value.{value as json_of};
+    ghost use Rattle.oci_json.specs.Engines.{DisplaysPretty};
     ghost use Rattle.oci_shapes.specs.ImageConfiguration.{image_configuration};
     ghost use Rattle.oci_image.specs.ImageConfiguration.{image_configuration_plain};
 
@@ -278,14 +278,14 @@ impl fmt::Display for ImageConfiguration {
     fn fmt<W: fmt::Write>(&self, f: &mut fmt::Formatter<W>) -> fmt::Result
         ensures pretty { OnOk result (DisplaysPretty W.write_str_gives f.old (json_of image_configuration (image_configuration_plain self.now)) f.new) }
     {
-        oci_json_io::display_pretty(self, *self.rootfs.diff_ids().allocator(), f)
+        oci_json::display_pretty(self, *self.rootfs.diff_ids().allocator(), f)
     }
 }
 
 impl OciRecord for ImageConfiguration {
     ghost use Rattle.oci_text.specs.Arch.{arch_name};
     ghost use Rattle.oci_text.specs.Os.{os_name};
-    ghost use Rattle.oci_json_model.specs.Same.{same_document, same_more, same_last, same_given, same_perhaps, same_texts, same_lists, same_named};
+    ghost use Rattle.oci_model.specs.Same.{same_document, same_more, same_last, same_given, same_perhaps, same_texts, same_lists, same_named};
     ghost use Rattle.oci_shapes.specs.ImageConfiguration.{image_configuration};
     ghost use Rattle.oci_image.specs.ImageConfiguration.{image_configuration_plain};
     ghost use Rattle.oci_image.specs.contracts.config.ConfigOciRecord.TheImpl.Laws.{same-law as config_same};
@@ -301,7 +301,7 @@ impl OciRecord for ImageConfiguration {
         Self::from_value_owned(alloc, value)
     }
 
-    #[tactic(auto, using(oci_json_model::proofs::Readers::refuses_others))]
+    #[tactic(auto, using(oci_model::proofs::Readers::refuses_others))]
     fn from_value_owned(alloc: Global, value: Value) -> Result<ImageConfiguration> {
         let Some(
             (

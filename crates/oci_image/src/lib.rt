@@ -1,11 +1,15 @@
-//! The image documents: configurations and their parts, and re-exports of descriptors, manifests, indexes and layouts; the keys of
-//! annotations and the version of the image specification.
+//! The image documents: manifests, indexes, layouts, configurations and their parts; the keys of annotations and the version of the image
+//! specification.
 #![tactic(auto)]
 
 pub mod annotations;
+pub mod artifact_manifest;
 pub mod config;
 pub mod history;
 pub mod image_configuration;
+pub mod image_index;
+pub mod image_manifest;
+pub mod oci_layout;
 pub mod root_fs;
 pub mod versions;
 
@@ -15,15 +19,14 @@ pub use annotations::{
     ANNOTATION_REF_NAME, ANNOTATION_REVISION, ANNOTATION_SOURCE, ANNOTATION_TITLE, ANNOTATION_URL,
     ANNOTATION_VENDOR, ANNOTATION_VERSION,
 };
+pub use artifact_manifest::{ArtifactManifest, ArtifactManifestBuilder};
 pub use config::{Config, ConfigBuilder};
 pub use history::{History, HistoryBuilder};
 pub use image_configuration::{ImageConfiguration, ImageConfigurationBuilder, LABEL_VERSION};
-pub use oci_image_descriptor::{Descriptor, DescriptorBuilder};
-pub use oci_image_manifest::{
-    ArtifactManifest, ArtifactManifestBuilder, ImageIndex, ImageIndexBuilder, ImageManifest,
-    ImageManifestBuilder, OciLayout, OciLayoutBuilder,
-};
-pub use oci_image_platform::{Platform, PlatformBuilder};
+pub use image_index::{ImageIndex, ImageIndexBuilder};
+pub use image_manifest::{ImageManifest, ImageManifestBuilder};
+pub use oci_descriptor::{Descriptor, DescriptorBuilder, Platform, PlatformBuilder};
+pub use oci_layout::{OciLayout, OciLayoutBuilder};
 pub use oci_text::{Arch, Digest, DigestAlgorithm, MediaType, Os, Sha256Digest, ToDockerV2S2};
 pub use root_fs::{RootFs, RootFsBuilder};
 pub use versions::{

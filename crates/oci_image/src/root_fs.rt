@@ -2,10 +2,10 @@
 //! The layers that make up an image's file system (image specification, "Image Configuration", `rootfs`).
 ghost use Rattle.std.specs.Prelude.{◌≡◌, IfOk, IfErr};
 
-use oci_json_model::{
+use oci_base::{OciSpecError, Result};
+use oci_model::{
     ObjectWriter, OciMember, OciRecord, fault, required_owned, taken, try_join2, write_required,
 };
-use oci_text_base::{OciSpecError, Result};
 use serde_json::Value;
 use std::alloc::Global;
 
@@ -89,7 +89,7 @@ impl RootFs {
 }
 
 impl OciRecord for RootFs {
-    ghost use Rattle.oci_json_model.specs.Same.{same_document, same_more, same_last, same_given, same_texts, same_lists};
+    ghost use Rattle.oci_model.specs.Same.{same_document, same_more, same_last, same_given, same_texts, same_lists};
     ghost use Rattle.oci_shapes.specs.RootFs.{root_fs};
     ghost use Rattle.oci_image.specs.RootFs.{root_fs_plain};
 
@@ -102,7 +102,7 @@ impl OciRecord for RootFs {
         Self::from_value_owned(alloc, value)
     }
 
-    #[tactic(auto, using(oci_json_model::proofs::Readers::refuses_others))]
+    #[tactic(auto, using(oci_model::proofs::Readers::refuses_others))]
     fn from_value_owned(alloc: Global, value: Value) -> Result<RootFs> {
         let Some([typ, diff_ids]) = taken::<2>(alloc, value, &["type", "diff_ids"])? else {
             return Err(fault::refused(NAME, ""));
@@ -142,8 +142,8 @@ pub struct RootFsBuilder {
 
 impl RootFsBuilder {
     ghost use Rattle.std.specs.Prelude.{Some, unwrap_or, option_map, codes};
-    ghost use Rattle.oci_json_model.specs.Plain as plain;
-    ghost use Rattle.oci_json_model.specs.Types.{text_plain, list_plain};
+    ghost use Rattle.oci_model.specs.Plain as plain;
+    ghost use Rattle.oci_model.specs.Types.{text_plain, list_plain};
 
     /// Sets `typ`: the kind of file system. MUST be `layers`; not checked here.
     pub fn typ(mut self, typ: String) -> Self

@@ -1,7 +1,7 @@
 //! The version of the image specification.
 ghost use Rattle.std.specs.Prelude.{◌≡◌, ◌++◌, codes, decimal, IfOk, IfErr, string_bytes};
 
-use oci_text_base::{OciSpecError, Result};
+use oci_base::{OciSpecError, Result};
 use std::alloc::Global;
 
 /// The major version: incompatible changes increment it.

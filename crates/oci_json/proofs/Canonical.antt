@@ -2,14 +2,14 @@
 use Rattle.std.proofs.Common.{◌≡◌, ◌∙◌, sym, ap, subst}
 use Rattle.std.specs.Prelude.{◌↔◌}
 use Rattle.serde_json.specs.Data.{Data}
-use Rattle.oci_json_model.specs.Plain.{Plain}
-use Rattle.oci_json_model.specs.Shape.{Shape}
-use Rattle.oci_json_model.specs.Fits.{Fits}
-use Rattle.oci_json_model.specs.Means.{Means}
-use Rattle.oci_json_model.specs.Value.{value}
-use Rattle.oci_json_model.specs.Norm.{norm}
-use Rattle.oci_json_model.specs.Writable.{Writable}
-use Rattle.oci_json_model.specs.WellFormed.{WellFormed}
+use Rattle.oci_model.specs.Plain.{Plain}
+use Rattle.oci_model.specs.Shape.{Shape}
+use Rattle.oci_model.specs.Fits.{Fits}
+use Rattle.oci_model.specs.Means.{Means}
+use Rattle.oci_model.specs.Value.{value}
+use Rattle.oci_model.specs.Norm.{norm}
+use Rattle.oci_model.specs.Writable.{Writable}
+use Rattle.oci_model.specs.WellFormed.{WellFormed}
 use Rattle.oci_json.specs.Details.{HasNoNullDetail}
 use Rattle.oci_json.proofs.OneMeaning as meaning
 use Rattle.oci_json.proofs.Meanings.{allowed}

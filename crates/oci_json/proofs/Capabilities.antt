@@ -5,10 +5,10 @@ use Rattle.std.specs.List.{list_all, starts_with}
 use Rattle.std.proofs.lemmas.Bool.{and_parts, or_right, not-true}
 use Rattle.std.proofs.lemmas.Slice.Eq.{bytes_eq-Decides}
 use Rattle.serde_json.specs.Data.{Items, string}
-use Rattle.oci_text_base.specs.Capabilities.{ascii_upper, cap, repeated, is_capability_name}
-use Rattle.oci_text_base.specs.Names.{is_listed, no_text_twice}
-use Rattle.oci_json_model.specs.Means.{IsCapability, AreCapabilities, SomeIs, IsSetOf}
-use Rattle.oci_json_model.specs.Value.{capability_texts}
+use Rattle.oci_base.specs.Capabilities.{ascii_upper, cap, repeated, is_capability_name}
+use Rattle.oci_base.specs.Names.{is_listed, no_text_twice}
+use Rattle.oci_model.specs.Means.{IsCapability, AreCapabilities, SomeIs, IsSetOf}
+use Rattle.oci_model.specs.Value.{capability_texts}
 
 -- the uppercase of a text and a text
 upper-append : (s t : List ℕ) → map ascii_upper (s ++ t) ≡ map ascii_upper s ++ map ascii_upper t

@@ -4,12 +4,12 @@ use Rattle.std.specs.Ordering.{match_ordering}
 use Rattle.std.specs.Cmp.Lexicographic.{slice_cmp}
 use Rattle.std.proofs.lemmas.Bool.{and_parts}
 use Rattle.serde_json.specs.Data.{Data, Members, no_members, member, put, depth, items_depth, members_depth}
-use Rattle.oci_json_model.specs.Plain as plain
-use Rattle.oci_json_model.specs.Plain.{Plain, Plains, no_plains, Entries, no_entries, entry, Slot, empty, filled, Slots, no_slots, slot, set_of, keys_of, list_of, map_of, document_of}
-use Rattle.oci_json_model.specs.Shape.{Presence, required, defaulted, optional, nullable, unless_empty, Shape, text, truth, whole, named, open_name, digest_text, cpu_text, cap_set, list, map, key_set, detail, free_map, rows, Rows, no_rows, row}
-use Rattle.oci_json_model.specs.Fits.{Each, EachEntry, IfFilled}
-use Rattle.oci_json_model.specs.Value.{value, capability_texts, sorted, empty_objects, each_value, each_entry_value, is_empty_array, member_value, with_member, with_rows}
-use Rattle.oci_json_model.proofs.AlwaysWritable.{each_holds, each_entry_holds, slot_holds}
+use Rattle.oci_model.specs.Plain as plain
+use Rattle.oci_model.specs.Plain.{Plain, Plains, no_plains, Entries, no_entries, entry, Slot, empty, filled, Slots, no_slots, slot, set_of, keys_of, list_of, map_of, document_of}
+use Rattle.oci_model.specs.Shape.{Presence, required, defaulted, optional, nullable, unless_empty, Shape, text, truth, whole, named, open_name, digest_text, cpu_text, cap_set, list, map, key_set, detail, free_map, rows, Rows, no_rows, row}
+use Rattle.oci_model.specs.Fits.{Each, EachEntry, IfFilled}
+use Rattle.oci_model.specs.Value.{value, capability_texts, sorted, empty_objects, each_value, each_entry_value, is_empty_array, member_value, with_member, with_rows}
+use Rattle.oci_model.proofs.AlwaysWritable.{each_holds, each_entry_holds, slot_holds}
 use Rattle.oci_json.specs.Depths.{nesting, rows_nesting, is_closed, are_closed}
 use Rattle.oci_json.proofs.Meanings.{OfSome}
 

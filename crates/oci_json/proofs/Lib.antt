@@ -1,3 +1,4 @@
+pub mod Bytes
 pub mod Canonical
 pub mod Capabilities
 pub mod Depths
@@ -9,11 +10,13 @@ pub mod NoNullDetail
 pub mod NormalText
 pub mod NotNull
 pub mod OneMeaning
+pub mod Pieces
 pub mod ReadAgain
 pub mod ReadIsWritable
 pub mod ReadsBack
 pub mod Sorting
 pub mod Stable
+pub mod Texts
 pub mod Trees
 pub mod Unlisted
 pub mod Written

@@ -3,12 +3,12 @@ use Rattle.std.proofs.Common.{◌≡◌, ◌≤◌, ◌-◌, ℕ, List, Some, un
 use Rattle.serde_json.specs.Data.{Data, null, object, Members, no_members, depth, members_depth}
 use Rattle.serde_json.specs.Find.{get}
 use Rattle.serde_json.specs.Read.{read, max_depth}
-use Rattle.oci_json_model.specs.Plain.{Plain, Slots, no_slots, slot, text_of, set_of, keys_of, free_of, list_of, map_of, document_of}
-use Rattle.oci_json_model.specs.Shape.{Presence, required, defaulted, optional, nullable, unless_empty, Shape, text, truth, whole, named, open_name, digest_text, cpu_text, cap_set, list, map, key_set, detail, free_map, rows, Rows, no_rows, row}
-use Rattle.oci_json_model.specs.Fits.{Each, EachEntry}
-use Rattle.oci_json_model.specs.Means.{get_second, Means, MeansRows}
-use Rattle.oci_json_model.specs.Value.{value, sorted, free_members, with_rows}
-use Rattle.oci_json_model.specs.WellFormed.{WellFormed, AreWellFormed}
+use Rattle.oci_model.specs.Plain.{Plain, Slots, no_slots, slot, text_of, set_of, keys_of, free_of, list_of, map_of, document_of}
+use Rattle.oci_model.specs.Shape.{Presence, required, defaulted, optional, nullable, unless_empty, Shape, text, truth, whole, named, open_name, digest_text, cpu_text, cap_set, list, map, key_set, detail, free_map, rows, Rows, no_rows, row}
+use Rattle.oci_model.specs.Fits.{Each, EachEntry}
+use Rattle.oci_model.specs.Means.{get_second, Means, MeansRows}
+use Rattle.oci_model.specs.Value.{value, sorted, free_members, with_rows}
+use Rattle.oci_model.specs.WellFormed.{WellFormed, AreWellFormed}
 use Rattle.oci_json.specs.Depths.{default_depth, nesting, rows_nesting}
 use Rattle.oci_json.proofs.Depths.{IsShallow, with_depth, member_depth, texts_depth, objects_depth, each_depth, each_entry_depth}
 use Rattle.oci_json.proofs.Meanings.{MayBe, may_be, allowed, of_member, IfDefault, each_meant, each_entry_meant, either_meant, if_there, got_of, second_of}

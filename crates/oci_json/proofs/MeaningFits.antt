@@ -3,14 +3,14 @@ use Rattle.std.proofs.Common.{◌≡◌, ℕ, List, [], ◌∷◌, Bool, true, f
 use Rattle.serde_json.specs.Data.{Data, Items}
 use Rattle.serde_json.specs.Find.{get}
 use Rattle.serde_json.specs.Written.{compact_text}
-use Rattle.oci_text_base.specs.Names.{is_listed}
-use Rattle.oci_json_model.specs.Plain as plain
-use Rattle.oci_json_model.specs.Plain.{Plain, Slots, no_slots, slot}
-use Rattle.oci_json_model.specs.Shape.{Presence, required, defaulted, optional, nullable, unless_empty, Shape, text, truth, whole, named, open_name, digest_text, cpu_text, cap_set, list, map, key_set, detail, free_map, rows, Rows, no_rows, row}
-use Rattle.oci_json_model.specs.Fits.{FitsOpen, Fits, FitsRows}
-use Rattle.oci_json_model.specs.Means.{opened, IsSetOf, member_names, free_values, get_second, Means, MeansRows}
-use Rattle.oci_json_model.specs.WellFormed.{WellFormed, AreWellFormed, MemberIsWellFormed}
-use Rattle.oci_json_readers.proofs.Erasing.{erased_free_values}
+use Rattle.oci_base.specs.Names.{is_listed}
+use Rattle.oci_model.specs.Plain as plain
+use Rattle.oci_model.specs.Plain.{Plain, Slots, no_slots, slot}
+use Rattle.oci_model.specs.Shape.{Presence, required, defaulted, optional, nullable, unless_empty, Shape, text, truth, whole, named, open_name, digest_text, cpu_text, cap_set, list, map, key_set, detail, free_map, rows, Rows, no_rows, row}
+use Rattle.oci_model.specs.Fits.{FitsOpen, Fits, FitsRows}
+use Rattle.oci_model.specs.Means.{opened, IsSetOf, member_names, free_values, get_second, Means, MeansRows}
+use Rattle.oci_model.specs.WellFormed.{WellFormed, AreWellFormed, MemberIsWellFormed}
+use Rattle.oci_model.proofs.Erasing.{erased_free_values}
 use Rattle.oci_json.proofs.Meanings.{MayBe, may_be, allowed, of_member, any_items, any_members, IsAny, IfDefault, each_meant, each_entry_meant, either_meant, got_of, second_of}
 
 -- by whether the text is listed

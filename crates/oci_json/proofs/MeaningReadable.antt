@@ -4,13 +4,13 @@ use Rattle.std.specs.Cmp.Lexicographic.{slice_cmp}
 use Rattle.serde_json.specs.Data.{unsigned, negative, float, Data, null, boolean, number, string, array, object, Members, no_members, member}
 use Rattle.serde_json.specs.Find.{get, of_integer}
 use Rattle.serde_json.specs.Read.{read}
-use Rattle.oci_json_model.specs.Plain as plain
-use Rattle.oci_json_model.specs.Plain.{Plain, Plains, no_plains, Entries, no_entries, entry, Slot, empty, filled, Slots, no_slots, slot, text_of, whole_of, set_of, keys_of, list_of, map_of, document_of}
-use Rattle.oci_json_model.specs.Shape.{Presence, required, defaulted, optional, nullable, unless_empty, Shape, text, truth, whole, named, open_name, digest_text, cpu_text, cap_set, list, map, key_set, detail, free_map, rows, Rows, no_rows, row}
-use Rattle.oci_json_model.specs.Fits.{Each, EachEntry, IfFilled}
-use Rattle.oci_json_model.specs.Means.{as_whole, EachEntryMeans, get_second, Means, MeansRows}
-use Rattle.oci_json_model.specs.Value.{value, capability_texts, sorted, empty_objects, each_value, each_entry_value, is_empty_array, member_value, with_member, with_rows}
-use Rattle.oci_json_model.specs.WellFormed.{WellFormed, AreWellFormed}
+use Rattle.oci_model.specs.Plain as plain
+use Rattle.oci_model.specs.Plain.{Plain, Plains, no_plains, Entries, no_entries, entry, Slot, empty, filled, Slots, no_slots, slot, text_of, whole_of, set_of, keys_of, list_of, map_of, document_of}
+use Rattle.oci_model.specs.Shape.{Presence, required, defaulted, optional, nullable, unless_empty, Shape, text, truth, whole, named, open_name, digest_text, cpu_text, cap_set, list, map, key_set, detail, free_map, rows, Rows, no_rows, row}
+use Rattle.oci_model.specs.Fits.{Each, EachEntry, IfFilled}
+use Rattle.oci_model.specs.Means.{as_whole, EachEntryMeans, get_second, Means, MeansRows}
+use Rattle.oci_model.specs.Value.{value, capability_texts, sorted, empty_objects, each_value, each_entry_value, is_empty_array, member_value, with_member, with_rows}
+use Rattle.oci_model.specs.WellFormed.{WellFormed, AreWellFormed}
 use Rattle.oci_json.specs.Defaults.{IsReadableDefault, HasReadableDefaults, HaveReadableDefaults}
 use Rattle.oci_json.proofs.Meanings.{MayBe, may_be, of_member, OfSome, IfDefault, each_meant, each_entry_meant, either_meant, if_there, got_of, second_of}
 use Rattle.oci_json.specs.Readable.{IsHeld, IsBefore, IsInOrder, IsReadable, AreReadable, HoldReadable}

@@ -5,12 +5,12 @@ use Rattle.std.specs.Ordering.{match_ordering}
 use Rattle.std.specs.Cmp.Lexicographic.{slice_cmp}
 use Rattle.serde_json.specs.Data.{Data, null, boolean, number, string, array, object, Items, no_items, item, Members, no_members, member}
 use Rattle.serde_json.specs.Find.{as_object, get, get_member}
-use Rattle.oci_json_model.specs.Plain as plain
-use Rattle.oci_json_model.specs.Plain.{Plain, Plains, no_plains, Entries, no_entries, entry, Slot, empty, filled}
-use Rattle.oci_json_model.specs.Shape.{Presence, required, defaulted, optional, nullable, unless_empty, Shape, detail, list}
-use Rattle.oci_json_model.specs.Fits.{Each, EachEntry, IfFilled, IsFilled, FitsMember}
-use Rattle.oci_json_model.specs.Means.{unless_null, EachMeans, EachEntryMeans, IsThere, IsThereOr, MeansMember, get_second, MeansEither}
-use Rattle.oci_json_model.specs.WellFormed.{WellFormed, MemberIsWellFormed}
+use Rattle.oci_model.specs.Plain as plain
+use Rattle.oci_model.specs.Plain.{Plain, Plains, no_plains, Entries, no_entries, entry, Slot, empty, filled}
+use Rattle.oci_model.specs.Shape.{Presence, required, defaulted, optional, nullable, unless_empty, Shape, detail, list}
+use Rattle.oci_model.specs.Fits.{Each, EachEntry, IfFilled, IsFilled, FitsMember}
+use Rattle.oci_model.specs.Means.{unless_null, EachMeans, EachEntryMeans, IsThere, IsThereOr, MeansMember, get_second, MeansEither}
+use Rattle.oci_model.specs.WellFormed.{WellFormed, MemberIsWellFormed}
 
 -- ---- shapes of members
 

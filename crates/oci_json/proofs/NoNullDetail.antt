@@ -4,12 +4,12 @@ use Rattle.std.specs.Prelude.{◌≢◌}
 use Rattle.serde_json.specs.Data.{Data, null}
 use Rattle.serde_json.specs.Find.{get}
 use Rattle.serde_json.specs.Read.{read}
-use Rattle.oci_json_model.specs.Plain.{Plain, Slots, no_slots, slot, text_of, list_of, map_of, document_of}
-use Rattle.oci_json_model.specs.Shape.{Presence, required, defaulted, optional, nullable, unless_empty, Shape, text, truth, whole, named, open_name, digest_text, cpu_text, cap_set, list, map, key_set, detail, free_map, rows, Rows, no_rows, row}
-use Rattle.oci_json_model.specs.Fits.{Each, EachEntry}
-use Rattle.oci_json_model.specs.Means.{get_second, Means, MeansRows}
-use Rattle.oci_json_model.specs.Value.{value}
-use Rattle.oci_json_model.specs.WellFormed.{WellFormed, AreWellFormed, MemberIsWellFormed}
+use Rattle.oci_model.specs.Plain.{Plain, Slots, no_slots, slot, text_of, list_of, map_of, document_of}
+use Rattle.oci_model.specs.Shape.{Presence, required, defaulted, optional, nullable, unless_empty, Shape, text, truth, whole, named, open_name, digest_text, cpu_text, cap_set, list, map, key_set, detail, free_map, rows, Rows, no_rows, row}
+use Rattle.oci_model.specs.Fits.{Each, EachEntry}
+use Rattle.oci_model.specs.Means.{get_second, Means, MeansRows}
+use Rattle.oci_model.specs.Value.{value}
+use Rattle.oci_model.specs.WellFormed.{WellFormed, AreWellFormed, MemberIsWellFormed}
 use Rattle.oci_json.specs.Details.{EachDetailOf, HasNoNullDetail}
 use Rattle.oci_json.proofs.Meanings.{MayBe, may_be, allowed, of_member, any_items, any_members, IsAny, IfDefault, Gives, each_meant, each_entry_meant, either_meant, if_there, got_of, second_of}
 use Rattle.oci_json.proofs.ReadsBack.{read_back, never_null}

@@ -4,21 +4,21 @@ use Rattle.std.specs.Prelude.{◌↔◌}
 use Rattle.serde_json.specs.Data.{Data, depth}
 use Rattle.serde_json.specs.Read.{read, max_depth}
 use Rattle.serde_json.specs.Written.{compact_text}
-use Rattle.oci_json_model.specs.Plain.{Plain}
-use Rattle.oci_json_model.specs.Shape.{Shape}
-use Rattle.oci_json_model.specs.Means.{Means}
-use Rattle.oci_json_model.specs.Value.{value}
-use Rattle.oci_json_model.specs.Norm.{norm}
-use Rattle.oci_json_model.specs.Fits.{Fits}
-use Rattle.oci_json_model.specs.Writable.{Writable}
-use Rattle.oci_json_model.specs.WellFormed.{WellFormed}
+use Rattle.oci_model.specs.Plain.{Plain}
+use Rattle.oci_model.specs.Shape.{Shape}
+use Rattle.oci_model.specs.Means.{Means}
+use Rattle.oci_model.specs.Value.{value}
+use Rattle.oci_model.specs.Norm.{norm}
+use Rattle.oci_model.specs.Fits.{Fits}
+use Rattle.oci_model.specs.Writable.{Writable}
+use Rattle.oci_model.specs.WellFormed.{WellFormed}
 use Rattle.oci_json.specs.Defaults.{HasReadableDefaults}
 use Rattle.oci_json.specs.Details.{HasNoNullDetail}
 use Rattle.oci_json.proofs.Canonical as law
 use Rattle.oci_json.proofs.Meanings.{allowed}
 use Rattle.oci_json.proofs.MeaningFits.{fits}
 use Rattle.oci_json.proofs.MeaningReadable.{is_readable}
-use Rattle.oci_json_model.proofs.NoFloat.{none_written}
+use Rattle.oci_model.proofs.NoFloat.{none_written}
 use Rattle.oci_json.proofs.ReadAgain.{compact_read}
 use Rattle.oci_json.proofs.ReadIsWritable.{read_is_writable}
 use Rattle.oci_json.proofs.Trees.{read_within}

@@ -3,10 +3,10 @@ use Rattle.std.proofs.Common.{◌≡◌, ℕ, List, [], ◌∷◌, Bool, true, f
 use Rattle.std.specs.Prelude.{◌↔◌, IsTrue, option_and_then}
 use Rattle.serde_json.specs.Data.{Data, Items, no_items, item, Members, no_members, member}
 use Rattle.serde_json.specs.Find.{as_bool, as_str, as_array, as_object, get}
-use Rattle.oci_json_model.specs.Plain as plain
-use Rattle.oci_json_model.specs.Plain.{Plain, Plains, no_plains, Entries, no_entries, entry, Slot, empty, filled, Slots, no_slots, slot}
-use Rattle.oci_json_model.specs.Shape.{Presence, required, defaulted, optional, nullable, unless_empty, Shape, text, truth, whole, named, open_name, digest_text, cpu_text, cap_set, list, map, key_set, detail, free_map, rows, Rows, no_rows, row}
-use Rattle.oci_json_model.specs.Means.{as_whole, opened, unless_null, SomeIs, IsSetOf, member_names, free_values, EachMeans, EachEntryMeans, IsThere, IsThereOr, MeansMember, get_second, MeansEither, Means, MeansRows}
+use Rattle.oci_model.specs.Plain as plain
+use Rattle.oci_model.specs.Plain.{Plain, Plains, no_plains, Entries, no_entries, entry, Slot, empty, filled, Slots, no_slots, slot}
+use Rattle.oci_model.specs.Shape.{Presence, required, defaulted, optional, nullable, unless_empty, Shape, text, truth, whole, named, open_name, digest_text, cpu_text, cap_set, list, map, key_set, detail, free_map, rows, Rows, no_rows, row}
+use Rattle.oci_model.specs.Means.{as_whole, opened, unless_null, SomeIs, IsSetOf, member_names, free_values, EachMeans, EachEntryMeans, IsThere, IsThereOr, MeansMember, get_second, MeansEither, Means, MeansRows}
 
 -- a meaning of which there is at most one
 abbrev IsOne : (Data → Plain → Type 0) → Type 0

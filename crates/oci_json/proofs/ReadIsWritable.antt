@@ -4,14 +4,14 @@ use Rattle.serde_json.specs.Data.{Data, null, boolean, number, string, array, ob
 use Rattle.serde_json.specs.Find.{get}
 use Rattle.serde_json.specs.Read.{read, max_depth}
 use Rattle.serde_json.specs.Written.{members_have_float}
-use Rattle.oci_text_base.specs.CpuList.{IsCpuList}
-use Rattle.oci_json_model.specs.Plain.{Plain, Slots, no_slots, slot, text_of, list_of, map_of, free_of, document_of}
-use Rattle.oci_json_model.specs.Shape.{Presence, required, defaulted, optional, nullable, unless_empty, Shape, text, truth, whole, named, open_name, digest_text, cpu_text, cap_set, list, map, key_set, detail, free_map, rows, Rows, no_rows, row}
-use Rattle.oci_json_model.specs.Fits.{Each, EachEntry}
-use Rattle.oci_json_model.specs.Means.{unless_null, free_values, get_second, Means, MeansRows}
-use Rattle.oci_json_model.specs.Value.{free_members}
-use Rattle.oci_json_model.specs.Writable.{Writable, AreWritable}
-use Rattle.oci_json_model.specs.WellFormed.{WellFormed, AreWellFormed, MemberIsWellFormed}
+use Rattle.oci_base.specs.CpuList.{IsCpuList}
+use Rattle.oci_model.specs.Plain.{Plain, Slots, no_slots, slot, text_of, list_of, map_of, free_of, document_of}
+use Rattle.oci_model.specs.Shape.{Presence, required, defaulted, optional, nullable, unless_empty, Shape, text, truth, whole, named, open_name, digest_text, cpu_text, cap_set, list, map, key_set, detail, free_map, rows, Rows, no_rows, row}
+use Rattle.oci_model.specs.Fits.{Each, EachEntry}
+use Rattle.oci_model.specs.Means.{unless_null, free_values, get_second, Means, MeansRows}
+use Rattle.oci_model.specs.Value.{free_members}
+use Rattle.oci_model.specs.Writable.{Writable, AreWritable}
+use Rattle.oci_model.specs.WellFormed.{WellFormed, AreWellFormed, MemberIsWellFormed}
 use Rattle.oci_json.proofs.Meanings.{MayBe, may_be, allowed, of_member, IfDefault, each_meant, each_entry_meant, either_meant, if_there, got_of, second_of}
 use Rattle.oci_json.proofs.Trees.{IsWithin, read_within, array_within, object_within}
 use Rattle.oci_json.proofs.ReadAgain.{compact_read}

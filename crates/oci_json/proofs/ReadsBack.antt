@@ -5,16 +5,16 @@ use Rattle.std.proofs.lemmas.Bool.{and_parts, not-true}
 use Rattle.serde_json.specs.Data.{Data, null, boolean, number, string, array, object, Items, no_items, item, Members, no_members}
 use Rattle.serde_json.specs.Find.{get_member, of_integer}
 use Rattle.serde_json.specs.Written.{has_float}
-use Rattle.oci_text_base.specs.Names.{is_listed, no_text_twice}
-use Rattle.oci_json_model.specs.Plain as plain
-use Rattle.oci_json_model.specs.Plain.{Plain, Plains, no_plains, Entries, no_entries, entry, Slot, empty, filled, Slots, no_slots, slot, list_of, map_of, keys_of, free_of, document_of}
-use Rattle.oci_json_model.specs.Shape.{Presence, required, defaulted, optional, nullable, unless_empty, Shape, text, truth, whole, named, open_name, digest_text, cpu_text, cap_set, list, map, key_set, detail, free_map, rows, Rows, no_rows, row, with_second, names}
-use Rattle.oci_json_model.specs.Fits.{Fits, FitsRows, FitsMember, Each, EachEntry, IfFilled}
-use Rattle.oci_json_model.specs.Means.{as_whole, opened, AreObjects, unless_null, member_names, free_values, EachMeans, EachEntryMeans, IsThereOr, MeansMember, get_second, MeansEither, Means, MeansRows}
-use Rattle.oci_json_model.specs.Value.{value, sorted, empty_objects, free_members, each_value, each_entry_value, is_null, is_empty_array, member_value, with_member, with_rows}
-use Rattle.oci_json_model.specs.Norm.{norm, norm_free, each_plain, each_entry, norm_member, norm_rows}
-use Rattle.oci_json_model.specs.Writable.{Writable, AreWritable}
-use Rattle.oci_json_model.specs.WellFormed.{WellFormed, AreWellFormed, MemberIsWellFormed}
+use Rattle.oci_base.specs.Names.{is_listed, no_text_twice}
+use Rattle.oci_model.specs.Plain as plain
+use Rattle.oci_model.specs.Plain.{Plain, Plains, no_plains, Entries, no_entries, entry, Slot, empty, filled, Slots, no_slots, slot, list_of, map_of, keys_of, free_of, document_of}
+use Rattle.oci_model.specs.Shape.{Presence, required, defaulted, optional, nullable, unless_empty, Shape, text, truth, whole, named, open_name, digest_text, cpu_text, cap_set, list, map, key_set, detail, free_map, rows, Rows, no_rows, row, with_second, names}
+use Rattle.oci_model.specs.Fits.{Fits, FitsRows, FitsMember, Each, EachEntry, IfFilled}
+use Rattle.oci_model.specs.Means.{as_whole, opened, AreObjects, unless_null, member_names, free_values, EachMeans, EachEntryMeans, IsThereOr, MeansMember, get_second, MeansEither, Means, MeansRows}
+use Rattle.oci_model.specs.Value.{value, sorted, empty_objects, free_members, each_value, each_entry_value, is_null, is_empty_array, member_value, with_member, with_rows}
+use Rattle.oci_model.specs.Norm.{norm, norm_free, each_plain, each_entry, norm_member, norm_rows}
+use Rattle.oci_model.specs.Writable.{Writable, AreWritable}
+use Rattle.oci_model.specs.WellFormed.{WellFormed, AreWellFormed, MemberIsWellFormed}
 use Rattle.oci_json.proofs.Capabilities.{set_read}
 use Rattle.oci_json.proofs.Meanings.{MayBe, may_be}
 use Rattle.oci_json.proofs.Written.{not_listed, not_later, kept, kept_one, first_written}

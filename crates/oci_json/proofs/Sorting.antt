@@ -4,7 +4,7 @@ use Rattle.std.specs.Prelude.{⊤}
 use Rattle.std.specs.Ordering.{match_ordering, ordering_reverse}
 use Rattle.std.specs.Cmp.Lexicographic.{slice_cmp}
 use Rattle.std.proofs.lemmas.Cmp.{nat_list_cmp_total}
-use Rattle.oci_json_model.specs.Value.{with_text, sorted}
+use Rattle.oci_model.specs.Value.{with_text, sorted}
 
 -- the text stands before the first of the others
 abbrev IsBelow : List ℕ → List (List ℕ) → Type 0

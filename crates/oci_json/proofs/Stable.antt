@@ -4,19 +4,19 @@ use Rattle.std.specs.Prelude.{◌≢◌, option_and_then}
 use Rattle.serde_json.specs.Data.{Data, null, boolean, number, string, array, object, Members, no_members}
 use Rattle.serde_json.specs.Read.{read}
 use Rattle.serde_json.specs.Written.{has_float, members_have_float, compact_text}
-use Rattle.oci_text_base.specs.Names.{is_listed}
-use Rattle.oci_json_model.specs.Erased.{erased, erased_values}
-use Rattle.oci_json_model.specs.Plain as plain
-use Rattle.oci_json_model.specs.Plain.{Plain, Plains, no_plains, Entries, no_entries, entry, Slot, empty, filled, Slots, no_slots, slot, text_of, list_of, map_of, keys_of, free_of, document_of}
-use Rattle.oci_json_model.specs.Shape.{Presence, required, defaulted, optional, nullable, unless_empty, Shape, text, truth, whole, named, open_name, digest_text, cpu_text, cap_set, list, map, key_set, detail, free_map, rows, Rows, no_rows, row}
-use Rattle.oci_json_model.specs.Fits.{Fits, FitsRows, FitsMember, Each, EachEntry, IfFilled}
-use Rattle.oci_json_model.specs.Means.{opened, unless_null}
-use Rattle.oci_json_model.specs.Value.{value, empty_objects, free_members, each_value, each_entry_value, is_null, is_empty_array, member_value, with_member, with_rows}
-use Rattle.oci_json_model.specs.Norm.{norm, norm_open, norm_free, each_plain, each_entry, norm_member, norm_rows}
-use Rattle.oci_json_model.specs.Writable.{Writable, AreWritable}
-use Rattle.oci_json_model.specs.WellFormed.{WellFormed, AreWellFormed, MemberIsWellFormed}
+use Rattle.oci_base.specs.Names.{is_listed}
+use Rattle.oci_model.specs.Erased.{erased, erased_values}
+use Rattle.oci_model.specs.Plain as plain
+use Rattle.oci_model.specs.Plain.{Plain, Plains, no_plains, Entries, no_entries, entry, Slot, empty, filled, Slots, no_slots, slot, text_of, list_of, map_of, keys_of, free_of, document_of}
+use Rattle.oci_model.specs.Shape.{Presence, required, defaulted, optional, nullable, unless_empty, Shape, text, truth, whole, named, open_name, digest_text, cpu_text, cap_set, list, map, key_set, detail, free_map, rows, Rows, no_rows, row}
+use Rattle.oci_model.specs.Fits.{Fits, FitsRows, FitsMember, Each, EachEntry, IfFilled}
+use Rattle.oci_model.specs.Means.{opened, unless_null}
+use Rattle.oci_model.specs.Value.{value, empty_objects, free_members, each_value, each_entry_value, is_null, is_empty_array, member_value, with_member, with_rows}
+use Rattle.oci_model.specs.Norm.{norm, norm_open, norm_free, each_plain, each_entry, norm_member, norm_rows}
+use Rattle.oci_model.specs.Writable.{Writable, AreWritable}
+use Rattle.oci_model.specs.WellFormed.{WellFormed, AreWellFormed, MemberIsWellFormed}
 use Rattle.oci_json.specs.Details.{EachDetailOf, HasNoNullDetail}
-use Rattle.oci_json_readers.proofs.Erasing.{unless_null_as_it_was}
+use Rattle.oci_model.proofs.Erasing.{unless_null_as_it_was}
 use Rattle.oci_json.proofs.Meanings.{MayBe, may_be}
 use Rattle.oci_json.proofs.MeaningFits.{open_fits}
 use Rattle.oci_json.proofs.ReadsBack.{never_null}

@@ -4,10 +4,10 @@ use Rattle.std.specs.Prelude.{◌↔◌}
 use Rattle.serde_json.specs.Data.{Data, object, Members, put}
 use Rattle.serde_json.specs.Find.{get}
 use Rattle.serde_json.proofs.Views.{get_member-put_other}
-use Rattle.oci_text_base.specs.Names.{is_listed}
-use Rattle.oci_json_model.specs.Plain.{Plain, Slots, no_slots, slot}
-use Rattle.oci_json_model.specs.Shape.{rows, Rows, no_rows, row, with_second, names}
-use Rattle.oci_json_model.specs.Means.{get_second, MeansEither, Means, MeansRows}
+use Rattle.oci_base.specs.Names.{is_listed}
+use Rattle.oci_model.specs.Plain.{Plain, Slots, no_slots, slot}
+use Rattle.oci_model.specs.Shape.{rows, Rows, no_rows, row, with_second, names}
+use Rattle.oci_model.specs.Means.{get_second, MeansEither, Means, MeansRows}
 use Rattle.oci_json.proofs.Written.{not_listed, not_later}
 
 -- nothing new stands under a second name

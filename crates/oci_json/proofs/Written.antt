@@ -5,10 +5,10 @@ use Rattle.std.proofs.lemmas.Slice.Eq.{bytes_eq-Decides}
 use Rattle.serde_json.specs.Data.{Data, Members}
 use Rattle.serde_json.specs.Find.{get_member}
 use Rattle.serde_json.proofs.Views.{get_member-put, get_member-put_other}
-use Rattle.oci_text_base.specs.Names.{is_listed}
-use Rattle.oci_json_model.specs.Plain.{Slot, Slots, no_slots, slot}
-use Rattle.oci_json_model.specs.Shape.{Presence, Shape, Rows, no_rows, row, with_second, names}
-use Rattle.oci_json_model.specs.Value.{value, with_member, member_value, with_rows}
+use Rattle.oci_base.specs.Names.{is_listed}
+use Rattle.oci_model.specs.Plain.{Slot, Slots, no_slots, slot}
+use Rattle.oci_model.specs.Shape.{Presence, Shape, Rows, no_rows, row, with_second, names}
+use Rattle.oci_model.specs.Value.{value, with_member, member_value, with_rows}
 
 -- a text that a table lacks is none of its texts
 pub not_listed : (t u : List ℕ) (us : List (List ℕ)) → is_listed (u ∷ us) t ≡ false → (t ≡ u → ⊥) × (is_listed us t ≡ false)

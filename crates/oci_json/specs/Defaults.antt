@@ -1,7 +1,7 @@
 -- Members' defaults whose values are readable (RFC 8259, section 4).
 use Rattle.std.specs.Prelude.{⊤}
-use Rattle.oci_json_model.specs.Shape.{Presence, defaulted, Shape, list, map, rows, Rows, no_rows, row}
-use Rattle.oci_json_model.specs.Value.{value}
+use Rattle.oci_model.specs.Shape.{Presence, defaulted, Shape, list, map, rows, Rows, no_rows, row}
+use Rattle.oci_model.specs.Value.{value}
 use Rattle.oci_json.specs.Readable.{IsReadable}
 
 -- what is written for the default, if there is one, is readable

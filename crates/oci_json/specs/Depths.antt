@@ -1,8 +1,8 @@
 -- How deep what is written nests (RFC 8259, section 9: a parser may limit the depth of nesting).
 use Rattle.std.specs.Prelude.{◌&&◌, ℕ, suc, max, Bool, true, false}
 use Rattle.serde_json.specs.Data.{depth}
-use Rattle.oci_json_model.specs.Shape.{Presence, defaulted, Shape, cap_set, list, map, key_set, detail, free_map, rows, Rows, no_rows, row}
-use Rattle.oci_json_model.specs.Value.{value}
+use Rattle.oci_model.specs.Shape.{Presence, defaulted, Shape, cap_set, list, map, key_set, detail, free_map, rows, Rows, no_rows, row}
+use Rattle.oci_model.specs.Value.{value}
 
 -- how deep a member's default nests, if it has one
 abbrev pub default_depth : Presence → Shape → ℕ

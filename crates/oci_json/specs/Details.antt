@@ -2,9 +2,9 @@
 use Rattle.std.specs.Prelude.{◌≢◌, ℕ, List, Some, ⊤}
 use Rattle.serde_json.specs.Data.{null}
 use Rattle.serde_json.specs.Read.{read}
-use Rattle.oci_json_model.specs.Plain.{Plain, Slots, no_slots, slot, text_of, list_of, map_of, document_of}
-use Rattle.oci_json_model.specs.Shape.{Shape, list, map, detail, rows, Rows, no_rows, row}
-use Rattle.oci_json_model.specs.Fits.{Each, EachEntry, IfFilled}
+use Rattle.oci_model.specs.Plain.{Plain, Slots, no_slots, slot, text_of, list_of, map_of, document_of}
+use Rattle.oci_model.specs.Shape.{Shape, list, map, detail, rows, Rows, no_rows, row}
+use Rattle.oci_model.specs.Fits.{Each, EachEntry, IfFilled}
 
 -- each `detail` text has the property
 abbrev mutual

@@ -1,10 +1,10 @@
 -- A worked record: an operating system whose version has a second name (image specification, "Image Index", `os.version`).
 use Rattle.std.specs.Prelude.{[], ◌∷◌, Some, codes}
 use Rattle.serde_json.specs.Data.{Data, null, string, object, no_members, member}
-use Rattle.oci_json_model.specs.Shape as shape
-use Rattle.oci_json_model.specs.Shape.{Shape, rows, row, listed, no_rows, required, optional}
-use Rattle.oci_json_model.specs.Plain as plain
-use Rattle.oci_json_model.specs.Plain.{Plain, filled, slots}
+use Rattle.oci_model.specs.Shape as shape
+use Rattle.oci_model.specs.Shape.{Shape, rows, row, listed, no_rows, required, optional}
+use Rattle.oci_model.specs.Plain as plain
+use Rattle.oci_model.specs.Plain.{Plain, filled, slots}
 
 -- its shape
 abbrev pub system : Shape

@@ -3,15 +3,15 @@ ghost use Rattle.std.specs.Prelude.{◌≡◌, ◌≤◌, ◌↔◌, ℕ, List, 
 ghost use Rattle.serde_json.specs.Data.{Data, object, Members, put, depth};
 ghost use Rattle.serde_json.specs.Read.{read, max_depth};
 ghost use Rattle.serde_json.specs.Written.{has_float, compact_text};
-ghost use Rattle.oci_text_base.specs.Names.{is_listed};
-ghost use Rattle.oci_json_model.specs.Plain.{Plain};
-ghost use Rattle.oci_json_model.specs.Shape.{Shape, rows, Rows, names};
-ghost use Rattle.oci_json_model.specs.WellFormed.{WellFormed};
-ghost use Rattle.oci_json_model.specs.Fits.{Fits};
-ghost use Rattle.oci_json_model.specs.Means.{Means};
-ghost use Rattle.oci_json_model.specs.Value.{value};
-ghost use Rattle.oci_json_model.specs.Norm.{norm};
-ghost use Rattle.oci_json_model.specs.Writable.{Writable, is_always_writable};
+ghost use Rattle.oci_base.specs.Names.{is_listed};
+ghost use Rattle.oci_model.specs.Plain.{Plain};
+ghost use Rattle.oci_model.specs.Shape.{Shape, rows, Rows, names};
+ghost use Rattle.oci_model.specs.WellFormed.{WellFormed};
+ghost use Rattle.oci_model.specs.Fits.{Fits};
+ghost use Rattle.oci_model.specs.Means.{Means};
+ghost use Rattle.oci_model.specs.Value.{value};
+ghost use Rattle.oci_model.specs.Norm.{norm};
+ghost use Rattle.oci_model.specs.Writable.{Writable, is_always_writable};
 ghost use Rattle.oci_json.specs.Defaults.{HasReadableDefaults};
 ghost use Rattle.oci_json.specs.Depths.{nesting, is_closed};
 ghost use Rattle.oci_json.specs.Details.{HasNoNullDetail};
@@ -68,7 +68,7 @@ pub fn read_is_writable()
 {}
 
 /// All content of a shape without `detail`, free maps and CPU lists is serializable.
-#[tactic(auto, using(oci_json_model::proofs::AlwaysWritable::always_writable))]
+#[tactic(auto, using(oci_model::proofs::AlwaysWritable::always_writable))]
 pub fn always_writable()
     ensures { (s : Shape) (p : Plain) → is_always_writable s ≡ true → Writable s p }
 {}
@@ -80,7 +80,7 @@ pub fn unlisted()
 {}
 
 /// What is written holds no numbers but 64-bit whole ones.
-#[tactic(auto, using(oci_json_model::proofs::NoFloat::none_written))]
+#[tactic(auto, using(oci_model::proofs::NoFloat::none_written))]
 pub fn whole_numbers()
     ensures { (s : Shape) (p : Plain) → Writable s p → has_float (value s p) ≡ false }
 {}

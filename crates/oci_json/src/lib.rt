@@ -1,25 +1,26 @@
-//! The documents of the specifications as JSON: what a document type can do, its members, reading, writing, and the laws.
+//! The documents of the specifications as JSON: reading and writing bytes, streams and files, `normalize`, and the laws of the model.
 #![tactic(auto)]
 
+pub mod display;
+pub mod file;
 pub mod laws;
+pub mod normal;
+pub mod reading;
+pub mod writing;
 
-pub use oci_json_io::{
-    from_file, from_reader, from_slice, to_file, to_file_pretty, to_string, to_string_pretty,
-    to_writer, to_writer_pretty, write_text,
+pub use display::display_pretty;
+pub use file::{from_file, to_file, to_file_pretty};
+pub use normal::normalize;
+pub use oci_model::{
+    As, Defaulted, Detail, Found, FreeValues, Keys, MemberReader, Nullable, ObjectWriter,
+    OciDefault, OciKind, OciMember, OciRecord, Optional, Required, UnlessEmpty, copy_optional,
+    copy_optional_as, equal_optional_values, equal_trees, equal_values, fault, optional,
+    optional_as_owned, optional_either, optional_either_owned, optional_owned, read1, read2, read3,
+    read4, read5, required, required_owned, taken, taken_5, taken_6, taken_7, taken_8, taken_9,
+    taken_10, try_join2, try_join3, try_join4, try_join5, write_nullable, write_optional,
+    write_optional_as, write_required, write_unless_empty,
 };
-pub use oci_json_members::{
-    Keys, OciDefault, OciKind, copy_optional_as, write_nullable, write_optional_as,
-    write_unless_empty,
+pub use reading::{
+    bytes_from_reader, from_reader, from_slice, value_from_reader, value_from_slice,
 };
-pub use oci_json_model::{
-    Found, ObjectWriter, OciMember, OciRecord, copy_optional, fault, optional, optional_either,
-    optional_either_owned, optional_owned, required, required_owned, taken, taken_5, taken_6,
-    taken_7, taken_8, taken_9, taken_10, try_join2, try_join3, try_join4, try_join5,
-    write_optional, write_required,
-};
-pub use oci_json_normal::normalize;
-pub use oci_json_readers::{
-    As, Defaulted, Detail, FreeValues, MemberReader, Nullable, Optional, Required, UnlessEmpty,
-    equal_optional_values, equal_trees, equal_values, optional_as_owned, read1, read2, read3,
-    read4, read5,
-};
+pub use writing::{to_string, to_string_pretty, to_writer, to_writer_pretty, write_text};

@@ -7,7 +7,7 @@ use Rattle.oci_layout.specs.Looks.{Contents, Shows}
 use Rattle.oci_layout.specs.Sound.{IsFine, AreFine, IsFileOf, IsSoundFrom, IsSoundLayout}
 use Rattle.oci_layout.specs.Walk.{IsWalk}
 use Rattle.std.specs.Prelude.{codes, IsTrue}
-use Rattle.oci_text_base.specs.declared.error.OciSpecError.{OciSpecError}
+use Rattle.oci_base.specs.declared.error.OciSpecError.{OciSpecError}
 use Rattle.oci_layout.proofs.Sound.{sound_where_reached}
 use Rattle.oci_layout.specs.declared.kind.Kind.TheVariants.{Index}
 use Rattle.oci_layout.specs.declared.claim.Claim.{Claim}

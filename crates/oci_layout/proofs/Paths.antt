@@ -1,10 +1,10 @@
 -- Where contents lie.
 use Rattle.std.proofs.Common.{◌≡◌, ℕ, ◌<◌, Bool, true, false, List, [], ◌∷◌, ◌++◌, length, refl, sym, ap, ◌∙◌, subst, arith}
-use Rattle.oci_text_base.specs.Classes.{is_lower, is_joint, is_encoded_byte, slash, IsSomeOf, IsOneOf, one, more}
-use Rattle.oci_text_base.specs.Digest.{IsAlgorithm, IsDigest}
-use Rattle.oci_text_base.specs.Names.{name_text, opened, is_listed}
-use Rattle.oci_text_base.proofs.Lacks.{both, lacks_joined, lacks_one, lacks_some}
-use Rattle.oci_text_base.proofs.Marks.{has_none}
+use Rattle.oci_base.specs.Classes.{is_lower, is_joint, is_encoded_byte, slash, IsSomeOf, IsOneOf, one, more}
+use Rattle.oci_base.specs.Digest.{IsAlgorithm, IsDigest}
+use Rattle.oci_base.specs.Names.{name_text, opened, is_listed}
+use Rattle.oci_base.proofs.Lacks.{both, lacks_joined, lacks_one, lacks_some}
+use Rattle.oci_base.proofs.Marks.{has_none}
 use Rattle.oci_layout.specs.Paths.{IsPlainName}
 
 -- a text that is opened keeps its bytes

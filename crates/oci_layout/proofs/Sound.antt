@@ -4,7 +4,7 @@ use Rattle.std.specs.Prelude.{bytes_eq, codes, option_and_then, if◌then◌else
 use Rattle.std.proofs.lemmas.Option.{slice_get-get_or}
 use Rattle.serde_json.specs.Data.{Data}
 use Rattle.serde_json.specs.Find.{as_str, get}
-use Rattle.oci_json_model.specs.Shape.{Shape}
+use Rattle.oci_model.specs.Shape.{Shape}
 use Rattle.oci_content.specs.Content.{Tells}
 use Rattle.oci_content.specs.declared.verdict.Verdict.{Verdict}
 use Rattle.oci_content.specs.declared.verdict.Verdict.TheVariants as verdict

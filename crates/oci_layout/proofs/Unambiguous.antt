@@ -2,8 +2,8 @@
 use Rattle.std.proofs.Common.{◌≡◌, ℕ, List, Option, None, Some, inl, inr, refl, sym, subst, ◌∙◌}
 use Rattle.std.proofs.lemmas.List.Elements.{All-nil}
 use Rattle.serde_json.specs.Data.{Data}
-use Rattle.oci_json_io.specs.Engines.{ReadsAs}
-use Rattle.oci_json_model.specs.Shape.{Shape}
+use Rattle.oci_json.specs.Engines.{ReadsAs}
+use Rattle.oci_model.specs.Shape.{Shape}
 use Rattle.oci_layout.specs.Documents.{HasMember, IsAgainst, IsRead, IsReadBy, IsUnambiguous}
 use Rattle.oci_layout.specs.Kinds.{document_shape}
 use Rattle.oci_layout.specs.declared.claim.Claim.{Claim}

@@ -2,7 +2,7 @@
 use Rattle.std.specs.Prelude.{ℕ, List, [], ◌∷◌, ◌++◌, codes, map, Bool, true, false, ◌&&◌, Option, Some, None, option_and_then, unwrap_or}
 use Rattle.serde_json.specs.Data.{Data, Items, no_items, item}
 use Rattle.serde_json.specs.Find.{as_str, as_number, as_u64, as_array, get}
-use Rattle.oci_json_model.specs.Means.{unless_null}
+use Rattle.oci_model.specs.Means.{unless_null}
 use Rattle.oci_layout.specs.Kinds.{kind_of, is_nondistributable}
 use Rattle.oci_layout.specs.declared.kind.Kind.{Kind}
 use Rattle.oci_layout.specs.declared.kind.Kind.TheVariants as kind

@@ -3,10 +3,10 @@ use Rattle.std.specs.Prelude.{◌≡◌, ◌⊎◌, ℕ, List, [], bytes_eq, cod
 use Rattle.std.specs.List.{All, Contains}
 use Rattle.serde_json.specs.Data.{Data}
 use Rattle.serde_json.specs.Find.{as_str, get}
-use Rattle.oci_json_model.specs.Plain.{Plain}
-use Rattle.oci_json_model.specs.Shape.{Shape}
-use Rattle.oci_json_model.specs.Means.{Means, unless_null}
-use Rattle.oci_json_io.specs.Engines.{ReadsAs, IsNoJson}
+use Rattle.oci_model.specs.Plain.{Plain}
+use Rattle.oci_model.specs.Shape.{Shape}
+use Rattle.oci_model.specs.Means.{Means, unless_null}
+use Rattle.oci_json.specs.Engines.{ReadsAs, IsNoJson}
 use Rattle.oci_layout.specs.Kinds.{own_type, document_shape, member_name, other_members}
 use Rattle.oci_layout.specs.Claims.{claims_of}
 use Rattle.oci_layout.specs.declared.kind.Kind.{Kind}

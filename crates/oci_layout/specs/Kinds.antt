@@ -1,6 +1,6 @@
 -- What the contents of an image layout are read as (image specification, "Media Types", "Compatibility Matrix").
 use Rattle.std.specs.Prelude.{ℕ, List, [], ◌∷◌, codes, bytes_eq, Bool, ◌||◌, if◌then◌else◌, Option, Some, None}
-use Rattle.oci_json_model.specs.Shape.{Shape}
+use Rattle.oci_model.specs.Shape.{Shape}
 use Rattle.oci_shapes.specs.ArtifactManifest.{artifact_manifest}
 use Rattle.oci_shapes.specs.ImageConfiguration.{image_configuration}
 use Rattle.oci_shapes.specs.ImageIndex.{image_index}

@@ -1,6 +1,6 @@
 -- Where contents lie in an image layout (image specification, "Image Layout", "Blobs").
 use Rattle.std.specs.Prelude.{◌≢◌, ◌≡◌, ℕ, ◌<◌, List, ◌∷◌, ◌++◌, codes, length, false}
-use Rattle.oci_text_base.specs.Classes.{has, slash}
+use Rattle.oci_base.specs.Classes.{has, slash}
 
 -- a name of a file in its folder
 pub record IsPlainName (name : List ℕ) : Type 0 where

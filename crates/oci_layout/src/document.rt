@@ -1,7 +1,7 @@
 //! What is found in the bytes of documents.
 ghost use Rattle.std.specs.Prelude.{◌≡◌, IfOk};
 ghost use Rattle.serde_json.specs.View.{view};
-ghost use Rattle.oci_schema_types.specs.Shapes.{schema_shape, shape_at};
+ghost use Rattle.oci_schema.specs.Shapes.{schema_shape, shape_at};
 ghost use Rattle.oci_schemas.specs.Table.{shapes};
 ghost use Rattle.oci_layout.specs.Documents.{IsRead, IsJudged, IsAgainst, type_fault};
 
@@ -9,8 +9,7 @@ use crate::claim::{Fault, Seen};
 use crate::descriptor::claims_of_document;
 use crate::kind::Kind;
 use crate::member::other_member;
-use oci_schema::violations;
-use oci_schema_types::Schema;
+use oci_schema::{Schema, violations};
 use oci_schemas::OciRecords;
 use serde_json::Value;
 use std::alloc::{AllocError, Global};

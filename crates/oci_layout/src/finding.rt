@@ -1,12 +1,12 @@
 //! Findings, and how they are reported.
 ghost use Rattle.std.specs.Prelude.{IfOk, string_bytes};
-ghost use Rattle.oci_escape.specs.Escaped.{IsLine};
+ghost use Rattle.oci_base.specs.Escaped.{IsLine};
 
 use crate::claim::{Claim, Fault, Role};
 use crate::path::blob_path;
 use crate::walk::{Detail, Walk};
+use oci_base::line_of;
 use oci_content::{Embedded, Verdict};
-use oci_escape::line_of;
 use oci_schema::Violation;
 use std::alloc::{AllocError, Global};
 

@@ -1,11 +1,11 @@
 //! What the contents of an image layout are read as.
 ghost use Rattle.std.specs.Prelude.{◌≡◌, option_map};
 ghost use Rattle.oci_layout.specs.Kinds.{kind_of, own_type, document_shape, other_members, is_nondistributable};
-ghost use Rattle.oci_schema_types.specs.Shapes.{schema_shape, shape_at};
+ghost use Rattle.oci_schema.specs.Shapes.{schema_shape, shape_at};
 ghost use Rattle.oci_schemas.specs.Table.{shapes};
 
 use crate::member::OtherMember;
-use oci_schema_types::Schema;
+use oci_schema::Schema;
 use oci_schemas::image::image_configuration;
 use oci_schemas::image_manifest::{artifact_manifest, image_index, image_manifest};
 

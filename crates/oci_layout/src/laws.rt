@@ -1,8 +1,8 @@
 //! What a walk without a finding says, and where a digest's content lies.
 ghost use Rattle.std.specs.Prelude.{ℕ, List, Option, Some, None, false};
 ghost use Rattle.serde_json.specs.Data.{Data};
-ghost use Rattle.oci_json_io.specs.Engines.{ReadsAs};
-ghost use Rattle.oci_text_base.specs.Digest.{IsDigest};
+ghost use Rattle.oci_json.specs.Engines.{ReadsAs};
+ghost use Rattle.oci_base.specs.Digest.{IsDigest};
 ghost use Rattle.oci_layout.specs.Documents.{IsRead, IsUnambiguous};
 ghost use Rattle.oci_layout.specs.Looks.{Shows};
 ghost use Rattle.oci_layout.specs.Paths.{IsPlainName};

@@ -1,6 +1,6 @@
 //! Where contents lie in an image layout.
 ghost use Rattle.std.specs.Prelude.{◌≡◌, ℕ, List, IfOk, string_bytes};
-ghost use Rattle.oci_text_base.specs.Digest.{IsDigest};
+ghost use Rattle.oci_base.specs.Digest.{IsDigest};
 ghost use Rattle.oci_layout.specs.Paths.{path_of};
 
 use oci_text::Digest;

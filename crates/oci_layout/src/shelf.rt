@@ -5,7 +5,7 @@ ghost use Rattle.oci_content.specs.Content.{Tells};
 ghost use Rattle.oci_layout.specs.Shelf.{IsRight};
 
 use oci_content::{Verdict, verify};
-use oci_image_descriptor::Descriptor;
+use oci_descriptor::Descriptor;
 use oci_text::Digest;
 use std::alloc::{AllocError, Global};
 

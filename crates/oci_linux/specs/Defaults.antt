@@ -1,10 +1,10 @@
 -- Which namespaces, masked and readonly paths a container has by default (runtime specification, "Linux Container Configuration", "Namespaces", "Masked Paths", "Readonly Paths").
 use Rattle.std.specs.Prelude.{ℕ, List, [], ◌∷◌, map, codes}
-use Rattle.oci_json_model.specs.Plain as plain
-use Rattle.oci_json_model.specs.Plain.{Plain, document, slots, empty, filled, plains}
-use Rattle.oci_runtime_names.specs.LinuxNamespaceType.{linux_namespace_type_name}
-use Rattle.oci_runtime_names.specs.declared.linux_namespace_type.LinuxNamespaceType.{LinuxNamespaceType}
-use Rattle.oci_runtime_names.specs.declared.linux_namespace_type.LinuxNamespaceType.TheVariants.{Mount, Cgroup, Uts, Ipc, User, Pid, Network}
+use Rattle.oci_model.specs.Plain as plain
+use Rattle.oci_model.specs.Plain.{Plain, document, slots, empty, filled, plains}
+use Rattle.oci_text.specs.LinuxNamespaceType.{linux_namespace_type_name}
+use Rattle.oci_text.specs.declared.linux_namespace_type.LinuxNamespaceType.{LinuxNamespaceType}
+use Rattle.oci_text.specs.declared.linux_namespace_type.LinuxNamespaceType.TheVariants.{Mount, Cgroup, Uts, Ipc, User, Pid, Network}
 
 -- a new namespace of a type: it has no path
 abbrev pub new_namespace : LinuxNamespaceType → Plain

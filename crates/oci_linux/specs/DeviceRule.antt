@@ -1,9 +1,9 @@
 -- The rule for a device that a container has (runtime specification, "Linux Container Configuration", "Allowed Device list").
 use Rattle.std.specs.Prelude.{[], ◌∷◌, true, codes}
-use Rattle.oci_json_model.specs.Plain as plain
-use Rattle.oci_json_model.specs.Plain.{Plain, document, slots, filled}
-use Rattle.oci_runtime_names.specs.LinuxDeviceType.{linux_device_type_name}
-use Rattle.oci_linux_records.specs.declared.linux_device.LinuxDevice.{LinuxDevice}
+use Rattle.oci_model.specs.Plain as plain
+use Rattle.oci_model.specs.Plain.{Plain, document, slots, filled}
+use Rattle.oci_text.specs.LinuxDeviceType.{linux_device_type_name}
+use Rattle.oci_linux.specs.declared.linux_device.LinuxDevice.{LinuxDevice}
 
 -- it allows the device of this type and of these numbers to be read, written and made
 abbrev pub device_rule : LinuxDevice → Plain

@@ -4,39 +4,39 @@ use Rattle.std.specs.Prelude.{[], ◌∷◌, Option, String, Vec}
 use Rattle.std.specs.Borrow.{Lends, MutBor, Fml}
 use Rattle.std.specs.declared.alloc.Global.{Global}
 use Rattle.std.specs.BTreeMap.{BTreeMap}
-use Rattle.oci_json_model.specs.Plain.{Plain, document, slots, empty, filled}
-use Rattle.oci_json_model.specs.Types.{perhaps, text_plain, list_plain, map_plain}
-use Rattle.oci_json_model.specs.Lent.{text_row, option_row, list_row, map_row}
-use Rattle.oci_linux_records.specs.LinuxNetDevice.{linux_net_device_plain}
-use Rattle.oci_linux_records.specs.declared.linux_net_device.LinuxNetDevice.{LinuxNetDevice}
-use Rattle.oci_linux_records.specs.contracts.linux_net_device.LinuxNetDevice as linux_net_device
-use Rattle.oci_linux_records.specs.LinuxIdMapping.{linux_id_mapping_plain}
-use Rattle.oci_linux_records.specs.declared.linux_id_mapping.LinuxIdMapping.{LinuxIdMapping}
-use Rattle.oci_linux_records.specs.contracts.linux_id_mapping.LinuxIdMapping as linux_id_mapping
+use Rattle.oci_model.specs.Plain.{Plain, document, slots, empty, filled}
+use Rattle.oci_model.specs.Types.{perhaps, text_plain, list_plain, map_plain}
+use Rattle.oci_model.specs.Lent.{text_row, option_row, list_row, map_row}
+use Rattle.oci_linux.specs.LinuxNetDevice.{linux_net_device_plain}
+use Rattle.oci_linux.specs.declared.linux_net_device.LinuxNetDevice.{LinuxNetDevice}
+use Rattle.oci_linux.specs.contracts.linux_net_device.LinuxNetDevice as linux_net_device
+use Rattle.oci_linux.specs.LinuxIdMapping.{linux_id_mapping_plain}
+use Rattle.oci_linux.specs.declared.linux_id_mapping.LinuxIdMapping.{LinuxIdMapping}
+use Rattle.oci_linux.specs.contracts.linux_id_mapping.LinuxIdMapping as linux_id_mapping
 use Rattle.oci_cgroups.specs.LinuxResources.{linux_resources_plain}
 use Rattle.oci_cgroups.specs.declared.linux_resources.LinuxResources.{LinuxResources}
 use Rattle.oci_cgroups.specs.contracts.linux_resources.LinuxResources as linux_resources
-use Rattle.oci_linux_records.specs.LinuxNamespace.{linux_namespace_plain}
-use Rattle.oci_linux_records.specs.declared.linux_namespace.LinuxNamespace.{LinuxNamespace}
-use Rattle.oci_linux_records.specs.contracts.linux_namespace.LinuxNamespace as linux_namespace
-use Rattle.oci_linux_records.specs.LinuxDevice.{linux_device_plain}
-use Rattle.oci_linux_records.specs.declared.linux_device.LinuxDevice.{LinuxDevice}
-use Rattle.oci_linux_records.specs.contracts.linux_device.LinuxDevice as linux_device
-use Rattle.oci_linux_records.specs.LinuxSeccomp.{linux_seccomp_plain}
-use Rattle.oci_linux_records.specs.declared.linux_seccomp.LinuxSeccomp.{LinuxSeccomp}
-use Rattle.oci_linux_records.specs.contracts.linux_seccomp.LinuxSeccomp as linux_seccomp
-use Rattle.oci_linux_records.specs.LinuxIntelRdt.{linux_intel_rdt_plain}
-use Rattle.oci_linux_records.specs.declared.linux_intel_rdt.LinuxIntelRdt.{LinuxIntelRdt}
-use Rattle.oci_linux_records.specs.contracts.linux_intel_rdt.LinuxIntelRdt as linux_intel_rdt
-use Rattle.oci_linux_records.specs.LinuxMemoryPolicy.{linux_memory_policy_plain}
-use Rattle.oci_linux_records.specs.declared.linux_memory_policy.LinuxMemoryPolicy.{LinuxMemoryPolicy}
-use Rattle.oci_linux_records.specs.contracts.linux_memory_policy.LinuxMemoryPolicy as linux_memory_policy
-use Rattle.oci_linux_records.specs.LinuxPersonality.{linux_personality_plain}
-use Rattle.oci_linux_records.specs.declared.linux_personality.LinuxPersonality.{LinuxPersonality}
-use Rattle.oci_linux_records.specs.contracts.linux_personality.LinuxPersonality as linux_personality
-use Rattle.oci_linux_records.specs.LinuxTimeOffset.{linux_time_offset_plain}
-use Rattle.oci_linux_records.specs.declared.linux_time_offset.LinuxTimeOffset.{LinuxTimeOffset}
-use Rattle.oci_linux_records.specs.contracts.linux_time_offset.LinuxTimeOffset as linux_time_offset
+use Rattle.oci_linux.specs.LinuxNamespace.{linux_namespace_plain}
+use Rattle.oci_linux.specs.declared.linux_namespace.LinuxNamespace.{LinuxNamespace}
+use Rattle.oci_linux.specs.contracts.linux_namespace.LinuxNamespace as linux_namespace
+use Rattle.oci_linux.specs.LinuxDevice.{linux_device_plain}
+use Rattle.oci_linux.specs.declared.linux_device.LinuxDevice.{LinuxDevice}
+use Rattle.oci_linux.specs.contracts.linux_device.LinuxDevice as linux_device
+use Rattle.oci_linux.specs.LinuxSeccomp.{linux_seccomp_plain}
+use Rattle.oci_linux.specs.declared.linux_seccomp.LinuxSeccomp.{LinuxSeccomp}
+use Rattle.oci_linux.specs.contracts.linux_seccomp.LinuxSeccomp as linux_seccomp
+use Rattle.oci_linux.specs.LinuxIntelRdt.{linux_intel_rdt_plain}
+use Rattle.oci_linux.specs.declared.linux_intel_rdt.LinuxIntelRdt.{LinuxIntelRdt}
+use Rattle.oci_linux.specs.contracts.linux_intel_rdt.LinuxIntelRdt as linux_intel_rdt
+use Rattle.oci_linux.specs.LinuxMemoryPolicy.{linux_memory_policy_plain}
+use Rattle.oci_linux.specs.declared.linux_memory_policy.LinuxMemoryPolicy.{LinuxMemoryPolicy}
+use Rattle.oci_linux.specs.contracts.linux_memory_policy.LinuxMemoryPolicy as linux_memory_policy
+use Rattle.oci_linux.specs.LinuxPersonality.{linux_personality_plain}
+use Rattle.oci_linux.specs.declared.linux_personality.LinuxPersonality.{LinuxPersonality}
+use Rattle.oci_linux.specs.contracts.linux_personality.LinuxPersonality as linux_personality
+use Rattle.oci_linux.specs.LinuxTimeOffset.{linux_time_offset_plain}
+use Rattle.oci_linux.specs.declared.linux_time_offset.LinuxTimeOffset.{LinuxTimeOffset}
+use Rattle.oci_linux.specs.contracts.linux_time_offset.LinuxTimeOffset as linux_time_offset
 use Rattle.oci_linux.specs.Defaults.{default_masked_paths, default_namespaces, default_readonly_paths}
 use Rattle.oci_linux.specs.DefaultResources.{default_resources}
 use Rattle.oci_linux.specs.declared.linux.Linux.{Linux}

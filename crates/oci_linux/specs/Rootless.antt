@@ -1,7 +1,7 @@
 -- The Linux part of a container that a user without privileges starts (runtime specification, "Linux Container Configuration").
 use Rattle.std.specs.Prelude.{ℕ, [], ◌∷◌, pos}
-use Rattle.oci_json_model.specs.Plain as plain
-use Rattle.oci_json_model.specs.Plain.{Plain, document, slots, empty, filled, plains}
+use Rattle.oci_model.specs.Plain as plain
+use Rattle.oci_model.specs.Plain.{Plain, document, slots, empty, filled, plains}
 use Rattle.oci_linux.specs.Defaults.{default_masked_paths, default_readonly_paths, rootless_namespaces}
 
 -- one mapping: the container's ID 0 is this one of the host, and no other ID is mapped

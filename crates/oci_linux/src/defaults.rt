@@ -2,15 +2,15 @@
 //! Container Configuration", "Namespaces", "Masked Paths", "Readonly Paths", "Control groups").
 ghost use Rattle.std.specs.Prelude.{◌≡◌, IfOk, IfErr};
 ghost use Rattle.oci_cgroups.specs.LinuxResources.{linux_resources_plain};
-ghost use Rattle.oci_json_model.specs.Types.{list_plain, text_plain};
+ghost use Rattle.oci_model.specs.Types.{list_plain, text_plain};
 ghost use Rattle.oci_linux.specs.DefaultResources.{default_resources};
-ghost use Rattle.oci_linux_records.specs.LinuxNamespace.{linux_namespace_plain};
+ghost use Rattle.oci_linux.specs.LinuxNamespace.{linux_namespace_plain};
 ghost use Rattle.oci_linux.specs.Defaults.{default_masked_paths, default_namespaces, default_readonly_paths, new_namespace, new_namespaces, rootless_namespaces};
 
+use crate::{LinuxNamespace, LinuxNamespaceBuilder, texts_of};
+use oci_base::{OciSpecError, Result};
 use oci_cgroups::{LinuxResources, LinuxResourcesBuilder};
-use oci_linux_records::{LinuxNamespace, LinuxNamespaceBuilder, texts_of};
-use oci_runtime_names::LinuxNamespaceType;
-use oci_text_base::{OciSpecError, Result};
+use oci_text::LinuxNamespaceType;
 use std::alloc::Global;
 
 static DEFAULT: [LinuxNamespaceType; 6] = [

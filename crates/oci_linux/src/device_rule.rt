@@ -3,9 +3,9 @@ ghost use Rattle.std.specs.Prelude.{◌≡◌, IfOk, IfErr};
 ghost use Rattle.oci_cgroups.specs.LinuxDeviceCgroup.{linux_device_cgroup_plain};
 ghost use Rattle.oci_linux.specs.DeviceRule.{device_rule};
 
+use crate::LinuxDevice;
+use oci_base::{OciSpecError, Result};
 use oci_cgroups::{LinuxDeviceCgroup, LinuxDeviceCgroupBuilder};
-use oci_linux_records::LinuxDevice;
-use oci_text_base::{OciSpecError, Result};
 use std::alloc::Global;
 
 /// The rule that allows a container to read, write and make the device.

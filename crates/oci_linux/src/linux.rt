@@ -10,17 +10,17 @@ use crate::defaults::{
     get_default_maskedpaths, get_default_namespaces, get_default_readonly_paths,
     resources_without_rules,
 };
-pub use builder::LinuxBuilder;
-use oci_cgroups::LinuxResources;
-use oci_json_model::{
-    ObjectWriter, OciRecord, copy_optional, try_join4, try_join5, write_optional,
-};
-use oci_json_readers::{Optional, read4, read5};
-use oci_linux_records::{
+use crate::{
     LinuxDevice, LinuxIdMapping, LinuxIntelRdt, LinuxMemoryPolicy, LinuxNamespace, LinuxNetDevice,
     LinuxPersonality, LinuxSeccomp, LinuxTimeOffset,
 };
-use oci_text_base::{OciSpecError, Result};
+pub use builder::LinuxBuilder;
+use oci_base::{OciSpecError, Result};
+use oci_cgroups::LinuxResources;
+use oci_model::{
+    ObjectWriter, OciRecord, Optional, copy_optional, read4, read5, try_join4, try_join5,
+    write_optional,
+};
 use serde_json::Value;
 use std::alloc::Global;
 use std::collections::BTreeMap;
@@ -118,20 +118,20 @@ impl Linux {
 }
 
 impl OciRecord for Linux {
-    ghost use Rattle.oci_json_members.specs.DefaultMembers.{default_number, default_text, default_truth};
-    ghost use Rattle.oci_json_model.specs.Same.{same_document, same_more, same_last, same_perhaps, same_texts, same_lists, same_maps};
+    ghost use Rattle.oci_model.specs.DefaultMembers.{default_number, default_text, default_truth};
+    ghost use Rattle.oci_model.specs.Same.{same_document, same_more, same_last, same_perhaps, same_texts, same_lists, same_maps};
     ghost use Rattle.oci_shapes.specs.Linux.{linux};
     ghost use Rattle.oci_linux.specs.Linux.{linux_plain};
-    ghost use Rattle.oci_linux_records.specs.contracts.linux_net_device.LinuxNetDeviceOciRecord.TheImpl.Laws.{same-law as linux_net_device_same};
-    ghost use Rattle.oci_linux_records.specs.contracts.linux_id_mapping.LinuxIdMappingOciRecord.TheImpl.Laws.{same-law as linux_id_mapping_same};
+    ghost use Rattle.oci_linux.specs.contracts.linux_net_device.LinuxNetDeviceOciRecord.TheImpl.Laws.{same-law as linux_net_device_same};
+    ghost use Rattle.oci_linux.specs.contracts.linux_id_mapping.LinuxIdMappingOciRecord.TheImpl.Laws.{same-law as linux_id_mapping_same};
     ghost use Rattle.oci_cgroups.specs.contracts.linux_resources.LinuxResourcesOciRecord.TheImpl.Laws.{same-law as linux_resources_same};
-    ghost use Rattle.oci_linux_records.specs.contracts.linux_namespace.LinuxNamespaceOciRecord.TheImpl.Laws.{same-law as linux_namespace_same};
-    ghost use Rattle.oci_linux_records.specs.contracts.linux_device.LinuxDeviceOciRecord.TheImpl.Laws.{same-law as linux_device_same};
-    ghost use Rattle.oci_linux_records.specs.contracts.linux_seccomp.LinuxSeccompOciRecord.TheImpl.Laws.{same-law as linux_seccomp_same};
-    ghost use Rattle.oci_linux_records.specs.contracts.linux_intel_rdt.LinuxIntelRdtOciRecord.TheImpl.Laws.{same-law as linux_intel_rdt_same};
-    ghost use Rattle.oci_linux_records.specs.contracts.linux_memory_policy.LinuxMemoryPolicyOciRecord.TheImpl.Laws.{same-law as linux_memory_policy_same};
-    ghost use Rattle.oci_linux_records.specs.contracts.linux_personality.LinuxPersonalityOciRecord.TheImpl.Laws.{same-law as linux_personality_same};
-    ghost use Rattle.oci_linux_records.specs.contracts.linux_time_offset.LinuxTimeOffsetOciRecord.TheImpl.Laws.{same-law as linux_time_offset_same};
+    ghost use Rattle.oci_linux.specs.contracts.linux_namespace.LinuxNamespaceOciRecord.TheImpl.Laws.{same-law as linux_namespace_same};
+    ghost use Rattle.oci_linux.specs.contracts.linux_device.LinuxDeviceOciRecord.TheImpl.Laws.{same-law as linux_device_same};
+    ghost use Rattle.oci_linux.specs.contracts.linux_seccomp.LinuxSeccompOciRecord.TheImpl.Laws.{same-law as linux_seccomp_same};
+    ghost use Rattle.oci_linux.specs.contracts.linux_intel_rdt.LinuxIntelRdtOciRecord.TheImpl.Laws.{same-law as linux_intel_rdt_same};
+    ghost use Rattle.oci_linux.specs.contracts.linux_memory_policy.LinuxMemoryPolicyOciRecord.TheImpl.Laws.{same-law as linux_memory_policy_same};
+    ghost use Rattle.oci_linux.specs.contracts.linux_personality.LinuxPersonalityOciRecord.TheImpl.Laws.{same-law as linux_personality_same};
+    ghost use Rattle.oci_linux.specs.contracts.linux_time_offset.LinuxTimeOffsetOciRecord.TheImpl.Laws.{same-law as linux_time_offset_same};
 
     ghost shape = { linux };
 

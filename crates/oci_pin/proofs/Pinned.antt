@@ -1,6 +1,6 @@
 -- What the law on a replaced digest says of a reference that is the pinned one.
 use Rattle.std.proofs.Common.{◌≡◌, ◌↔◌, ℕ, List, sym, ◌∙◌, subst}
-use Rattle.oci_text_base.specs.Digest.{IsDigest}
+use Rattle.oci_base.specs.Digest.{IsDigest}
 use Rattle.oci_reference.specs.Accepted.{Accepted}
 use Rattle.oci_reference.specs.Parts.{Parts}
 use Rattle.oci_reference.specs.Replaced.{pinned, IsSupported}

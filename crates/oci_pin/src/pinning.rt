@@ -1,14 +1,14 @@
 //! Pinning: what a tag may come to mean otherwise is named by its digest (image specification, "Content Descriptors").
 ghost use Rattle.std.specs.Prelude.{◌≡◌, ◌↔◌, ℕ, List, Some, None, IfOk, IfErr};
-ghost use Rattle.oci_text_base.specs.Digest.{IsDigest};
+ghost use Rattle.oci_base.specs.Digest.{IsDigest};
 ghost use Rattle.oci_reference.specs.Accepted.{Accepted};
 ghost use Rattle.oci_reference.specs.Parts.{Parts};
 ghost use Rattle.oci_reference.specs.Replaced.{IsSupported};
 ghost use Rattle.oci_reference.specs.Whole.{whole};
 
-use oci_image_descriptor::Descriptor;
+use oci_base::{OciSpecError, Result};
+use oci_descriptor::Descriptor;
 use oci_reference::Reference;
-use oci_text_base::{OciSpecError, Result};
 use std::alloc::Global;
 
 /// Returns the reference with the digest of a descriptor's content in place of its tag and digest, and with the same registry,

@@ -17,7 +17,7 @@ pub mod WindowsResources
 pub mod WindowsStorageResources
 pub mod ZOS
 pub mod ZOSNamespace
-pub use Rattle.oci_json_model.specs.Types
-pub use Rattle.oci_runtime_names.specs.ZOSNamespaceType
-pub use Rattle.oci_text_base.specs.Names
-pub use Rattle.oci_text_base.specs.Refused
+pub use Rattle.oci_model.specs.Types
+pub use Rattle.oci_text.specs.ZOSNamespaceType
+pub use Rattle.oci_base.specs.Names
+pub use Rattle.oci_base.specs.Refused

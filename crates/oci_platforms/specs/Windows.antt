@@ -4,11 +4,11 @@ use Rattle.std.specs.Prelude.{[], ◌∷◌, ◌&&◌, Bool, bytes_eq, string_by
 use Rattle.std.specs.Bool.{beq}
 use Rattle.std.specs.Cmp.Lexicographic.{pointwise}
 use Rattle.std.specs.Option.{option_eq}
-use Rattle.oci_json_model.specs.Plain.{Plain, document, slots, empty}
-use Rattle.oci_json_model.specs.Types.{perhaps, text_plain, truth_plain, list_plain}
-use Rattle.oci_json_model.specs.Same.{Agrees, same_document, same_more, same_last, same_perhaps, same_texts, same_lists, same_truths}
-use Rattle.oci_json_readers.specs.FreeValues.{free_values_plain, free_eq}
-use Rattle.oci_json_readers.specs.SameFree.{same_free}
+use Rattle.oci_model.specs.Plain.{Plain, document, slots, empty}
+use Rattle.oci_model.specs.Types.{perhaps, text_plain, truth_plain, list_plain}
+use Rattle.oci_model.specs.Same.{Agrees, same_document, same_more, same_last, same_perhaps, same_texts, same_lists, same_truths}
+use Rattle.oci_model.specs.FreeValues.{free_values_plain, free_eq}
+use Rattle.oci_model.specs.SameFree.{same_free}
 use Rattle.oci_platforms.specs.WindowsDevice.{windows_device_plain}
 use Rattle.oci_platforms.specs.contracts.windows_device.WindowsDevicePartialEq.TheImpl as windows_device
 use Rattle.oci_platforms.specs.contracts.windows_device.WindowsDeviceOciRecord.TheImpl.Laws.{same-law as windows_device_same}

@@ -20,7 +20,7 @@ pub mod windows_storage_resources;
 pub mod zos;
 pub mod zos_namespace;
 
-pub use oci_runtime_names::ZOSNamespaceType;
+pub use oci_text::ZOSNamespaceType;
 pub use solaris::{Solaris, SolarisBuilder};
 pub use solaris_anet::{SolarisAnet, SolarisAnetBuilder};
 pub use solaris_capped_cpu::{SolarisCappedCPU, SolarisCappedCPUBuilder};

@@ -5,11 +5,10 @@ ghost use Rattle.std.specs.Prelude.{◌≡◌, IfOk, IfErr};
 use crate::solaris_anet::SolarisAnet;
 use crate::solaris_capped_cpu::SolarisCappedCPU;
 use crate::solaris_capped_memory::SolarisCappedMemory;
-use oci_json_model::{
-    ObjectWriter, OciRecord, copy_optional, try_join2, try_join3, write_optional,
+use oci_base::{OciSpecError, Result};
+use oci_model::{
+    ObjectWriter, OciRecord, Optional, copy_optional, read3, try_join2, try_join3, write_optional,
 };
-use oci_json_readers::{Optional, read3};
-use oci_text_base::{OciSpecError, Result};
 use serde_json::Value;
 use std::alloc::Global;
 
@@ -163,7 +162,7 @@ impl Solaris {
 }
 
 impl OciRecord for Solaris {
-    ghost use Rattle.oci_json_model.specs.Same.{same_document, same_more, same_last, same_perhaps, same_texts, same_lists};
+    ghost use Rattle.oci_model.specs.Same.{same_document, same_more, same_last, same_perhaps, same_texts, same_lists};
     ghost use Rattle.oci_shapes.specs.Solaris.{solaris};
     ghost use Rattle.oci_platforms.specs.Solaris.{solaris_plain};
     ghost use Rattle.oci_platforms.specs.contracts.solaris_anet.SolarisAnetOciRecord.TheImpl.Laws.{same-law as solaris_anet_same};

@@ -2,11 +2,11 @@
 //! A network interface that is made for a Solaris container (runtime specification, "Solaris Application Container Configuration", "Automatic Network (anet)").
 ghost use Rattle.std.specs.Prelude.{◌≡◌, IfOk, IfErr};
 
-use oci_json_model::{
-    ObjectWriter, OciRecord, copy_optional, try_join2, try_join3, try_join4, write_optional,
+use oci_base::{OciSpecError, Result};
+use oci_model::{
+    ObjectWriter, OciRecord, Optional, copy_optional, read3, read4, try_join2, try_join3,
+    try_join4, write_optional,
 };
-use oci_json_readers::{Optional, read3, read4};
-use oci_text_base::{OciSpecError, Result};
 use serde_json::Value;
 use std::alloc::Global;
 
@@ -183,7 +183,7 @@ impl SolarisAnet {
 }
 
 impl OciRecord for SolarisAnet {
-    ghost use Rattle.oci_json_model.specs.Same.{same_document, same_more, same_last, same_perhaps, same_texts};
+    ghost use Rattle.oci_model.specs.Same.{same_document, same_more, same_last, same_perhaps, same_texts};
     ghost use Rattle.oci_shapes.specs.SolarisAnet.{solaris_anet};
     ghost use Rattle.oci_platforms.specs.SolarisAnet.{solaris_anet_plain};
 

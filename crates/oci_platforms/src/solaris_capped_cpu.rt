@@ -2,9 +2,8 @@
 //! How much processor time a Solaris container may use (runtime specification, "Solaris Application Container Configuration", "CappedCPU").
 ghost use Rattle.std.specs.Prelude.{◌≡◌, IfOk, IfErr};
 
-use oci_json_model::{ObjectWriter, OciRecord, copy_optional, write_optional};
-use oci_json_readers::{Optional, read1};
-use oci_text_base::{OciSpecError, Result};
+use oci_base::{OciSpecError, Result};
+use oci_model::{ObjectWriter, OciRecord, Optional, copy_optional, read1, write_optional};
 use serde_json::Value;
 use std::alloc::Global;
 
@@ -59,7 +58,7 @@ impl SolarisCappedCPU {
 }
 
 impl OciRecord for SolarisCappedCPU {
-    ghost use Rattle.oci_json_model.specs.Same.{same_document, same_last, same_perhaps, same_texts};
+    ghost use Rattle.oci_model.specs.Same.{same_document, same_last, same_perhaps, same_texts};
     ghost use Rattle.oci_shapes.specs.SolarisCappedCPU.{solaris_capped_cpu};
     ghost use Rattle.oci_platforms.specs.SolarisCappedCPU.{solaris_capped_cpu_plain};
 

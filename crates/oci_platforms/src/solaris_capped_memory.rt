@@ -2,9 +2,10 @@
 //! How much memory a Solaris container may use (runtime specification, "Solaris Application Container Configuration", "CappedMemory").
 ghost use Rattle.std.specs.Prelude.{◌≡◌, IfOk, IfErr};
 
-use oci_json_model::{ObjectWriter, OciRecord, copy_optional, try_join2, write_optional};
-use oci_json_readers::{Optional, read2};
-use oci_text_base::{OciSpecError, Result};
+use oci_base::{OciSpecError, Result};
+use oci_model::{
+    ObjectWriter, OciRecord, Optional, copy_optional, read2, try_join2, write_optional,
+};
 use serde_json::Value;
 use std::alloc::Global;
 
@@ -79,7 +80,7 @@ impl SolarisCappedMemory {
 }
 
 impl OciRecord for SolarisCappedMemory {
-    ghost use Rattle.oci_json_model.specs.Same.{same_document, same_more, same_last, same_perhaps, same_texts};
+    ghost use Rattle.oci_model.specs.Same.{same_document, same_more, same_last, same_perhaps, same_texts};
     ghost use Rattle.oci_shapes.specs.SolarisCappedMemory.{solaris_capped_memory};
     ghost use Rattle.oci_platforms.specs.SolarisCappedMemory.{solaris_capped_memory_plain};
 

@@ -5,11 +5,11 @@ ghost use Rattle.std.specs.Prelude.{◌≡◌, IfOk, IfErr};
 use crate::vm_hypervisor::VMHypervisor;
 use crate::vm_image::VMImage;
 use crate::vm_kernel::VMKernel;
-use oci_json_model::{
-    ObjectWriter, OciMember, OciRecord, copy_optional, try_join3, write_optional, write_required,
+use oci_base::{OciSpecError, Result};
+use oci_model::{
+    ObjectWriter, OciMember, OciRecord, Optional, Required, copy_optional, read3, try_join3,
+    write_optional, write_required,
 };
-use oci_json_readers::{Optional, Required, read3};
-use oci_text_base::{OciSpecError, Result};
 use serde_json::Value;
 use std::alloc::Global;
 
@@ -106,7 +106,7 @@ impl VM {
 }
 
 impl OciRecord for VM {
-    ghost use Rattle.oci_json_model.specs.Same.{same_document, same_more, same_last, same_given, same_perhaps};
+    ghost use Rattle.oci_model.specs.Same.{same_document, same_more, same_last, same_given, same_perhaps};
     ghost use Rattle.oci_shapes.specs.VM.{vm};
     ghost use Rattle.oci_platforms.specs.VM.{vm_plain};
     ghost use Rattle.oci_platforms.specs.contracts.vm_hypervisor.VMHypervisorOciRecord.TheImpl.Laws.{same-law as vm_hypervisor_same};

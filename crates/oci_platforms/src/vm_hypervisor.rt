@@ -2,11 +2,11 @@
 //! The hypervisor of a virtual machine (runtime specification, "Virtual-machine-specific Container Configuration", "Hypervisor Object").
 ghost use Rattle.std.specs.Prelude.{◌≡◌, IfOk, IfErr};
 
-use oci_json_model::{
-    ObjectWriter, OciMember, OciRecord, copy_optional, try_join2, write_optional, write_required,
+use oci_base::{OciSpecError, Result};
+use oci_model::{
+    ObjectWriter, OciMember, OciRecord, Optional, Required, copy_optional, read2, try_join2,
+    write_optional, write_required,
 };
-use oci_json_readers::{Optional, Required, read2};
-use oci_text_base::{OciSpecError, Result};
 use serde_json::Value;
 use std::alloc::Global;
 
@@ -81,7 +81,7 @@ impl VMHypervisor {
 }
 
 impl OciRecord for VMHypervisor {
-    ghost use Rattle.oci_json_model.specs.Same.{same_document, same_more, same_last, same_given, same_perhaps, same_texts, same_lists};
+    ghost use Rattle.oci_model.specs.Same.{same_document, same_more, same_last, same_given, same_perhaps, same_texts, same_lists};
     ghost use Rattle.oci_shapes.specs.VMHypervisor.{vm_hypervisor};
     ghost use Rattle.oci_platforms.specs.VMHypervisor.{vm_hypervisor_plain};
 
@@ -131,8 +131,8 @@ pub struct VMHypervisorBuilder {
 
 impl VMHypervisorBuilder {
     ghost use Rattle.std.specs.Prelude.{Some, unwrap_or, option_map, []};
-    ghost use Rattle.oci_json_model.specs.Plain as plain;
-    ghost use Rattle.oci_json_model.specs.Types.{text_plain};
+    ghost use Rattle.oci_model.specs.Plain as plain;
+    ghost use Rattle.oci_model.specs.Types.{text_plain};
 
     /// Sets `path`: the path of the hypervisor on the host. REQUIRED; it MUST be absolute, which is not checked here.
     pub fn path(mut self, path: String) -> Self

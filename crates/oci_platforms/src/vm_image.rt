@@ -2,9 +2,8 @@
 //! The image that a virtual machine's root is in (runtime specification, "Virtual-machine-specific Container Configuration", "Image Object").
 ghost use Rattle.std.specs.Prelude.{◌≡◌, IfOk, IfErr};
 
-use oci_json_model::{ObjectWriter, OciMember, OciRecord, try_join2, write_required};
-use oci_json_readers::{Required, read2};
-use oci_text_base::{OciSpecError, Result};
+use oci_base::{OciSpecError, Result};
+use oci_model::{ObjectWriter, OciMember, OciRecord, Required, read2, try_join2, write_required};
 use serde_json::Value;
 use std::alloc::Global;
 
@@ -80,7 +79,7 @@ impl VMImage {
 }
 
 impl OciRecord for VMImage {
-    ghost use Rattle.oci_json_model.specs.Same.{same_document, same_more, same_last, same_given, same_texts};
+    ghost use Rattle.oci_model.specs.Same.{same_document, same_more, same_last, same_given, same_texts};
     ghost use Rattle.oci_shapes.specs.VMImage.{vm_image};
     ghost use Rattle.oci_platforms.specs.VMImage.{vm_image_plain};
 
@@ -123,8 +122,8 @@ pub struct VMImageBuilder {
 
 impl VMImageBuilder {
     ghost use Rattle.std.specs.Prelude.{Some, unwrap_or, option_map, []};
-    ghost use Rattle.oci_json_model.specs.Plain as plain;
-    ghost use Rattle.oci_json_model.specs.Types.{text_plain};
+    ghost use Rattle.oci_model.specs.Plain as plain;
+    ghost use Rattle.oci_model.specs.Types.{text_plain};
 
     /// Sets `path`: the path of the image on the host. REQUIRED; it MUST be absolute, which is not checked here.
     pub fn path(mut self, path: String) -> Self

@@ -2,11 +2,11 @@
 //! The kernel of a virtual machine (runtime specification, "Virtual-machine-specific Container Configuration", "Kernel Object").
 ghost use Rattle.std.specs.Prelude.{◌≡◌, IfOk, IfErr};
 
-use oci_json_model::{
-    ObjectWriter, OciMember, OciRecord, copy_optional, try_join3, write_optional, write_required,
+use oci_base::{OciSpecError, Result};
+use oci_model::{
+    ObjectWriter, OciMember, OciRecord, Optional, Required, copy_optional, read3, try_join3,
+    write_optional, write_required,
 };
-use oci_json_readers::{Optional, Required, read3};
-use oci_text_base::{OciSpecError, Result};
 use serde_json::Value;
 use std::alloc::Global;
 
@@ -103,7 +103,7 @@ impl VMKernel {
 }
 
 impl OciRecord for VMKernel {
-    ghost use Rattle.oci_json_model.specs.Same.{same_document, same_more, same_last, same_given, same_perhaps, same_texts, same_lists};
+    ghost use Rattle.oci_model.specs.Same.{same_document, same_more, same_last, same_given, same_perhaps, same_texts, same_lists};
     ghost use Rattle.oci_shapes.specs.VMKernel.{vm_kernel};
     ghost use Rattle.oci_platforms.specs.VMKernel.{vm_kernel_plain};
 
@@ -166,8 +166,8 @@ pub struct VMKernelBuilder {
 
 impl VMKernelBuilder {
     ghost use Rattle.std.specs.Prelude.{Some, unwrap_or, option_map, []};
-    ghost use Rattle.oci_json_model.specs.Plain as plain;
-    ghost use Rattle.oci_json_model.specs.Types.{text_plain};
+    ghost use Rattle.oci_model.specs.Plain as plain;
+    ghost use Rattle.oci_model.specs.Types.{text_plain};
 
     /// Sets `path`: the path of the kernel on the host. REQUIRED; it MUST be absolute, which is not checked here.
     pub fn path(mut self, path: String) -> Self

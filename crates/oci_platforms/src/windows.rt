@@ -6,12 +6,11 @@ use crate::windows_device::WindowsDevice;
 use crate::windows_hyper_v::WindowsHyperV;
 use crate::windows_network::WindowsNetwork;
 use crate::windows_resources::WindowsResources;
-use oci_json_members::{copy_optional_as, write_optional_as};
-use oci_json_model::{
-    ObjectWriter, OciRecord, copy_optional, try_join2, try_join5, write_optional,
+use oci_base::{OciSpecError, Result};
+use oci_model::{
+    As, FreeValues, ObjectWriter, OciRecord, Optional, copy_optional, copy_optional_as,
+    equal_optional_values, read4, try_join2, try_join5, write_optional, write_optional_as,
 };
-use oci_json_readers::{As, FreeValues, Optional, equal_optional_values, read4};
-use oci_text_base::{OciSpecError, Result};
 use serde_json::Value;
 use std::alloc::Global;
 use std::collections::BTreeMap;
@@ -33,7 +32,7 @@ pub struct Windows {
 
 impl PartialEq for Windows {
     ghost use Rattle.std.specs.Cmp.{partial_equiv_from_equiv};
-    ghost use Rattle.oci_json_readers.specs.SameFree.{agrees_equiv};
+    ghost use Rattle.oci_model.specs.SameFree.{agrees_equiv};
     ghost use Rattle.oci_platforms.specs.Windows.{windows_eq, windows_same};
 
     ghost eq = { windows_eq };
@@ -55,7 +54,7 @@ impl PartialEq for Windows {
 }
 
 impl Eq for Windows {
-    ghost use Rattle.oci_json_readers.specs.SameFree.{agrees_equiv};
+    ghost use Rattle.oci_model.specs.SameFree.{agrees_equiv};
     ghost use Rattle.oci_platforms.specs.Windows.{windows_same};
 
     ghost laws = { agrees_equiv windows_same };

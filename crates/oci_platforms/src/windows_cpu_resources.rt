@@ -2,9 +2,8 @@
 //! How much processor time a Windows container may use (runtime specification, "Windows-specific Container Configuration", "CPU").
 ghost use Rattle.std.specs.Prelude.{◌≡◌, IfOk, IfErr};
 
-use oci_json_model::{ObjectWriter, OciRecord, write_optional};
-use oci_json_readers::{Optional, read3};
-use oci_text_base::{OciSpecError, Result};
+use oci_base::{OciSpecError, Result};
+use oci_model::{ObjectWriter, OciRecord, Optional, read3, write_optional};
 use serde_json::Value;
 use std::alloc::Global;
 
@@ -91,7 +90,7 @@ impl WindowsCPUResources {
 }
 
 impl OciRecord for WindowsCPUResources {
-    ghost use Rattle.oci_json_model.specs.Same.{same_document, same_more, same_last, same_perhaps, same_numbers};
+    ghost use Rattle.oci_model.specs.Same.{same_document, same_more, same_last, same_perhaps, same_numbers};
     ghost use Rattle.oci_shapes.specs.WindowsCPUResources.{windows_cpu_resources};
     ghost use Rattle.oci_platforms.specs.WindowsCPUResources.{windows_cpu_resources_plain};
 

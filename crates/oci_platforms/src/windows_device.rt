@@ -2,9 +2,8 @@
 //! A device of the host that a Windows container has (runtime specification, "Windows-specific Container Configuration", "Devices").
 ghost use Rattle.std.specs.Prelude.{◌≡◌, IfOk, IfErr};
 
-use oci_json_model::{ObjectWriter, OciMember, OciRecord, try_join2, write_required};
-use oci_json_readers::{Required, read2};
-use oci_text_base::{OciSpecError, Result};
+use oci_base::{OciSpecError, Result};
+use oci_model::{ObjectWriter, OciMember, OciRecord, Required, read2, try_join2, write_required};
 use serde_json::Value;
 use std::alloc::Global;
 
@@ -79,7 +78,7 @@ impl WindowsDevice {
 }
 
 impl OciRecord for WindowsDevice {
-    ghost use Rattle.oci_json_model.specs.Same.{same_document, same_more, same_last, same_given, same_texts};
+    ghost use Rattle.oci_model.specs.Same.{same_document, same_more, same_last, same_given, same_texts};
     ghost use Rattle.oci_shapes.specs.WindowsDevice.{windows_device};
     ghost use Rattle.oci_platforms.specs.WindowsDevice.{windows_device_plain};
 
@@ -120,8 +119,8 @@ pub struct WindowsDeviceBuilder {
 
 impl WindowsDeviceBuilder {
     ghost use Rattle.std.specs.Prelude.{Some, unwrap_or, option_map, []};
-    ghost use Rattle.oci_json_model.specs.Plain as plain;
-    ghost use Rattle.oci_json_model.specs.Types.{text_plain};
+    ghost use Rattle.oci_model.specs.Plain as plain;
+    ghost use Rattle.oci_model.specs.Types.{text_plain};
 
     /// Sets `id`: which device it is: for the type `class` the GUID of its interface class. REQUIRED; the form is not checked here.
     pub fn id(mut self, id: String) -> Self

@@ -2,9 +2,8 @@
 //! What a Windows container that Hyper-V keeps apart has (runtime specification, "Windows-specific Container Configuration", "HyperV").
 ghost use Rattle.std.specs.Prelude.{◌≡◌, IfOk, IfErr};
 
-use oci_json_model::{ObjectWriter, OciRecord, copy_optional, write_optional};
-use oci_json_readers::{Optional, read1};
-use oci_text_base::{OciSpecError, Result};
+use oci_base::{OciSpecError, Result};
+use oci_model::{ObjectWriter, OciRecord, Optional, copy_optional, read1, write_optional};
 use serde_json::Value;
 use std::alloc::Global;
 
@@ -61,7 +60,7 @@ impl WindowsHyperV {
 }
 
 impl OciRecord for WindowsHyperV {
-    ghost use Rattle.oci_json_model.specs.Same.{same_document, same_last, same_perhaps, same_texts};
+    ghost use Rattle.oci_model.specs.Same.{same_document, same_last, same_perhaps, same_texts};
     ghost use Rattle.oci_shapes.specs.WindowsHyperV.{windows_hyper_v};
     ghost use Rattle.oci_platforms.specs.WindowsHyperV.{windows_hyper_v_plain};
 

@@ -2,9 +2,8 @@
 //! How much memory a Windows container may use (runtime specification, "Windows-specific Container Configuration", "Memory").
 ghost use Rattle.std.specs.Prelude.{◌≡◌, IfOk, IfErr};
 
-use oci_json_model::{ObjectWriter, OciRecord, write_optional};
-use oci_json_readers::{Optional, read1};
-use oci_text_base::{OciSpecError, Result};
+use oci_base::{OciSpecError, Result};
+use oci_model::{ObjectWriter, OciRecord, Optional, read1, write_optional};
 use serde_json::Value;
 use std::alloc::Global;
 
@@ -53,7 +52,7 @@ impl WindowsMemoryResources {
 }
 
 impl OciRecord for WindowsMemoryResources {
-    ghost use Rattle.oci_json_model.specs.Same.{same_document, same_last, same_perhaps, same_numbers};
+    ghost use Rattle.oci_model.specs.Same.{same_document, same_last, same_perhaps, same_numbers};
     ghost use Rattle.oci_shapes.specs.WindowsMemoryResources.{windows_memory_resources};
     ghost use Rattle.oci_platforms.specs.WindowsMemoryResources.{windows_memory_resources_plain};
 

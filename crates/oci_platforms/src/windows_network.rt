@@ -2,9 +2,10 @@
 //! The network of a Windows container (runtime specification, "Windows-specific Container Configuration", "Network").
 ghost use Rattle.std.specs.Prelude.{◌≡◌, IfOk, IfErr};
 
-use oci_json_model::{ObjectWriter, OciRecord, copy_optional, try_join4, write_optional};
-use oci_json_readers::{Optional, read5};
-use oci_text_base::{OciSpecError, Result};
+use oci_base::{OciSpecError, Result};
+use oci_model::{
+    ObjectWriter, OciRecord, Optional, copy_optional, read5, try_join4, write_optional,
+};
 use serde_json::Value;
 use std::alloc::Global;
 
@@ -145,7 +146,7 @@ impl WindowsNetwork {
 }
 
 impl OciRecord for WindowsNetwork {
-    ghost use Rattle.oci_json_model.specs.Same.{same_document, same_more, same_last, same_perhaps, same_texts, same_lists, same_truths};
+    ghost use Rattle.oci_model.specs.Same.{same_document, same_more, same_last, same_perhaps, same_texts, same_lists, same_truths};
     ghost use Rattle.oci_shapes.specs.WindowsNetwork.{windows_network};
     ghost use Rattle.oci_platforms.specs.WindowsNetwork.{windows_network_plain};
 

@@ -5,9 +5,8 @@ ghost use Rattle.std.specs.Prelude.{◌≡◌, IfOk, IfErr};
 use crate::windows_cpu_resources::WindowsCPUResources;
 use crate::windows_memory_resources::WindowsMemoryResources;
 use crate::windows_storage_resources::WindowsStorageResources;
-use oci_json_model::{ObjectWriter, OciRecord, write_optional};
-use oci_json_readers::{Optional, read3};
-use oci_text_base::{OciSpecError, Result};
+use oci_base::{OciSpecError, Result};
+use oci_model::{ObjectWriter, OciRecord, Optional, read3, write_optional};
 use serde_json::Value;
 use std::alloc::Global;
 
@@ -94,7 +93,7 @@ impl WindowsResources {
 }
 
 impl OciRecord for WindowsResources {
-    ghost use Rattle.oci_json_model.specs.Same.{same_document, same_more, same_last, same_perhaps};
+    ghost use Rattle.oci_model.specs.Same.{same_document, same_more, same_last, same_perhaps};
     ghost use Rattle.oci_shapes.specs.WindowsResources.{windows_resources};
     ghost use Rattle.oci_platforms.specs.WindowsResources.{windows_resources_plain};
     ghost use Rattle.oci_platforms.specs.contracts.windows_memory_resources.WindowsMemoryResourcesOciRecord.TheImpl.Laws.{same-law as windows_memory_resources_same};

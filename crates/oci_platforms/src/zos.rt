@@ -3,9 +3,8 @@
 ghost use Rattle.std.specs.Prelude.{◌≡◌, IfOk, IfErr};
 
 use crate::zos_namespace::ZOSNamespace;
-use oci_json_model::{ObjectWriter, OciRecord, copy_optional, write_optional};
-use oci_json_readers::{Optional, read1};
-use oci_text_base::{OciSpecError, Result};
+use oci_base::{OciSpecError, Result};
+use oci_model::{ObjectWriter, OciRecord, Optional, copy_optional, read1, write_optional};
 use serde_json::Value;
 use std::alloc::Global;
 
@@ -60,7 +59,7 @@ impl ZOS {
 }
 
 impl OciRecord for ZOS {
-    ghost use Rattle.oci_json_model.specs.Same.{same_document, same_last, same_perhaps, same_lists};
+    ghost use Rattle.oci_model.specs.Same.{same_document, same_last, same_perhaps, same_lists};
     ghost use Rattle.oci_shapes.specs.ZOS.{zos};
     ghost use Rattle.oci_platforms.specs.ZOS.{zos_plain};
     ghost use Rattle.oci_platforms.specs.contracts.zos_namespace.ZOSNamespaceOciRecord.TheImpl.Laws.{same-law as zos_namespace_same};

@@ -2,10 +2,12 @@
 //! A namespace that a z/OS container has of its own or joins (runtime specification, `config-zos.md`, "Namespaces").
 ghost use Rattle.std.specs.Prelude.{◌≡◌, IfOk, IfErr};
 
-use oci_json_model::{ObjectWriter, OciRecord, copy_optional, write_optional, write_required};
-use oci_json_readers::{Optional, Required, read2};
-use oci_runtime_names::ZOSNamespaceType;
-use oci_text_base::{OciSpecError, Result};
+use oci_base::{OciSpecError, Result};
+use oci_model::{
+    ObjectWriter, OciRecord, Optional, Required, copy_optional, read2, write_optional,
+    write_required,
+};
+use oci_text::ZOSNamespaceType;
 use serde_json::Value;
 use std::alloc::Global;
 
@@ -80,8 +82,8 @@ impl ZOSNamespace {
 }
 
 impl OciRecord for ZOSNamespace {
-    ghost use Rattle.oci_runtime_names.specs.ZOSNamespaceType.{zos_namespace_type_same};
-    ghost use Rattle.oci_json_model.specs.Same.{same_document, same_more, same_last, same_given, same_perhaps, same_texts, same_variants};
+    ghost use Rattle.oci_text.specs.ZOSNamespaceType.{zos_namespace_type_same};
+    ghost use Rattle.oci_model.specs.Same.{same_document, same_more, same_last, same_given, same_perhaps, same_texts, same_variants};
     ghost use Rattle.oci_shapes.specs.ZOSNamespace.{zos_namespace};
     ghost use Rattle.oci_platforms.specs.ZOSNamespace.{zos_namespace_plain};
 
@@ -124,9 +126,9 @@ pub struct ZOSNamespaceBuilder {
 
 impl ZOSNamespaceBuilder {
     ghost use Rattle.std.specs.Prelude.{Some, unwrap_or, option_map};
-    ghost use Rattle.oci_json_model.specs.Plain as plain;
-    ghost use Rattle.oci_json_model.specs.Types.{variant_plain};
-    ghost use Rattle.oci_runtime_names.specs.ZOSNamespaceType.{zos_namespace_type_name, zos_namespace_type_default};
+    ghost use Rattle.oci_model.specs.Plain as plain;
+    ghost use Rattle.oci_model.specs.Types.{variant_plain};
+    ghost use Rattle.oci_text.specs.ZOSNamespaceType.{zos_namespace_type_name, zos_namespace_type_default};
 
     /// Sets `typ`: the kind of namespace.
     pub fn typ(mut self, typ: ZOSNamespaceType) -> Self

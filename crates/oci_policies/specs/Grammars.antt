@@ -1,8 +1,8 @@
 -- The grammars by the names that policies give them (`format`).
 use Rattle.std.specs.Prelude.{ℕ, List, [], ◌∷◌, codes, bytes_eq, Option, Some, None, option_and_then, if◌then◌else◌}
 use Rattle.toml.specs.Data.{Data, as_str}
-use Rattle.oci_rule_texts.specs.declared.grammar.Grammar.{Grammar}
-use Rattle.oci_rule_texts.specs.declared.grammar.Grammar.TheVariants as grammar
+use Rattle.oci_grammars.specs.declared.grammar.Grammar.{Grammar}
+use Rattle.oci_grammars.specs.declared.grammar.Grammar.TheVariants as grammar
 
 abbrev pub grammars : List (List ℕ × Grammar)
 grammars =

@@ -1,8 +1,7 @@
 -- What values of a TOML document hold, each as what it has to be, or nothing.
-use Rattle.std.specs.Prelude.{ℕ, ℤ, pos, int_le, List, [], ◌∷◌, ◌++◌, Bool, true, false, Option, Some, None, option_and_then, if◌then◌else◌, ◌≡◌}
-use Rattle.std.specs.Prelude.{unsigned_abs, MatchResult, Result}
+use Rattle.std.specs.Prelude.{ℕ, ℤ, pos, int_le, List, [], ◌∷◌, ◌++◌, Bool, true, false, Option, Some, None, option_and_then, if◌then◌else◌, ◌≡◌, unsigned_abs, MatchResult, Result}
 use Rattle.toml.specs.Data.{Data, Items, no_items, item, Members, no_members, member, as_str, as_bool, as_integer, as_array, as_table, get_member}
-use Rattle.oci_text_base.specs.Names.{is_listed}
+use Rattle.oci_base.specs.Names.{is_listed}
 use Rattle.oci_policies.specs.declared.error.Fault.{Fault}
 use Rattle.oci_policies.specs.declared.error.Fault.TheVariants.{Memory}
 

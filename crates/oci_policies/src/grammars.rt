@@ -6,7 +6,7 @@ ghost use Rattle.toml.specs.View.{view};
 
 use crate::error::{Fault, expected};
 use crate::values::text;
-use oci_rule_texts::Grammar;
+use oci_grammars::Grammar;
 use toml::Value;
 
 static GRAMMARS: [(&str, Grammar); 39] = [

@@ -1,6 +1,6 @@
 //! Values of a TOML document.
 ghost use Rattle.std.specs.Prelude.{◌≡◌, true, false, option_map, IfErr, OnOk};
-ghost use Rattle.oci_text_base.specs.Names.{is_listed};
+ghost use Rattle.oci_base.specs.Names.{is_listed};
 ghost use Rattle.oci_rules.specs.Tables.{texts_of};
 ghost use Rattle.oci_policies.specs.declared.error.Fault.TheVariants.{Memory};
 ghost use Rattle.oci_policies.specs.Values as values;

@@ -3,10 +3,10 @@
 use Rattle.std.specs.Prelude.{[], ◌∷◌, false, true, Option, String, Vec}
 use Rattle.std.specs.Borrow.{Lends, MutBor, Fml}
 use Rattle.std.specs.declared.alloc.Global.{Global}
-use Rattle.oci_json_model.specs.Plain as plain
-use Rattle.oci_json_model.specs.Plain.{Plain, document, slots, empty, filled}
-use Rattle.oci_json_model.specs.Types.{given, perhaps, text_plain, truth_plain, integer_plain, list_plain}
-use Rattle.oci_json_model.specs.Lent.{text_row, option_row, list_row}
+use Rattle.oci_model.specs.Plain as plain
+use Rattle.oci_model.specs.Plain.{Plain, document, slots, empty, filled}
+use Rattle.oci_model.specs.Types.{given, perhaps, text_plain, truth_plain, integer_plain, list_plain}
+use Rattle.oci_model.specs.Lent.{text_row, option_row, list_row}
 use Rattle.oci_process.specs.Box.{console_box_plain}
 use Rattle.oci_process.specs.User.{user_plain, default_user}
 use Rattle.oci_process.specs.declared.user.User.{User}

@@ -1,8 +1,8 @@
 -- What a default process has (runtime specification, "Configuration", "Process", "POSIX process").
 use Rattle.std.specs.Prelude.{[], ◌∷◌, codes, pos}
-use Rattle.oci_json_model.specs.Plain.{Plain, document, filled, list, plains, slots, text, variant, whole}
-use Rattle.oci_runtime_names.specs.PosixRlimitType.{posix_rlimit_type_name}
-use Rattle.oci_runtime_names.specs.declared.posix_rlimit_type.PosixRlimitType.TheVariants.{RlimitNofile}
+use Rattle.oci_model.specs.Plain.{Plain, document, filled, list, plains, slots, text, variant, whole}
+use Rattle.oci_text.specs.PosixRlimitType.{posix_rlimit_type_name}
+use Rattle.oci_text.specs.declared.posix_rlimit_type.PosixRlimitType.TheVariants.{RlimitNofile}
 
 -- a shell
 abbrev pub default_args : Plain

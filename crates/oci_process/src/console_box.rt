@@ -2,9 +2,8 @@
 //! The size of a process's terminal (runtime specification, "Configuration", "Process", `consoleSize`).
 ghost use Rattle.std.specs.Prelude.{◌≡◌, IfOk, IfErr};
 
-use oci_json_model::{ObjectWriter, OciRecord, write_required};
-use oci_json_readers::{Defaulted, read2};
-use oci_text_base::{OciSpecError, Result};
+use oci_base::{OciSpecError, Result};
+use oci_model::{Defaulted, ObjectWriter, OciRecord, read2, write_required};
 use serde_json::Value;
 use std::alloc::Global;
 
@@ -55,8 +54,8 @@ impl Box {
 }
 
 impl OciRecord for Box {
-    ghost use Rattle.oci_json_members.specs.DefaultMembers.{default_number};
-    ghost use Rattle.oci_json_model.specs.Same.{same_document, same_more, same_last, same_given, same_numbers};
+    ghost use Rattle.oci_model.specs.DefaultMembers.{default_number};
+    ghost use Rattle.oci_model.specs.Same.{same_document, same_more, same_last, same_given, same_numbers};
     ghost use Rattle.oci_shapes.specs.Box.{console_box};
     ghost use Rattle.oci_process.specs.Box.{console_box_plain};
 
@@ -98,8 +97,8 @@ pub struct BoxBuilder {
 
 impl BoxBuilder {
     ghost use Rattle.std.specs.Prelude.{Some, unwrap_or, option_map, pos};
-    ghost use Rattle.oci_json_model.specs.Plain as plain;
-    ghost use Rattle.oci_json_model.specs.Types.{number_plain};
+    ghost use Rattle.oci_model.specs.Plain as plain;
+    ghost use Rattle.oci_model.specs.Types.{number_plain};
 
     /// Sets `height`: the height in characters. REQUIRED; absent, it is read as 0.
     pub fn height(mut self, height: u64) -> Self

@@ -4,11 +4,11 @@ ghost use Rattle.std.specs.Prelude.{◌≡◌, IfOk, IfErr};
 
 mod build;
 
-use oci_json_members::{copy_optional_as, write_optional_as};
-use oci_json_model::{ObjectWriter, OciRecord, try_join2};
-use oci_json_readers::{As, read2};
-use oci_runtime_names::CpuTexts;
-use oci_text_base::{OciSpecError, Result};
+use oci_base::{OciSpecError, Result};
+use oci_model::{
+    As, ObjectWriter, OciRecord, copy_optional_as, read2, try_join2, write_optional_as,
+};
+use oci_text::CpuTexts;
 use serde_json::Value;
 use std::alloc::Global;
 
@@ -89,7 +89,7 @@ impl ExecCPUAffinity {
 }
 
 impl OciRecord for ExecCPUAffinity {
-    ghost use Rattle.oci_json_model.specs.Same.{same_document, same_more, same_last, same_perhaps, same_texts};
+    ghost use Rattle.oci_model.specs.Same.{same_document, same_more, same_last, same_perhaps, same_texts};
     ghost use Rattle.oci_shapes.specs.ExecCPUAffinity.{exec_cpu_affinity};
     ghost use Rattle.oci_process.specs.ExecCPUAffinity.{exec_cpu_affinity_plain};
 

@@ -15,7 +15,7 @@ pub use console_box::{Box, BoxBuilder};
 pub use exec_cpu_affinity::{ExecCPUAffinity, ExecCPUAffinityBuilder};
 pub use linux_capabilities::{LinuxCapabilities, LinuxCapabilitiesBuilder};
 pub use linux_io_priority::{LinuxIOPriority, LinuxIOPriorityBuilder};
-pub use oci_runtime_names::{
+pub use oci_text::{
     Capabilities, Capability, IOPriorityClass, LinuxSchedulerFlag, LinuxSchedulerPolicy,
     PosixRlimitType, is_cpu_list,
 };

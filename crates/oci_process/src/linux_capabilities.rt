@@ -2,11 +2,11 @@
 //! The five sets of capabilities of a process (runtime specification, "Configuration", "Linux Process", `capabilities`).
 ghost use Rattle.std.specs.Prelude.{◌≡◌, IfOk, IfErr};
 
-use oci_json_members::{copy_optional_as, write_optional_as};
-use oci_json_model::{ObjectWriter, OciRecord, try_join5};
-use oci_json_readers::{As, read5};
-use oci_runtime_names::{Capability, Caps, default_capabilities};
-use oci_text_base::{OciSpecError, Result};
+use oci_base::{OciSpecError, Result};
+use oci_model::{
+    As, ObjectWriter, OciRecord, copy_optional_as, read5, try_join5, write_optional_as,
+};
+use oci_text::{Capability, Caps, default_capabilities};
 use serde_json::Value;
 use std::alloc::Global;
 use std::collections::HashSet;
@@ -149,8 +149,8 @@ impl LinuxCapabilities {
 }
 
 impl OciRecord for LinuxCapabilities {
-    ghost use Rattle.oci_runtime_names.specs.CapabilitySets.{same_sets};
-    ghost use Rattle.oci_json_model.specs.Same.{same_document, same_more, same_last, same_perhaps};
+    ghost use Rattle.oci_text.specs.CapabilitySets.{same_sets};
+    ghost use Rattle.oci_model.specs.Same.{same_document, same_more, same_last, same_perhaps};
     ghost use Rattle.oci_shapes.specs.LinuxCapabilities.{linux_capabilities};
     ghost use Rattle.oci_process.specs.LinuxCapabilities.{linux_capabilities_plain};
 
@@ -263,10 +263,10 @@ pub struct LinuxCapabilitiesBuilder {
 
 impl LinuxCapabilitiesBuilder {
     ghost use Rattle.std.specs.Prelude.{Some, unwrap_or, option_map};
-    ghost use Rattle.oci_json_model.specs.Plain.{filled};
-    ghost use Rattle.oci_runtime_names.specs.CapabilitySets.{set_plain};
-    ghost use Rattle.oci_runtime_names.specs.CapabilitySets.{default_set};
-    ghost use Rattle.oci_json_model.specs.Types.{perhaps};
+    ghost use Rattle.oci_model.specs.Plain.{filled};
+    ghost use Rattle.oci_text.specs.CapabilitySets.{set_plain};
+    ghost use Rattle.oci_text.specs.CapabilitySets.{default_set};
+    ghost use Rattle.oci_model.specs.Types.{perhaps};
 
     /// Sets `bounding`: the bounding capabilities that are kept: the most that starting a program can give the process.
     pub fn bounding(mut self, bounding: HashSet<Capability>) -> Self

@@ -2,10 +2,9 @@
 //! How soon a process's input and output is served (runtime specification, "Configuration", "Linux Process", `ioPriority`).
 ghost use Rattle.std.specs.Prelude.{◌≡◌, IfOk, IfErr};
 
-use oci_json_model::{ObjectWriter, OciRecord, write_required};
-use oci_json_readers::{Defaulted, read2};
-use oci_runtime_names::IOPriorityClass;
-use oci_text_base::{OciSpecError, Result};
+use oci_base::{OciSpecError, Result};
+use oci_model::{Defaulted, ObjectWriter, OciRecord, read2, write_required};
+use oci_text::IOPriorityClass;
 use serde_json::Value;
 use std::alloc::Global;
 
@@ -57,9 +56,9 @@ impl LinuxIOPriority {
 }
 
 impl OciRecord for LinuxIOPriority {
-    ghost use Rattle.oci_runtime_names.specs.IOPriorityClass.{io_priority_class_same};
-    ghost use Rattle.oci_json_members.specs.DefaultMembers.{default_name, default_number};
-    ghost use Rattle.oci_json_model.specs.Same.{same_document, same_more, same_last, same_given, same_integers, same_variants};
+    ghost use Rattle.oci_text.specs.IOPriorityClass.{io_priority_class_same};
+    ghost use Rattle.oci_model.specs.DefaultMembers.{default_name, default_number};
+    ghost use Rattle.oci_model.specs.Same.{same_document, same_more, same_last, same_given, same_integers, same_variants};
     ghost use Rattle.oci_shapes.specs.LinuxIOPriority.{linux_io_priority};
     ghost use Rattle.oci_process.specs.LinuxIOPriority.{linux_io_priority_plain};
 
@@ -101,9 +100,9 @@ pub struct LinuxIOPriorityBuilder {
 
 impl LinuxIOPriorityBuilder {
     ghost use Rattle.std.specs.Prelude.{Some, unwrap_or, option_map, pos};
-    ghost use Rattle.oci_json_model.specs.Plain as plain;
-    ghost use Rattle.oci_json_model.specs.Types.{integer_plain, variant_plain};
-    ghost use Rattle.oci_runtime_names.specs.IOPriorityClass.{io_priority_class_name, io_priority_class_default};
+    ghost use Rattle.oci_model.specs.Plain as plain;
+    ghost use Rattle.oci_model.specs.Types.{integer_plain, variant_plain};
+    ghost use Rattle.oci_text.specs.IOPriorityClass.{io_priority_class_name, io_priority_class_default};
 
     /// Sets `class`: the I/O scheduling class, which counts before the priority. REQUIRED; absent, it is read as `IOPRIO_CLASS_BE`.
     pub fn class(mut self, class: IOPriorityClass) -> Self

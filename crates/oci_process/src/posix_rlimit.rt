@@ -2,10 +2,9 @@
 //! A limit on what a process may use (runtime specification, "Configuration", "POSIX process", `rlimits`).
 ghost use Rattle.std.specs.Prelude.{◌≡◌, IfOk, IfErr};
 
-use oci_json_model::{ObjectWriter, OciRecord, write_required};
-use oci_json_readers::{Defaulted, Required, read3};
-use oci_runtime_names::PosixRlimitType;
-use oci_text_base::{OciSpecError, Result};
+use oci_base::{OciSpecError, Result};
+use oci_model::{Defaulted, ObjectWriter, OciRecord, Required, read3, write_required};
+use oci_text::PosixRlimitType;
 use serde_json::Value;
 use std::alloc::Global;
 
@@ -66,9 +65,9 @@ impl PosixRlimit {
 }
 
 impl OciRecord for PosixRlimit {
-    ghost use Rattle.oci_runtime_names.specs.PosixRlimitType.{posix_rlimit_type_same};
-    ghost use Rattle.oci_json_members.specs.DefaultMembers.{default_number};
-    ghost use Rattle.oci_json_model.specs.Same.{same_document, same_more, same_last, same_given, same_numbers, same_variants};
+    ghost use Rattle.oci_text.specs.PosixRlimitType.{posix_rlimit_type_same};
+    ghost use Rattle.oci_model.specs.DefaultMembers.{default_number};
+    ghost use Rattle.oci_model.specs.Same.{same_document, same_more, same_last, same_given, same_numbers, same_variants};
     ghost use Rattle.oci_shapes.specs.PosixRlimit.{posix_rlimit};
     ghost use Rattle.oci_process.specs.PosixRlimit.{posix_rlimit_plain};
 
@@ -113,9 +112,9 @@ pub struct PosixRlimitBuilder {
 
 impl PosixRlimitBuilder {
     ghost use Rattle.std.specs.Prelude.{Some, unwrap_or, option_map, pos};
-    ghost use Rattle.oci_json_model.specs.Plain as plain;
-    ghost use Rattle.oci_json_model.specs.Types.{number_plain, variant_plain};
-    ghost use Rattle.oci_runtime_names.specs.PosixRlimitType.{posix_rlimit_type_name, posix_rlimit_type_default};
+    ghost use Rattle.oci_model.specs.Plain as plain;
+    ghost use Rattle.oci_model.specs.Types.{number_plain, variant_plain};
+    ghost use Rattle.oci_text.specs.PosixRlimitType.{posix_rlimit_type_name, posix_rlimit_type_default};
 
     /// Sets `typ`: the resource that is limited, by its name in getrlimit(2). REQUIRED; absent, it is read as `RLIMIT_CPU`.
     pub fn typ(mut self, typ: PosixRlimitType) -> Self

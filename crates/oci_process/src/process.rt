@@ -14,12 +14,11 @@ use crate::process_defaults::{default_args, default_cwd, default_env, default_rl
 use crate::scheduler::Scheduler;
 use crate::user::User;
 pub use builder::ProcessBuilder;
-use oci_json_model::{
-    ObjectWriter, OciMember, OciRecord, copy_optional, try_join2, try_join3, try_join4,
-    write_optional, write_required,
+use oci_base::{OciSpecError, Result};
+use oci_model::{
+    ObjectWriter, OciMember, OciRecord, Optional, Required, copy_optional, read4, try_join2,
+    try_join3, try_join4, write_optional, write_required,
 };
-use oci_json_readers::{Optional, Required, read4};
-use oci_text_base::{OciSpecError, Result};
 use serde_json::Value;
 use std::alloc::Global;
 
@@ -119,8 +118,8 @@ impl Process {
 }
 
 impl OciRecord for Process {
-    ghost use Rattle.oci_json_members.specs.DefaultMembers.{default_name, default_number};
-    ghost use Rattle.oci_json_model.specs.Same.{same_document, same_more, same_last, same_given, same_perhaps, same_texts, same_lists, same_integers, same_truths};
+    ghost use Rattle.oci_model.specs.DefaultMembers.{default_name, default_number};
+    ghost use Rattle.oci_model.specs.Same.{same_document, same_more, same_last, same_given, same_perhaps, same_texts, same_lists, same_integers, same_truths};
     ghost use Rattle.oci_shapes.specs.Process.{process};
     ghost use Rattle.oci_process.specs.Process.{process_plain};
     ghost use Rattle.oci_process.specs.contracts.console_box.BoxOciRecord.TheImpl.Laws.{same-law as console_box_same};

@@ -1,12 +1,12 @@
 //! What a default process has (runtime specification, "Configuration", "Process", "POSIX process").
 ghost use Rattle.std.specs.Prelude.{◌≡◌, IfOk, IfErr};
-ghost use Rattle.oci_json_model.specs.Types.{list_plain, text_plain};
+ghost use Rattle.oci_model.specs.Types.{list_plain, text_plain};
 ghost use Rattle.oci_process.specs.PosixRlimit.{posix_rlimit_plain};
 ghost use Rattle.oci_process.specs.ProcessDefaults.{default_args, default_cwd, default_env, default_rlimits};
 
 use crate::{PosixRlimit, PosixRlimitBuilder};
-use oci_runtime_names::PosixRlimitType;
-use oci_text_base::{OciSpecError, Result};
+use oci_base::{OciSpecError, Result};
+use oci_text::PosixRlimitType;
 use std::alloc::Global;
 
 /// A shell.

@@ -2,12 +2,12 @@
 //! When a process may run (runtime specification, "Configuration", "Linux Process", `scheduler`).
 ghost use Rattle.std.specs.Prelude.{◌≡◌, IfOk, IfErr};
 
-use oci_json_model::{
-    ObjectWriter, OciRecord, copy_optional, try_join2, write_optional, write_required,
+use oci_base::{OciSpecError, Result};
+use oci_model::{
+    ObjectWriter, OciRecord, Optional, Required, copy_optional, read3, read4, try_join2,
+    write_optional, write_required,
 };
-use oci_json_readers::{Optional, Required, read3, read4};
-use oci_runtime_names::{LinuxSchedulerFlag, LinuxSchedulerPolicy};
-use oci_text_base::{OciSpecError, Result};
+use oci_text::{LinuxSchedulerFlag, LinuxSchedulerPolicy};
 use serde_json::Value;
 use std::alloc::Global;
 
@@ -180,9 +180,9 @@ impl Scheduler {
 }
 
 impl OciRecord for Scheduler {
-    ghost use Rattle.oci_runtime_names.specs.LinuxSchedulerFlag.{linux_scheduler_flag_same};
-    ghost use Rattle.oci_runtime_names.specs.LinuxSchedulerPolicy.{linux_scheduler_policy_same};
-    ghost use Rattle.oci_json_model.specs.Same.{same_document, same_more, same_last, same_given, same_perhaps, same_lists, same_numbers, same_integers, same_variants};
+    ghost use Rattle.oci_text.specs.LinuxSchedulerFlag.{linux_scheduler_flag_same};
+    ghost use Rattle.oci_text.specs.LinuxSchedulerPolicy.{linux_scheduler_policy_same};
+    ghost use Rattle.oci_model.specs.Same.{same_document, same_more, same_last, same_given, same_perhaps, same_lists, same_numbers, same_integers, same_variants};
     ghost use Rattle.oci_shapes.specs.Scheduler.{scheduler};
     ghost use Rattle.oci_process.specs.Scheduler.{scheduler_plain};
 
@@ -260,9 +260,9 @@ pub struct SchedulerBuilder {
 
 impl SchedulerBuilder {
     ghost use Rattle.std.specs.Prelude.{Some, unwrap_or, option_map};
-    ghost use Rattle.oci_json_model.specs.Plain as plain;
-    ghost use Rattle.oci_json_model.specs.Types.{variant_plain};
-    ghost use Rattle.oci_runtime_names.specs.LinuxSchedulerPolicy.{linux_scheduler_policy_name, linux_scheduler_policy_default};
+    ghost use Rattle.oci_model.specs.Plain as plain;
+    ghost use Rattle.oci_model.specs.Types.{variant_plain};
+    ghost use Rattle.oci_text.specs.LinuxSchedulerPolicy.{linux_scheduler_policy_name, linux_scheduler_policy_default};
 
     /// Sets `policy`: the scheduling policy, by its name in sched(7).
     pub fn policy(mut self, policy: LinuxSchedulerPolicy) -> Self

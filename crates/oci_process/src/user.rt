@@ -2,11 +2,11 @@
 //! The user that a process runs as (runtime specification, "Configuration", "User").
 ghost use Rattle.std.specs.Prelude.{◌≡◌, IfOk, IfErr};
 
-use oci_json_model::{
-    ObjectWriter, OciRecord, copy_optional, try_join2, write_optional, write_required,
+use oci_base::{OciSpecError, Result};
+use oci_model::{
+    Defaulted, ObjectWriter, OciRecord, Optional, copy_optional, read5, try_join2, write_optional,
+    write_required,
 };
-use oci_json_readers::{Defaulted, Optional, read5};
-use oci_text_base::{OciSpecError, Result};
 use serde_json::Value;
 use std::alloc::Global;
 
@@ -182,8 +182,8 @@ impl User {
 }
 
 impl OciRecord for User {
-    ghost use Rattle.oci_json_members.specs.DefaultMembers.{default_number};
-    ghost use Rattle.oci_json_model.specs.Same.{same_document, same_more, same_last, same_given, same_perhaps, same_texts, same_lists, same_numbers};
+    ghost use Rattle.oci_model.specs.DefaultMembers.{default_number};
+    ghost use Rattle.oci_model.specs.Same.{same_document, same_more, same_last, same_given, same_perhaps, same_texts, same_lists, same_numbers};
     ghost use Rattle.oci_shapes.specs.User.{user};
     ghost use Rattle.oci_process.specs.User.{user_plain};
 
@@ -268,8 +268,8 @@ pub struct UserBuilder {
 
 impl UserBuilder {
     ghost use Rattle.std.specs.Prelude.{Some, unwrap_or, option_map, pos};
-    ghost use Rattle.oci_json_model.specs.Plain as plain;
-    ghost use Rattle.oci_json_model.specs.Types.{number_plain};
+    ghost use Rattle.oci_model.specs.Plain as plain;
+    ghost use Rattle.oci_model.specs.Types.{number_plain};
 
     /// Sets `uid`: the user ID in the container namespace. REQUIRED on POSIX platforms; absent, it is read as 0, which is root.
     pub fn uid(mut self, uid: u32) -> Self

@@ -1,19 +1,18 @@
 -- The whole text of an accepted reference is accepted as the same one.
 use Rattle.std.proofs.Common.{◌≡◌, ℕ, ◌<◌, ◌||◌, ◌&&◌, ◌↔◌, Bool, true, false, not, cond, List, [], ◌∷◌, ◌++◌, Option, Some, None, length, refl, sym, ap, ◌∙◌, subst, inl, inr, append-nil, arith}
-use Rattle.oci_reference_scan.specs.declared.error.ParseError.TheVariants.{NameContainsUppercase}
-use Rattle.oci_text_base.specs.Classes.{dot, slash, colon, at_sign, IsIn, one, more, behind}
-use Rattle.oci_reference_scan.specs.Reference.{IsPath, IsDomain, IsName, IsTag, IsReference}
+use Rattle.oci_reference.specs.declared.error.ParseError.TheVariants.{NameContainsUppercase}
+use Rattle.oci_base.specs.Classes.{dot, slash, colon, at_sign, IsIn, one, more, behind, has, until, after}
+use Rattle.oci_reference.specs.Reference.{IsPath, IsDomain, IsName, IsTag, IsReference}
 use Rattle.oci_reference.specs.Accepted.{Accepted, parts_of, or_latest, limit}
 use Rattle.oci_reference.specs.Names.{default_name, cut_name, usual_registry, with_library, is_registry, docker_io}
 use Rattle.oci_reference.specs.Parts.{Parts}
 use Rattle.oci_reference.specs.Whole.{whole}
-use Rattle.oci_text_base.specs.Classes.{has, until, after}
 use Rattle.std.specs.Prelude.{IfSome, codes, bytes_eq}
 use Rattle.std.specs.Char.{is_ascii_uppercase}
 use Rattle.std.specs.List.{list_any}
 use Rattle.std.proofs.lemmas.Slice.Eq.{bytes_eq-Decides}
-use Rattle.oci_text_base.proofs.Lacks.{Lacks, cut_once}
-use Rattle.oci_text_base.proofs.Marks.{lacks_not_has, first_cut, until_is}
+use Rattle.oci_base.proofs.Lacks.{Lacks, cut_once}
+use Rattle.oci_base.proofs.Marks.{lacks_not_has, first_cut, until_is}
 use Rattle.oci_reference.proofs.Outcomes.{accepted_once}
 use Rattle.oci_reference.proofs.NameCuts.{is_small, in_split, path_some, domain_no_slash, path_before, name_tail, bare_path, plain_domain}
 

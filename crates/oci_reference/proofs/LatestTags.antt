@@ -1,8 +1,8 @@
 -- An accepted reference has a tag or a digest, and when its tag is `latest`.
 use Rattle.std.proofs.Common.{◌≡◌, ◌⊎◌, ◌↔◌, ℕ, List, Option, Some, None, refl, sym, ap, ◌∙◌, inl, inr}
 use Rattle.std.specs.Prelude.{codes}
-use Rattle.oci_reference_scan.specs.Reference.{IsReference}
-use Rattle.oci_reference_scan.proofs.Readings.{reading_once}
+use Rattle.oci_reference.specs.Reference.{IsReference}
+use Rattle.oci_reference.proofs.Readings.{reading_once}
 use Rattle.oci_reference.specs.Accepted.{Accepted, or_latest}
 use Rattle.oci_reference.specs.Parts.{Parts}
 

@@ -1,6 +1,12 @@
 pub mod Canonical
+pub mod Complete
+pub mod Found
+pub mod Grows
 pub mod LatestTags
 pub mod NameCuts
 pub mod Outcomes
+pub mod Readings
 pub mod Replaced
+pub mod Slices
+pub mod Sound
 pub mod WholeTexts

@@ -5,18 +5,17 @@ use Rattle.std.specs.Char.{is_ascii_alphanumeric, is_ascii_uppercase}
 use Rattle.std.specs.List.{list_all, fold}
 use Rattle.std.proofs.lemmas.Bool.{eqb-true}
 use Rattle.std.proofs.lemmas.List.Folds.{list_all-append}
-use Rattle.oci_reference_scan.specs.declared.scanner.path.PathState.{PathState}
-use Rattle.oci_reference_scan.specs.declared.scanner.path.PathState.TheVariants.{BeforeRun, InRun, AfterUnderscore, InDashes, NoPath}
-use Rattle.oci_text_base.specs.Classes.{dash, dot, slash, colon, is_lower, is_host_byte, IsIn, IsSomeOf, IsOneOf, one, more}
-use Rattle.oci_reference_scan.specs.Reference.{IsSeparator, IsComponent, IsPath, IsDomainComponent, IsDomain, IsName}
-use Rattle.oci_reference_scan.specs.Scanner.{path_next}
-use Rattle.oci_text_base.specs.Classes.{has}
-use Rattle.oci_text_base.proofs.Marks.{lacks_not_has, first_cut}
-use Rattle.oci_text_base.proofs.Lacks.{Lacks, both, lacks_some, lacks_joined, cut_once}
-use Rattle.oci_reference_scan.proofs.Readings.{lacks_separator, lacks_domain, not_both}
-use Rattle.oci_text_base.proofs.Runs.{run_class, run_one, run_append, run_describes}
-use Rattle.oci_reference_scan.proofs.Complete.{or_cases}
-use Rattle.oci_reference_scan.proofs.Sound.{PathSays, path_keeps}
+use Rattle.oci_reference.specs.declared.scanner.path.PathState.{PathState}
+use Rattle.oci_reference.specs.declared.scanner.path.PathState.TheVariants.{BeforeRun, InRun, AfterUnderscore, InDashes, NoPath}
+use Rattle.oci_base.specs.Classes.{dash, dot, slash, colon, is_lower, is_host_byte, IsIn, IsSomeOf, IsOneOf, one, more, has}
+use Rattle.oci_reference.specs.Reference.{IsSeparator, IsComponent, IsPath, IsDomainComponent, IsDomain, IsName}
+use Rattle.oci_reference.specs.Scanner.{path_next}
+use Rattle.oci_base.proofs.Marks.{lacks_not_has, first_cut}
+use Rattle.oci_base.proofs.Lacks.{Lacks, both, lacks_some, lacks_joined, cut_once}
+use Rattle.oci_reference.proofs.Readings.{lacks_separator, lacks_domain, not_both}
+use Rattle.oci_base.proofs.Runs.{run_class, run_one, run_append, run_describes}
+use Rattle.oci_reference.proofs.Complete.{or_cases}
+use Rattle.oci_reference.proofs.Sound.{PathSays, path_keeps}
 
 -- Paths.
 component_no_slash : (t : List ℕ) → IsComponent t → Lacks slash t

@@ -3,19 +3,19 @@ use Rattle.std.proofs.Common.{◌≡◌, ◌⊎◌, ℕ, List, [], ◌∷◌, Op
 use Rattle.std.specs.Prelude.{nat_lt, Result, Ok, Err, IfErr, IsErrAnd, ◌==◌, codes, bytes_eq}
 use Rattle.std.specs.Char.{is_ascii_uppercase}
 use Rattle.std.specs.List.{list_any, fold}
-use Rattle.oci_text_base.specs.Classes.{colon, until, after}
-use Rattle.oci_text_base.proofs.Runs.{by_test}
-use Rattle.oci_reference_scan.specs.declared.error.ParseError.{ParseError}
-use Rattle.oci_reference_scan.specs.declared.error.ParseError.TheVariants.{DigestInvalidFormat, DigestInvalidLength, DigestUnsupported, NameContainsUppercase, NameEmpty, NameTooLong, ReferenceInvalidFormat, TagInvalidFormat, Memory}
-use Rattle.oci_reference_scan.specs.declared.scanner.places.Places.{Places}
-use Rattle.oci_reference_scan.specs.Reference.{IsReference}
-use Rattle.oci_reference_scan.specs.Scanner.{start, step, found, places}
+use Rattle.oci_base.specs.Classes.{colon, until, after}
+use Rattle.oci_base.proofs.Runs.{by_test}
+use Rattle.oci_reference.specs.declared.error.ParseError.{ParseError}
+use Rattle.oci_reference.specs.declared.error.ParseError.TheVariants.{DigestInvalidFormat, DigestInvalidLength, DigestUnsupported, NameContainsUppercase, NameEmpty, NameTooLong, ReferenceInvalidFormat, TagInvalidFormat, Memory}
+use Rattle.oci_reference.specs.declared.scanner.places.Places.{Places}
+use Rattle.oci_reference.specs.Reference.{IsReference}
+use Rattle.oci_reference.specs.Scanner.{start, step, found, places}
 use Rattle.oci_reference.specs.Accepted.{Accepted, Refused, Tells, parts_of, limit, digest_limit}
 use Rattle.oci_reference.specs.Names.{default_name}
 use Rattle.oci_reference.specs.Parts.{Parts}
-use Rattle.oci_reference_scan.proofs.Complete.{holds}
-use Rattle.oci_reference_scan.proofs.Found.{held, held_reads}
-use Rattle.oci_reference_scan.proofs.Readings.{reading_once}
+use Rattle.oci_reference.proofs.Complete.{holds}
+use Rattle.oci_reference.proofs.Found.{held, held_reads}
+use Rattle.oci_reference.proofs.Readings.{reading_once}
 
 -- the errors of a limit
 abbrev OfLimit : Option ParseError → Type 0

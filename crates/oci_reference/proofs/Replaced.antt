@@ -4,14 +4,14 @@ use Rattle.std.specs.Prelude.{nat_lt, codes, bytes_eq}
 use Rattle.std.specs.Char.{is_ascii_hexdigit, is_ascii_uppercase}
 use Rattle.std.specs.List.{list_all, list_any}
 use Rattle.std.proofs.lemmas.Slice.Eq.{bytes_eq-Decides}
-use Rattle.oci_text_base.specs.Classes.{slash, colon, at_sign, until, is_lower, is_lower_hex, is_joint, behind, IsIn, IsSomeOf, IsOneOf, one}
-use Rattle.oci_text_base.specs.Digest.{IsDigest}
-use Rattle.oci_text_base.proofs.Lacks.{both, lacks_one, lacks_some, lacks_joined}
-use Rattle.oci_text_base.proofs.Marks.{until_is}
-use Rattle.oci_text_base.proofs.Runs.{by_test}
-use Rattle.oci_reference_scan.specs.declared.error.ParseError.{ParseError}
-use Rattle.oci_reference_scan.specs.Reference.{IsWord, IsRefDigest, IsReference}
-use Rattle.oci_reference_scan.proofs.Readings.{split_once}
+use Rattle.oci_base.specs.Classes.{slash, colon, at_sign, until, is_lower, is_lower_hex, is_joint, behind, IsIn, IsSomeOf, IsOneOf, one}
+use Rattle.oci_base.specs.Digest.{IsDigest}
+use Rattle.oci_base.proofs.Lacks.{both, lacks_one, lacks_some, lacks_joined}
+use Rattle.oci_base.proofs.Marks.{until_is}
+use Rattle.oci_base.proofs.Runs.{by_test}
+use Rattle.oci_reference.specs.declared.error.ParseError.{ParseError}
+use Rattle.oci_reference.specs.Reference.{IsWord, IsRefDigest, IsReference}
+use Rattle.oci_reference.proofs.Readings.{split_once}
 use Rattle.oci_reference.specs.Accepted.{Accepted, parts_of, limit, digest_limit}
 use Rattle.oci_reference.specs.Names.{default_name}
 use Rattle.oci_reference.specs.Parts.{Parts}

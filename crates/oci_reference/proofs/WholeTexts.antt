@@ -1,7 +1,7 @@
 -- The whole text, with each mark by itself.
 use Rattle.std.proofs.Common.{◌≡◌, ℕ, List, [], ◌∷◌, ◌++◌, Option, Some, None, length, ne_eqb, arith, refl, sym, ap, ◌∙◌, append-nil, append_assoc}
 use Rattle.std.specs.Prelude.{◌==◌, ◌&&◌, ◌||◌, Bool, not, codes, is_some, unwrap_or}
-use Rattle.oci_text_base.specs.Classes.{slash, colon, at_sign}
+use Rattle.oci_base.specs.Classes.{slash, colon, at_sign}
 use Rattle.oci_reference.specs.Parts.{Parts}
 use Rattle.oci_reference.specs.Whole.{whole}
 use Rattle.oci_reference.specs.Written.{some_text, named, mark_if, spelled}

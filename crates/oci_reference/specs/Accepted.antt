@@ -2,10 +2,10 @@
 use Rattle.std.specs.Prelude.{◌≡◌, ◌≢◌, ℕ, ◌⊎◌, ◌==◌, nat_lt, List, [], length, codes, bytes_eq, Option, Some, None, if◌then◌else◌}
 use Rattle.std.specs.Char.{is_ascii_uppercase}
 use Rattle.std.specs.List.{list_any}
-use Rattle.oci_text_base.specs.Classes.{until, after, colon}
-use Rattle.oci_reference_scan.specs.declared.error.ParseError.{ParseError}
-use Rattle.oci_reference_scan.specs.declared.error.ParseError.TheVariants.{DigestInvalidFormat, DigestInvalidLength, DigestUnsupported, NameContainsUppercase, NameEmpty, NameTooLong, ReferenceInvalidFormat, TagInvalidFormat, Memory}
-use Rattle.oci_reference_scan.specs.Reference.{IsReference}
+use Rattle.oci_base.specs.Classes.{until, after, colon}
+use Rattle.oci_reference.specs.declared.error.ParseError.{ParseError}
+use Rattle.oci_reference.specs.declared.error.ParseError.TheVariants.{DigestInvalidFormat, DigestInvalidLength, DigestUnsupported, NameContainsUppercase, NameEmpty, NameTooLong, ReferenceInvalidFormat, TagInvalidFormat, Memory}
+use Rattle.oci_reference.specs.Reference.{IsReference}
 use Rattle.oci_reference.specs.Names.{default_name}
 use Rattle.oci_reference.specs.Parts.{Parts}
 

@@ -6,7 +6,7 @@ use Rattle.std.specs.Bool.{Decides}
 use Rattle.std.specs.Cmp.{IsEquivalence, decided}
 use Rattle.std.specs.Option.{option_eq}
 use Rattle.std.proofs.lemmas.Slice.Eq.{bytes_eq-Decides}
-use Rattle.oci_text_base.proofs.Lacks.{both}
+use Rattle.oci_base.proofs.Lacks.{both}
 use Rattle.oci_reference.specs.Parts.{Parts}
 
 -- each part by its bytes

@@ -3,11 +3,11 @@ pub mod Equal
 pub mod Named
 pub mod Names
 pub mod Parts
+pub mod Pieces
 pub mod Record
+pub mod Reference
 pub mod Replaced
+pub mod Scanner
 pub mod Whole
 pub mod Written
-pub use Rattle.oci_reference_scan.specs.Pieces
-pub use Rattle.oci_reference_scan.specs.Reference
-pub use Rattle.oci_reference_scan.specs.Scanner
-pub use Rattle.oci_text_base.specs.Classes
+pub use Rattle.oci_base.specs.Classes

@@ -1,6 +1,6 @@
 -- Registry and repository of a name (distribution specification, "Pulling manifests"; the defaults as in CNCF Distribution's reference names).
 use Rattle.std.specs.Prelude.{ℕ, ◌&&◌, ◌||◌, Bool, not, List, ◌++◌, codes, bytes_eq, if◌then◌else◌}
-use Rattle.oci_text_base.specs.Classes.{has, until, after, dot, slash, colon}
+use Rattle.oci_base.specs.Classes.{has, until, after, dot, slash, colon}
 
 -- the registry of a name that names none
 abbrev pub docker_io : List ℕ

@@ -1,6 +1,6 @@
 -- The whole text of a reference: registry, repository, tag and digest behind their marks (distribution specification, "Pulling manifests").
 use Rattle.std.specs.Prelude.{ℕ, List, [], ◌∷◌, ◌++◌, Option, Some, None, unwrap_or}
-use Rattle.oci_text_base.specs.Classes.{slash, colon, at_sign}
+use Rattle.oci_base.specs.Classes.{slash, colon, at_sign}
 use Rattle.oci_reference.specs.Parts.{Parts}
 
 -- the part, where it is not empty

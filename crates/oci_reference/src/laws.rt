@@ -1,15 +1,15 @@
 //! What holds of references by their definitions alone.
 
 ghost use Rattle.std.specs.Prelude.{◌≡◌, ◌↔◌, ◌⊎◌, codes, ℕ, List, Option, Some, None};
-ghost use Rattle.oci_text_base.specs.Digest.{IsDigest};
-ghost use Rattle.oci_reference_scan.specs.Reference.{IsReference};
-ghost use Rattle.oci_reference_scan.specs.declared.error.ParseError.{ParseError};
+ghost use Rattle.oci_base.specs.Digest.{IsDigest};
+ghost use Rattle.oci_reference.specs.Reference.{IsReference};
+ghost use Rattle.oci_reference.specs.declared.error.ParseError.{ParseError};
 ghost use Rattle.oci_reference.specs.Accepted.{Accepted, Refused};
 ghost use Rattle.oci_reference.specs.Parts.{Parts};
 ghost use Rattle.oci_reference.specs.Replaced.{pinned, IsSupported};
 ghost use Rattle.oci_reference.specs.Whole.{whole};
 
-pub use oci_reference_scan::laws::one_reading;
+pub use crate::scan_laws::one_reading;
 
 /// The whole text of an accepted reference is accepted as the same one. So accepted texts give equal references
 /// exactly if the whole texts are equal.

@@ -4,8 +4,8 @@ ghost use Rattle.std.specs.List.{list_any};
 ghost use Rattle.oci_reference.specs.Accepted.{limit, digest_limit};
 ghost use Rattle.oci_reference.specs.Named.{names_of};
 
+use crate::ParseError;
 use crate::names::{Named, cut_at};
-use oci_reference_scan::ParseError;
 
 /// The greatest length of a repository, in bytes.
 const NAME_TOTAL_LENGTH_MAX: usize = 255;

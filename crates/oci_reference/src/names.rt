@@ -1,5 +1,5 @@
 ghost use Rattle.std.specs.Prelude.{◌≡◌, ◌<◌, IfOk, string_bytes};
-ghost use Rattle.oci_text_base.specs.Classes.{has, until, after};
+ghost use Rattle.oci_base.specs.Classes.{has, until, after};
 ghost use Rattle.oci_reference.specs.Names.{is_registry, cut_name, usual_registry, with_library, default_name};
 ghost use Rattle.oci_reference.specs.Named.{names_of};
 

@@ -8,12 +8,12 @@ ghost use Rattle.oci_reference.specs.Written.{some_text, named, mark_if};
 use crate::limits::limit;
 use crate::names::{Named, default_name, repository_text};
 use crate::texts::{copied, lent, mark_if, owned, some_text, tag_or_latest, text_or_empty};
-use oci_json_model::{
+use crate::{ParseError, parts};
+use oci_base::OciSpecError;
+use oci_model::{
     ObjectWriter, OciRecord, fault, optional_owned, required_owned, taken_5, try_join5,
     write_optional, write_required,
 };
-use oci_reference_scan::{ParseError, parts};
-use oci_text_base::OciSpecError;
 use serde_json::Value;
 use std::alloc::{AllocError, Global};
 use std::fmt;
@@ -206,7 +206,7 @@ impl Reference {
 
     /// The same registry, repository and mirror with this digest, which is not tested, and without the tag. The error is
     /// `Memory`.
-    pub fn clone_with_digest(&self, digest: String) -> oci_text_base::Result<Reference>
+    pub fn clone_with_digest(&self, digest: String) -> oci_base::Result<Reference>
         ensures ok { IfOk result (λ r. r ≡ record self.now { tag = None; digest = Some (string_bytes digest) }) }
         ensures err { IfErr result (λ e. e ≡ OciSpecError.Memory) }
     {
@@ -277,7 +277,7 @@ impl Reference {
 
     /// The whole text: registry, `/` repository, `:` tag and `@` digest, each mark only behind a part. The mirror is not
     /// shown. The error is `Memory`.
-    pub fn whole(&self) -> oci_text_base::Result<String>
+    pub fn whole(&self) -> oci_base::Result<String>
         ensures ok { IfOk result (λ t. string_bytes t ≡ whole self.now) }
         ensures err { IfErr result (λ e. e ≡ OciSpecError.Memory) }
     {
@@ -285,7 +285,7 @@ impl Reference {
     }
 
     /// The whole text. The error is `Memory`.
-    pub fn into_string(self) -> oci_text_base::Result<String>
+    pub fn into_string(self) -> oci_base::Result<String>
         ensures ok { IfOk result (λ t. string_bytes t ≡ whole self) }
         ensures err { IfErr result (λ e. e ≡ OciSpecError.Memory) }
     {
@@ -320,7 +320,7 @@ impl Reference {
     }
 
     /// An equal reference. The error is `Memory`.
-    pub fn clone(&self) -> oci_text_base::Result<Reference>
+    pub fn clone(&self) -> oci_base::Result<Reference>
         ensures ok { IfOk result (λ r. r ≡ self.now) }
         ensures err { IfErr result (λ e. e ≡ OciSpecError.Memory) }
     {
@@ -335,7 +335,7 @@ impl Reference {
 }
 
 impl OciRecord for Reference {
-    ghost use Rattle.oci_json_model.specs.Same.{same_document, same_more, same_last, same_given, same_perhaps, same_bytes};
+    ghost use Rattle.oci_model.specs.Same.{same_document, same_more, same_last, same_given, same_perhaps, same_bytes};
     ghost use Rattle.oci_shapes.specs.Reference.{reference};
     ghost use Rattle.oci_reference.specs.Record.{reference_plain};
 
@@ -343,13 +343,13 @@ impl OciRecord for Reference {
 
     ghost plain = { reference_plain };
 
-    fn from_value(alloc: Global, value: &Value) -> oci_text_base::Result<Reference> {
+    fn from_value(alloc: Global, value: &Value) -> oci_base::Result<Reference> {
         let value = value.clone()?;
         Self::from_value_owned(alloc, value)
     }
 
-    #[tactic(auto, using(oci_json_model::proofs::Readers::refuses_others))]
-    fn from_value_owned(alloc: Global, value: Value) -> oci_text_base::Result<Reference> {
+    #[tactic(auto, using(oci_model::proofs::Readers::refuses_others))]
+    fn from_value_owned(alloc: Global, value: Value) -> oci_base::Result<Reference> {
         let Some((registry, mirror_registry, repository, tag, digest)) = taken_5(
             alloc,
             value,
@@ -374,7 +374,7 @@ impl OciRecord for Reference {
         })
     }
 
-    fn to_value(&self, alloc: Global) -> oci_text_base::Result<Value> {
+    fn to_value(&self, alloc: Global) -> oci_base::Result<Value> {
         let mut members = ObjectWriter::new(alloc);
         write_required(&mut members, "registry", &self.registry);
         write_optional(&mut members, "mirror_registry", &self.mirror_registry);
@@ -384,7 +384,7 @@ impl OciRecord for Reference {
         members.object()
     }
 
-    fn duplicate(&self, _alloc: Global) -> oci_text_base::Result<Reference> {
+    fn duplicate(&self, _alloc: Global) -> oci_base::Result<Reference> {
         self.clone()
     }
 

@@ -1,8 +1,8 @@
 -- Whether all that rules name stands in the shape of a document: each place, what a condition looks at, and the members that a test asks of.
 use Rattle.std.specs.Prelude.{ℕ, ◌&&◌, ◌||◌, Bool, true, false, bytes_eq, List, [], ◌∷◌, Option, Some, None, option_and_then, if◌then◌else◌}
 use Rattle.std.specs.List.{list_all}
-use Rattle.oci_json_model.specs.Shape as shape
-use Rattle.oci_json_model.specs.Shape.{Shape, Rows, no_rows, row}
+use Rattle.oci_model.specs.Shape as shape
+use Rattle.oci_model.specs.Shape.{Shape, Rows, no_rows, row}
 use Rattle.oci_rules.specs.Rules.{Origin, the_part, the_document, is_there, has_item, Condition, asks, members, Test, there, either, at_most, sum_at_most, among, lists_item, distinct, Place, here, under, each_item, each_member, each_name, if_so, Rule}
 
 abbrev pub is_second : List ℕ → Option (List ℕ) → Bool

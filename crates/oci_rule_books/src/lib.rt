@@ -6,9 +6,8 @@ ghost use Rattle.std.specs.Prelude.{◌≡◌, map, IfOk};
 ghost use Rattle.std.specs.List.{flat_map};
 ghost use Rattle.oci_rules.specs.Tables.{rule_of};
 ghost use Rattle.oci_rule_books.specs.Kinds as kinds;
-ghost use Rattle.oci_kinds.specs.declared.kind.Kind.TheVariants as kind;
+ghost use Rattle.oci_schemas.specs.declared.kind.Kind.TheVariants as kind;
 
-use oci_kinds::Kind;
 use oci_rule_tables::{
     artifact_annotations_rules, artifact_blobs_annotations_rules, artifact_blobs_rules,
     artifact_rules, artifact_subject_annotations_rules, artifact_subject_rules,
@@ -25,6 +24,7 @@ use oci_rule_tables::{
     spec_rules, state_rules, tags_rules,
 };
 use oci_rules::Rule;
+use oci_schemas::Kind;
 use std::alloc::{AllocError, Global};
 
 /// Returns the rules of a kind of documents, in the order of its books, a few in each slice. Fails if out of memory.

@@ -6,7 +6,7 @@ ghost use Rattle.oci_rules.specs.Tables.{rule_of};
 ghost use Rattle.oci_rule_tables.specs.Config as defined;
 
 use crate::lists::{GOARCH, GOOS};
-use oci_rule_texts::Grammar;
+use oci_grammars::Grammar;
 use oci_rules::{Check, Condition, Key, Level, Origin, Platforms, Rule, Step, Test};
 
 static RULES_1: [Rule<'static>; 3] = [

@@ -6,7 +6,7 @@ ghost use Rattle.oci_rules.specs.Tables.{rule_of};
 ghost use Rattle.oci_rule_tables.specs.Features as defined;
 
 use crate::lists::{HOOK_KINDS, LINUX_MOUNT_OPTIONS, SECCOMP_FLAGS, SECCOMP_OPERATORS};
-use oci_rule_texts::Grammar;
+use oci_grammars::Grammar;
 use oci_rules::{Key, Level, Platforms, Rule, Step, Test};
 
 static RULES_1: [Rule<'static>; 3] = [

@@ -6,7 +6,7 @@ ghost use Rattle.oci_rules.specs.Tables.{rule_of};
 ghost use Rattle.oci_rule_tables.specs.State as defined;
 
 use crate::lists::{LABEL_SCHEMA_KEYS, OPENCONTAINERS_KEYS};
-use oci_rule_texts::Grammar;
+use oci_grammars::Grammar;
 use oci_rules::{Check, Condition, Key, Level, Origin, Platform, Platforms, Rule, Step, Test};
 
 static RULES_1: [Rule<'static>; 3] = [

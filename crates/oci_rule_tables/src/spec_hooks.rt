@@ -6,7 +6,7 @@ ghost use Rattle.oci_rules.specs.Tables.{rule_of};
 ghost use Rattle.oci_rule_tables.specs.Spec as defined;
 
 use crate::lists::POSIX;
-use oci_rule_texts::Grammar;
+use oci_grammars::Grammar;
 use oci_rules::{Check, Condition, Level, Origin, Platform, Platforms, Rule, Step, Test};
 
 static RULES_1: [Rule<'static>; 3] = [

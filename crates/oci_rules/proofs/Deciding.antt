@@ -9,8 +9,8 @@ use Rattle.std.proofs.lemmas.Bool.Decides.{Decides-and, Decides-or, Decides-not,
 use Rattle.std.proofs.lemmas.Slice.Eq.{bytes_eq-Decides, starts_is}
 use Rattle.serde_json.specs.Data.{Data, Items, no_items, item}
 use Rattle.serde_json.specs.Find.{as_bool, as_str, as_array}
-use Rattle.oci_json_model.specs.Means.{as_whole}
-use Rattle.oci_text_base.specs.Names.{is_listed}
+use Rattle.oci_model.specs.Means.{as_whole}
+use Rattle.oci_base.specs.Names.{is_listed}
 use Rattle.oci_rules.specs.Rules.{Check, is_there, is_text, is_truth, is_within, has_text, has_item, Condition, asks}
 use Rattle.oci_rules.specs.Parts.{present, led, text_at}
 use Rattle.oci_rules.specs.Tests.{SomeItem, EachName, SomeName, IsThere, IsAbsent, IsOneOf, IsWithin, IsItem, IsSo, Asked, origin_in, Holds, BeginsWith}

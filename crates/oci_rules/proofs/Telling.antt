@@ -7,19 +7,19 @@ use Rattle.std.specs.List.{Contains, list_any}
 use Rattle.std.proofs.lemmas.Bool.Decides.{Decides-not}
 use Rattle.serde_json.specs.Data.{Data, Items, no_items}
 use Rattle.serde_json.specs.Find.{as_bool, as_str, as_array, as_object, get_item}
-use Rattle.oci_json_model.specs.Means.{as_whole, is_object}
-use Rattle.oci_text_base.specs.Names.{is_listed}
+use Rattle.oci_model.specs.Means.{as_whole, is_object}
+use Rattle.oci_base.specs.Names.{is_listed}
 use Rattle.oci_schema.specs.Places.{under_name, under_index}
-use Rattle.oci_rule_texts.specs.Grammars.{IsOf}
+use Rattle.oci_grammars.specs.Grammars.{IsOf}
 use Rattle.oci_rules.specs.Rules.{Key, Test, text, one_of, none_of, begins, reserved, within, truth, there, absent, either, not_empty, length_at_most, at_most, sum_at_most, lists, lists_item, distinct, among, Rule}
 use Rattle.oci_rules.specs.Parts.{text_at, whole_at, natural_at, items_at, extent}
 use Rattle.oci_rules.specs.Tests.{SomeItem, SomeName, EachItem, IsThere, IsOneOf, IsWithin, BeginsWith, IsAmong, AreDistinct, Passes}
 use Rattle.oci_rules.specs.Breaks.{Told, Shows, HasEarlier, IsOther}
-use Rattle.oci_rule_texts.specs.Tests.{is_of}
+use Rattle.oci_grammars.specs.Tests.{is_of}
 use Rattle.oci_rules.specs.Decided.{if_any, some_item, has, is_one_of, is_in, begins_with, has_text_under, is_passed}
 use Rattle.oci_rules.specs.Listed.{unless, twins_of, others_of, has_text, told_by}
 use Rattle.oci_rules.proofs.Deciding.{clash, itself, if_any_tells, some_item_tells, some_name_tells, has_tells, lacks_tells, one_of_tells, int_tells, nat_tells, some_tells, in_tells, begins_tells, text_tells, then_tells}
-use Rattle.oci_rule_texts.proofs.Grammars.{is_of_decides}
+use Rattle.oci_grammars.proofs.Grammars.{is_of_decides}
 use Rattle.oci_rules.proofs.Found.{nothing_in, not_nil, in_unless, none_of as no_item_of}
 use Rattle.oci_rules.proofs.Others.{others_none, others_in}
 use Rattle.oci_rules.proofs.Twins.{twins_none, twins_found}

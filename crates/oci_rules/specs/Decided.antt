@@ -4,9 +4,9 @@ use Rattle.std.specs.Bool.{beq, nat_eq}
 use Rattle.std.specs.List.{list_any, list_all, starts_with}
 use Rattle.serde_json.specs.Data.{Data, Items, no_items, item}
 use Rattle.serde_json.specs.Find.{as_bool, as_str, as_array}
-use Rattle.oci_json_model.specs.Means.{as_whole, is_object}
-use Rattle.oci_text_base.specs.Names.{is_listed}
-use Rattle.oci_rule_texts.specs.Tests.{is_of}
+use Rattle.oci_model.specs.Means.{as_whole, is_object}
+use Rattle.oci_base.specs.Names.{is_listed}
+use Rattle.oci_grammars.specs.Tests.{is_of}
 use Rattle.oci_rules.specs.Rules.{Check, is_there, is_text, is_truth, is_within, has_text, has_item, Condition, asks, Test, text, one_of, none_of, begins, reserved, within, truth, there, absent, either, not_empty, length_at_most, at_most, sum_at_most, lists, lists_item, distinct, among}
 use Rattle.oci_rules.specs.Parts.{present, led, text_at, whole_at, natural_at, extent}
 use Rattle.oci_rules.specs.Tests.{origin_in}

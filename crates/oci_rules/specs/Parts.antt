@@ -5,8 +5,8 @@ use Rattle.std.specs.Fmt.{signed_decimal}
 use Rattle.serde_json.specs.Data.{Data, Items}
 use Rattle.serde_json.specs.Events.{items_len, members_len}
 use Rattle.serde_json.specs.Find.{as_str, as_array, as_object, as_number, as_u64, get}
-use Rattle.oci_json_model.specs.Means.{as_whole, unless_null}
-use Rattle.oci_text_base.specs.Classes.{until}
+use Rattle.oci_model.specs.Means.{as_whole, unless_null}
+use Rattle.oci_base.specs.Classes.{until}
 use Rattle.oci_schema.specs.Places.{under_name}
 use Rattle.oci_rules.specs.Rules.{Key, itself, members, entry_name}
 

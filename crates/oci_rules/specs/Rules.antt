@@ -1,6 +1,6 @@
 -- What a rule is: where it looks, and what it asks of each part that stands there.
 use Rattle.std.specs.Prelude.{ℕ, ℤ, List, Bool}
-use Rattle.oci_rule_texts.specs.declared.grammar.Grammar.{Grammar}
+use Rattle.oci_grammars.specs.declared.grammar.Grammar.{Grammar}
 
 -- how strongly a specification asks (RFC 2119)
 pub data Level : Type 0 where

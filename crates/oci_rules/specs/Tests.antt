@@ -2,9 +2,9 @@
 use Rattle.std.specs.Prelude.{ℕ, ℤ, ◌≡◌, ◌≢◌, ◌≤◌, ◌<◌, ◌+◌, ◌≤ℤ◌, ◌⊎◌, ⊤, List, [], ◌∷◌, ◌++◌, Bool, true, false, Some, None, IfSome, IsSomeAnd, IsSome, IsTrue, unwrap_or}
 use Rattle.serde_json.specs.Data.{Data, Items, no_items, item}
 use Rattle.serde_json.specs.Find.{as_bool, as_str, as_array, as_object}
-use Rattle.oci_json_model.specs.Means.{as_whole}
-use Rattle.oci_text_base.specs.Names.{is_listed}
-use Rattle.oci_rule_texts.specs.Grammars.{IsOf}
+use Rattle.oci_model.specs.Means.{as_whole}
+use Rattle.oci_base.specs.Names.{is_listed}
+use Rattle.oci_grammars.specs.Grammars.{IsOf}
 use Rattle.oci_rules.specs.Rules.{Origin, the_part, the_document, Check, is_there, is_text, is_truth, is_within, has_text, has_item, Condition, asks, Key, Test, text, one_of, none_of, begins, reserved, within, truth, there, absent, either, not_empty, length_at_most, at_most, sum_at_most, lists, lists_item, distinct, among}
 use Rattle.oci_rules.specs.Parts.{present, led, text_at, whole_at, natural_at, items_at, extent, key_of}
 

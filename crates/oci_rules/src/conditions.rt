@@ -2,7 +2,7 @@
 ghost use Rattle.std.specs.Prelude.{◌≡◌};
 ghost use Rattle.std.specs.List.{list_all};
 ghost use Rattle.serde_json.specs.View.{view, items_view};
-ghost use Rattle.oci_text_base.specs.Names.{is_listed};
+ghost use Rattle.oci_base.specs.Names.{is_listed};
 ghost use Rattle.oci_rules.specs.Decided.{has as does_have, lacks as does_lack, is_one_of as is_text_of, is_in as is_number_in, is_so as comes_so, is_item as is_such_item, some_item, holds as does_hold};
 ghost use Rattle.oci_rules.specs.Tables.{texts_of, check_of, condition_of};
 

@@ -2,8 +2,8 @@
 ghost use Rattle.std.specs.Prelude.{◌≡◌, ◌↔◌, [], map, IfOk, IfErr};
 ghost use Rattle.std.specs.List.{Contains};
 ghost use Rattle.serde_json.specs.View.{view};
-ghost use Rattle.oci_text_base.specs.Refused.{IsMemoryOrSchema};
-ghost use Rattle.oci_json_model.specs.Value.{value as json_of};
+ghost use Rattle.oci_base.specs.Refused.{IsMemoryOrSchema};
+ghost use Rattle.oci_model.specs.Value.{value as json_of};
 ghost use Rattle.oci_rules.specs.Breaks.{Told, Breaks, KeepsAll};
 ghost use Rattle.oci_rules.specs.Documents.{platform_in};
 ghost use Rattle.oci_rules.specs.Listed.{all_broken};
@@ -12,8 +12,8 @@ ghost use Rattle.oci_rules.specs.Tables.{told, rule_of, platform_of};
 use crate::find::broken;
 use crate::parts::has;
 use crate::rule::{Broken, Platform, Rule};
-use oci_json_model::OciRecord;
-use oci_text_base::Result;
+use oci_base::Result;
+use oci_model::OciRecord;
 use serde_json::Value;
 use std::alloc::Global;
 

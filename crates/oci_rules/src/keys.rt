@@ -1,7 +1,7 @@
 //! The keys by which items are compared, and sets of strings.
 ghost use Rattle.std.specs.Prelude.{◌≡◌, [], option_map, option_and_then, string_bytes, IfOk};
 ghost use Rattle.serde_json.specs.View.{view};
-ghost use Rattle.oci_text_base.specs.Classes.{until};
+ghost use Rattle.oci_base.specs.Classes.{until};
 ghost use Rattle.oci_rules.specs.Parts as parts;
 ghost use Rattle.oci_rules.specs.Tables.{texts_of, ways_of, key_of as key_for};
 

@@ -3,7 +3,7 @@ ghost use Rattle.std.specs.Prelude.{◌≡◌, [], length, option_map};
 ghost use Rattle.serde_json.specs.Events.{items_len, members_len};
 ghost use Rattle.serde_json.specs.Find.{as_array, as_object, as_str};
 ghost use Rattle.serde_json.specs.View.{view, items_view};
-ghost use Rattle.oci_json_model.specs.Means.{as_whole};
+ghost use Rattle.oci_model.specs.Means.{as_whole};
 ghost use Rattle.oci_rules.specs.Decided.{has as does_have};
 ghost use Rattle.oci_rules.specs.Parts as parts;
 ghost use Rattle.oci_rules.specs.Tables.{texts_of};

@@ -2,7 +2,7 @@
 ghost use Rattle.std.specs.Prelude.{◌≡◌, IfOk, string_bytes};
 ghost use Rattle.std.specs.List.{list_any};
 ghost use Rattle.serde_json.specs.View.{view, items_view};
-ghost use Rattle.oci_rule_texts.specs.Tests.{is_of};
+ghost use Rattle.oci_grammars.specs.Tests.{is_of};
 ghost use Rattle.oci_rules.specs.Decided.{has as does_have, is_passed, begins_with as does_begin, is_at_most, is_sum_at_most, some_item, has_text_under as does_have_text};
 ghost use Rattle.oci_rules.specs.Listed.{shown_at};
 ghost use Rattle.oci_rules.specs.Tables.{texts_of, test_of};
@@ -10,7 +10,7 @@ ghost use Rattle.oci_rules.specs.Tables.{texts_of, test_of};
 use crate::conditions::{has_text, is_among, is_in};
 use crate::parts::{extent, has, natural_at, text_at, whole, whole_at};
 use crate::rule::Test;
-use oci_rule_texts::Grammar;
+use oci_grammars::Grammar;
 use oci_schema::place::under_name;
 use serde_json::Value;
 use std::alloc::{AllocError, Global};

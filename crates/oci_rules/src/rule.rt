@@ -1,5 +1,5 @@
 //! Rules as values.
-use oci_rule_texts::Grammar;
+use oci_grammars::Grammar;
 
 /// How strongly a specification asks (RFC 2119).
 #[derive(Clone, Copy)]

@@ -1,6 +1,6 @@
 //! Rules and what breaks them, for people.
 use crate::rule::{Broken, Level, Rule};
-use oci_escape::Escaped;
+use oci_base::Escaped;
 use std::fmt;
 
 impl fmt::Display for Level {

@@ -2,15 +2,15 @@
 //! (runtime specification, "Configuration").
 #![tactic(auto)]
 
+pub mod spec;
 pub mod spec_builder;
 pub mod versions;
 
 pub use oci_runtime_records::{
-    ContainerProcessState, ContainerProcessStateBuilder, ContainerState, Hook, HookBuilder, Hooks,
-    HooksBuilder, Mount, MountBuilder, Root, RootBuilder, SECCOMP_FD_NAME, State, StateBuilder,
-    get_default_mounts, get_rootless_mounts,
+    Answer, ContainerProcessState, ContainerProcessStateBuilder, ContainerState, Hook, HookBuilder,
+    Hooks, HooksBuilder, Mount, MountBuilder, Root, RootBuilder, SECCOMP_FD_NAME, State,
+    StateBuilder, get_default_mounts, get_rootless_mounts,
 };
-pub use oci_runtime_root::Answer;
-pub use oci_runtime_spec::Spec;
+pub use spec::{Spec, bare};
 pub use spec_builder::SpecBuilder;
 pub use versions::{VERSION, VERSION_DEV, VERSION_MAJOR, VERSION_MINOR, VERSION_PATCH, version};

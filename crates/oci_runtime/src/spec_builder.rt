@@ -2,14 +2,13 @@
 //! The builder of `Spec`.
 ghost use Rattle.std.specs.Prelude.{◌≡◌, IfOk, IfErr};
 
-use oci_json_model::{try_join2, try_join3};
-use oci_linux::Linux;
-use oci_linux_records::LinuxIdMapping;
+use crate::{Spec, bare};
+use oci_base::{OciSpecError, Result};
+use oci_linux::{Linux, LinuxIdMapping};
+use oci_model::{try_join2, try_join3};
 use oci_platforms::{Solaris, VM, Windows, ZOS};
 use oci_process::Process;
 use oci_runtime_records::{Hooks, Mount, Root, get_default_mounts, text_of};
-use oci_runtime_spec::{Spec, bare};
-use oci_text_base::{OciSpecError, Result};
 use std::alloc::Global;
 use std::collections::BTreeMap;
 
@@ -35,10 +34,10 @@ pub struct SpecBuilder {
 
 impl SpecBuilder {
     ghost use Rattle.std.specs.Prelude.{Some, unwrap_or, option_map, codes};
-    ghost use Rattle.oci_json_model.specs.Plain as plain;
-    ghost use Rattle.oci_json_model.specs.Plain.{filled};
+    ghost use Rattle.oci_model.specs.Plain as plain;
+    ghost use Rattle.oci_model.specs.Plain.{filled};
     ghost use Rattle.oci_runtime_records.specs.DefaultMounts.{default_mounts};
-    ghost use Rattle.oci_json_model.specs.Types.{perhaps, text_plain, list_plain, map_plain};
+    ghost use Rattle.oci_model.specs.Types.{perhaps, text_plain, list_plain, map_plain};
     ghost use Rattle.oci_runtime_records.specs.Root.{root_plain, default_root};
     ghost use Rattle.oci_runtime_records.specs.Mount.{mount_plain};
     ghost use Rattle.oci_process.specs.Process.{process_plain, default_process};

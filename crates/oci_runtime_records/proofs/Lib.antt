@@ -1,1 +1,2 @@
+pub mod Canonicals
 pub mod Options

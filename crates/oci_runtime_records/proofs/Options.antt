@@ -1,8 +1,8 @@
 -- Options of a mount, where there are any.
 use Rattle.std.proofs.Common.{◌≡◌, List, [], ◌∷◌, true, false, length, map, refl, ne_eqb, arith}
 use Rattle.std.specs.Prelude.{◌==◌}
-use Rattle.oci_json_model.specs.Plain as plain
-use Rattle.oci_json_model.specs.Plain.{Plain, empty, filled, plains}
+use Rattle.oci_model.specs.Plain as plain
+use Rattle.oci_model.specs.Plain.{Plain, empty, filled, plains}
 use Rattle.oci_runtime_records.specs.DefaultMounts.{options_slot}
 
 pub no_options : {T : Type 0} (f : T → Plain) (ts : List T) → (length ts == 0) ≡ true → empty ≡ options_slot (map f ts)

@@ -3,10 +3,10 @@
 use Rattle.std.specs.Prelude.{[], ◌∷◌, pos, Option, String, Vec, ℤ}
 use Rattle.std.specs.Borrow.{Lends, MutBor, Fml}
 use Rattle.std.specs.declared.alloc.Global.{Global}
-use Rattle.oci_json_model.specs.Plain as plain
-use Rattle.oci_json_model.specs.Plain.{Plain, document, slots, empty, filled}
-use Rattle.oci_json_model.specs.Types.{given, perhaps, text_plain, integer_plain, list_plain}
-use Rattle.oci_json_model.specs.Lent.{text_row, option_row, list_row}
+use Rattle.oci_model.specs.Plain as plain
+use Rattle.oci_model.specs.Plain.{Plain, document, slots, empty, filled}
+use Rattle.oci_model.specs.Types.{given, perhaps, text_plain, integer_plain, list_plain}
+use Rattle.oci_model.specs.Lent.{text_row, option_row, list_row}
 use Rattle.std.specs.Borrow as borrow
 use Rattle.oci_shapes.specs.State.{default_state}
 use Rattle.oci_runtime_records.specs.State.{state_plain}

@@ -1,7 +1,7 @@
 -- Which mounts a container has by default (runtime specification, "Configuration", "Mounts"; "Linux Container Configuration", "Default Filesystems").
 use Rattle.std.specs.Prelude.{ℕ, List, [], ◌∷◌, map, codes}
-use Rattle.oci_json_model.specs.Plain as plain
-use Rattle.oci_json_model.specs.Plain.{Plain, Slot, document, slots, empty, filled, plains}
+use Rattle.oci_model.specs.Plain as plain
+use Rattle.oci_model.specs.Plain.{Plain, Slot, document, slots, empty, filled, plains}
 use Rattle.oci_runtime_records.specs.declared.defaults.MountRow.{MountRow}
 
 -- options, where there are any

@@ -3,9 +3,9 @@
 use Rattle.std.specs.Prelude.{[], ◌∷◌, Option, Vec}
 use Rattle.std.specs.Borrow.{Lends, MutBor, Fml}
 use Rattle.std.specs.declared.alloc.Global.{Global}
-use Rattle.oci_json_model.specs.Plain.{Plain, document, slots, empty}
-use Rattle.oci_json_model.specs.Types.{perhaps, list_plain}
-use Rattle.oci_json_model.specs.Lent.{option_row, list_row}
+use Rattle.oci_model.specs.Plain.{Plain, document, slots, empty}
+use Rattle.oci_model.specs.Types.{perhaps, list_plain}
+use Rattle.oci_model.specs.Lent.{option_row, list_row}
 use Rattle.oci_runtime_records.specs.Hook.{hook_plain}
 use Rattle.oci_runtime_records.specs.declared.hook.Hook.{Hook}
 use Rattle.oci_runtime_records.specs.contracts.hook.Hook as hook

@@ -3,13 +3,13 @@
 use Rattle.std.specs.Prelude.{[], ◌∷◌, Option, String, Vec}
 use Rattle.std.specs.Borrow.{Lends, MutBor, Fml}
 use Rattle.std.specs.declared.alloc.Global.{Global}
-use Rattle.oci_json_model.specs.Plain as plain
-use Rattle.oci_json_model.specs.Plain.{Plain, document, slots, empty, filled}
-use Rattle.oci_json_model.specs.Types.{given, perhaps, text_plain, list_plain}
-use Rattle.oci_json_model.specs.Lent.{text_row, option_row, list_row}
-use Rattle.oci_linux_records.specs.LinuxIdMapping.{linux_id_mapping_plain}
-use Rattle.oci_linux_records.specs.declared.linux_id_mapping.LinuxIdMapping.{LinuxIdMapping}
-use Rattle.oci_linux_records.specs.contracts.linux_id_mapping.LinuxIdMapping as linux_id_mapping
+use Rattle.oci_model.specs.Plain as plain
+use Rattle.oci_model.specs.Plain.{Plain, document, slots, empty, filled}
+use Rattle.oci_model.specs.Types.{given, perhaps, text_plain, list_plain}
+use Rattle.oci_model.specs.Lent.{text_row, option_row, list_row}
+use Rattle.oci_linux.specs.LinuxIdMapping.{linux_id_mapping_plain}
+use Rattle.oci_linux.specs.declared.linux_id_mapping.LinuxIdMapping.{LinuxIdMapping}
+use Rattle.oci_linux.specs.contracts.linux_id_mapping.LinuxIdMapping as linux_id_mapping
 use Rattle.oci_runtime_records.specs.declared.mount.Mount.{Mount}
 use Rattle.oci_runtime_records.specs.contracts.mount.Mount.{the_row}
 

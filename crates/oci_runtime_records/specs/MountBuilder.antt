@@ -1,7 +1,7 @@
 -- Which mounts the builder of `Mount` rejects (runtime specification, "Configuration", "Mounts", `uidMappings`: with them `gidMappings` have to be there).
 use Rattle.std.specs.Prelude.{ℕ, List, [], ◌∷◌, ◌&&◌, ◌||◌, Bool, true, false, not, Option, Some, None, codes, Vec, if◌then◌else◌}
 use Rattle.std.specs.declared.alloc.Global.{Global}
-use Rattle.oci_linux_records.specs.declared.linux_id_mapping.LinuxIdMapping.{LinuxIdMapping}
+use Rattle.oci_linux.specs.declared.linux_id_mapping.LinuxIdMapping.{LinuxIdMapping}
 use Rattle.oci_runtime_records.specs.declared.mount.MountBuilder.{MountBuilder}
 
 abbrev pub is_filled : List LinuxIdMapping → Bool

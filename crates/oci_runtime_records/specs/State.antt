@@ -4,12 +4,12 @@ use Rattle.std.specs.Prelude.{[], ◌∷◌, Option, String, ℤ}
 use Rattle.std.specs.Borrow.{Lends, MutBor, Fml}
 use Rattle.std.specs.declared.alloc.Global.{Global}
 use Rattle.std.specs.BTreeMap.{BTreeMap}
-use Rattle.oci_json_model.specs.Plain.{Plain, document, slots}
-use Rattle.oci_runtime_names.specs.ContainerState.{container_state_name}
-use Rattle.oci_runtime_names.specs.declared.container_state.ContainerState.{ContainerState}
-use Rattle.oci_runtime_names.specs.contracts.container_state.ContainerState as container_state
-use Rattle.oci_json_model.specs.Types.{given, perhaps, text_plain, integer_plain, variant_plain, map_plain}
-use Rattle.oci_json_model.specs.Lent.{text_row, option_row, map_row}
+use Rattle.oci_model.specs.Plain.{Plain, document, slots}
+use Rattle.oci_text.specs.ContainerState.{container_state_name}
+use Rattle.oci_text.specs.declared.container_state.ContainerState.{ContainerState}
+use Rattle.oci_text.specs.contracts.container_state.ContainerState as container_state
+use Rattle.oci_model.specs.Types.{given, perhaps, text_plain, integer_plain, variant_plain, map_plain}
+use Rattle.oci_model.specs.Lent.{text_row, option_row, map_row}
 use Rattle.std.specs.Borrow as borrow
 use Rattle.oci_runtime_records.specs.declared.state.State.{State}
 use Rattle.oci_runtime_records.specs.contracts.state.State.{the_row}

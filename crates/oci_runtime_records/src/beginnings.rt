@@ -1,6 +1,6 @@
 //! The version, root and mounts with which the configuration of a container begins.
 ghost use Rattle.std.specs.Prelude.{◌≡◌, IfOk, IfErr, codes, string_bytes};
-ghost use Rattle.oci_json_model.specs.Types.{list_plain};
+ghost use Rattle.oci_model.specs.Types.{list_plain};
 ghost use Rattle.oci_runtime_records.specs.Root.{root_plain, default_root};
 ghost use Rattle.oci_runtime_records.specs.Mount.{mount_plain};
 ghost use Rattle.oci_runtime_records.specs.DefaultMounts.{rootless_mounts};
@@ -9,8 +9,8 @@ use crate::defaults::get_rootless_mounts;
 use crate::mount::Mount;
 use crate::root::Root;
 use crate::texts::text_of;
-use oci_json_model::try_join3;
-use oci_text_base::{OciSpecError, Result};
+use oci_base::{OciSpecError, Result};
+use oci_model::try_join3;
 use std::alloc::Global;
 
 /// Those of a container that a user without privileges starts: the default version and root, and the rootless mounts.

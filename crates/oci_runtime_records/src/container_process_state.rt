@@ -4,11 +4,11 @@ ghost use Rattle.std.specs.Prelude.{◌≡◌, IfOk, IfErr};
 
 use crate::absent::DefaultState;
 use crate::state::State;
-use oci_json_model::{
-    ObjectWriter, OciMember, OciRecord, copy_optional, try_join4, write_optional, write_required,
+use oci_base::{OciSpecError, Result};
+use oci_model::{
+    Defaulted, ObjectWriter, OciMember, OciRecord, Optional, copy_optional, read5, try_join4,
+    write_optional, write_required,
 };
-use oci_json_readers::{Defaulted, Optional, read5};
-use oci_text_base::{OciSpecError, Result};
 use serde_json::Value;
 use std::alloc::Global;
 
@@ -186,9 +186,9 @@ impl ContainerProcessState {
 }
 
 impl OciRecord for ContainerProcessState {
-    ghost use Rattle.oci_json_members.specs.DefaultMembers.{default_list, default_name, default_number, default_text};
+    ghost use Rattle.oci_model.specs.DefaultMembers.{default_list, default_name, default_number, default_text};
     ghost use Rattle.oci_shapes.specs.DefaultState.{default_state_fits};
-    ghost use Rattle.oci_json_model.specs.Same.{same_document, same_more, same_last, same_given, same_perhaps, same_texts, same_lists, same_integers};
+    ghost use Rattle.oci_model.specs.Same.{same_document, same_more, same_last, same_given, same_perhaps, same_texts, same_lists, same_integers};
     ghost use Rattle.oci_shapes.specs.ContainerProcessState.{container_process_state};
     ghost use Rattle.oci_runtime_records.specs.ContainerProcessState.{container_process_state_plain};
     ghost use Rattle.oci_runtime_records.specs.contracts.state.StateOciRecord.TheImpl.Laws.{same-law as state_same};
@@ -276,8 +276,8 @@ pub struct ContainerProcessStateBuilder {
 
 impl ContainerProcessStateBuilder {
     ghost use Rattle.std.specs.Prelude.{Some, unwrap_or, option_map, pos, []};
-    ghost use Rattle.oci_json_model.specs.Plain as plain;
-    ghost use Rattle.oci_json_model.specs.Types.{text_plain, integer_plain, list_plain};
+    ghost use Rattle.oci_model.specs.Plain as plain;
+    ghost use Rattle.oci_model.specs.Types.{text_plain, integer_plain, list_plain};
     ghost use Rattle.oci_shapes.specs.State.{default_state};
     ghost use Rattle.oci_runtime_records.specs.State.{state_plain};
 

@@ -1,13 +1,13 @@
 //! Which mounts a container has by default (runtime specification, "Configuration", "Mounts"; "Linux Container
 //! Configuration", "Default Filesystems").
 ghost use Rattle.std.specs.Prelude.{◌≡◌, IfOk, IfErr, map};
-ghost use Rattle.oci_json_model.specs.Plain as plain;
-ghost use Rattle.oci_json_model.specs.Types.{list_plain};
+ghost use Rattle.oci_model.specs.Plain as plain;
+ghost use Rattle.oci_model.specs.Types.{list_plain};
 ghost use Rattle.oci_runtime_records.specs.Mount.{mount_plain};
 ghost use Rattle.oci_runtime_records.specs.DefaultMounts.{default_mounts, rootless_mounts, mount_of_row};
 
 use crate::mount::Mount;
-use oci_text_base::{OciSpecError, Result};
+use oci_base::{OciSpecError, Result};
 use std::alloc::Global;
 
 /// A mount without mappings, in a table.

@@ -2,11 +2,11 @@
 //! A program that is run at a turn of a container's life (runtime specification, "Configuration", "POSIX-platform Hooks").
 ghost use Rattle.std.specs.Prelude.{◌≡◌, IfOk, IfErr};
 
-use oci_json_model::{
-    ObjectWriter, OciMember, OciRecord, copy_optional, try_join3, write_optional, write_required,
+use oci_base::{OciSpecError, Result};
+use oci_model::{
+    ObjectWriter, OciMember, OciRecord, Optional, Required, copy_optional, read4, try_join3,
+    write_optional, write_required,
 };
-use oci_json_readers::{Optional, Required, read4};
-use oci_text_base::{OciSpecError, Result};
 use serde_json::Value;
 use std::alloc::Global;
 
@@ -155,7 +155,7 @@ impl Hook {
 }
 
 impl OciRecord for Hook {
-    ghost use Rattle.oci_json_model.specs.Same.{same_document, same_more, same_last, same_given, same_perhaps, same_texts, same_lists, same_integers};
+    ghost use Rattle.oci_model.specs.Same.{same_document, same_more, same_last, same_given, same_perhaps, same_texts, same_lists, same_integers};
     ghost use Rattle.oci_shapes.specs.Hook.{hook};
     ghost use Rattle.oci_runtime_records.specs.Hook.{hook_plain};
 
@@ -225,8 +225,8 @@ pub struct HookBuilder {
 
 impl HookBuilder {
     ghost use Rattle.std.specs.Prelude.{Some, unwrap_or, option_map, []};
-    ghost use Rattle.oci_json_model.specs.Plain as plain;
-    ghost use Rattle.oci_json_model.specs.Types.{text_plain};
+    ghost use Rattle.oci_model.specs.Plain as plain;
+    ghost use Rattle.oci_model.specs.Types.{text_plain};
 
     /// Sets `path`: the program. MUST be an absolute path; not checked here.
     pub fn path(mut self, path: String) -> Self

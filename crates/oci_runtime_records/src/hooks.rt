@@ -3,11 +3,10 @@
 ghost use Rattle.std.specs.Prelude.{◌≡◌, IfOk, IfErr};
 
 use crate::hook::Hook;
-use oci_json_model::{
-    ObjectWriter, OciRecord, copy_optional, try_join2, try_join3, write_optional,
+use oci_base::{OciSpecError, Result};
+use oci_model::{
+    ObjectWriter, OciRecord, Optional, copy_optional, read3, try_join2, try_join3, write_optional,
 };
-use oci_json_readers::{Optional, read3};
-use oci_text_base::{OciSpecError, Result};
 use serde_json::Value;
 use std::alloc::Global;
 
@@ -215,7 +214,7 @@ impl Hooks {
 }
 
 impl OciRecord for Hooks {
-    ghost use Rattle.oci_json_model.specs.Same.{same_document, same_more, same_last, same_perhaps, same_lists};
+    ghost use Rattle.oci_model.specs.Same.{same_document, same_more, same_last, same_perhaps, same_lists};
     ghost use Rattle.oci_shapes.specs.Hooks.{hooks};
     ghost use Rattle.oci_runtime_records.specs.Hooks.{hooks_plain};
     ghost use Rattle.oci_runtime_records.specs.contracts.hook.HookOciRecord.TheImpl.Laws.{same-law as hook_same};

@@ -4,6 +4,7 @@
 #![tactic(auto)]
 
 mod absent;
+pub mod answer;
 pub mod beginnings;
 pub mod container_process_state;
 mod defaults;
@@ -11,17 +12,20 @@ pub mod hook;
 pub mod hooks;
 pub mod mount;
 pub mod root;
+pub mod rootfs;
 pub mod state;
 pub mod texts;
 
+pub use answer::Answer;
 pub use beginnings::rootless_parts;
 pub use container_process_state::{ContainerProcessState, ContainerProcessStateBuilder};
 pub use defaults::{get_default_mounts, get_rootless_mounts};
 pub use hook::{Hook, HookBuilder};
 pub use hooks::{Hooks, HooksBuilder};
 pub use mount::{Mount, MountBuilder};
-pub use oci_runtime_names::ContainerState;
+pub use oci_text::ContainerState;
 pub use root::{Root, RootBuilder};
+pub use rootfs::canonicalize;
 pub use state::{State, StateBuilder};
 pub use texts::text_of;
 

@@ -5,13 +5,12 @@ ghost use Rattle.std.specs.Prelude.{◌≡◌, IfOk, IfErr};
 mod build;
 mod rows;
 
-use oci_json_model::{
-    ObjectWriter, OciMember, OciRecord, copy_optional, taken, try_join2, try_join3, write_optional,
-    write_required,
+use oci_base::{OciSpecError, Result};
+use oci_linux::LinuxIdMapping;
+use oci_model::{
+    ObjectWriter, OciMember, OciRecord, Optional, Required, copy_optional, read3, taken, try_join2,
+    try_join3, write_optional, write_required,
 };
-use oci_json_readers::{Optional, Required, read3};
-use oci_linux_records::LinuxIdMapping;
-use oci_text_base::{OciSpecError, Result};
 use serde_json::Value;
 use std::alloc::Global;
 
@@ -218,11 +217,11 @@ impl Mount {
 }
 
 impl OciRecord for Mount {
-    ghost use Rattle.oci_json_members.specs.DefaultMembers.{default_number};
-    ghost use Rattle.oci_json_model.specs.Same.{same_document, same_more, same_last, same_given, same_perhaps, same_texts, same_lists};
+    ghost use Rattle.oci_model.specs.DefaultMembers.{default_number};
+    ghost use Rattle.oci_model.specs.Same.{same_document, same_more, same_last, same_given, same_perhaps, same_texts, same_lists};
     ghost use Rattle.oci_shapes.specs.Mount.{mount};
     ghost use Rattle.oci_runtime_records.specs.Mount.{mount_plain};
-    ghost use Rattle.oci_linux_records.specs.contracts.linux_id_mapping.LinuxIdMappingOciRecord.TheImpl.Laws.{same-law as linux_id_mapping_same};
+    ghost use Rattle.oci_linux.specs.contracts.linux_id_mapping.LinuxIdMappingOciRecord.TheImpl.Laws.{same-law as linux_id_mapping_same};
 
     ghost shape = { mount };
 

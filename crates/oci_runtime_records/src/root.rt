@@ -2,9 +2,10 @@
 //! The root of a container's file system (runtime specification, "Configuration", "Root").
 ghost use Rattle.std.specs.Prelude.{◌≡◌, IfOk, IfErr};
 
-use oci_json_model::{ObjectWriter, OciMember, OciRecord, write_optional, write_required};
-use oci_json_readers::{Defaulted, Optional, read2};
-use oci_text_base::{OciSpecError, Result};
+use oci_base::{OciSpecError, Result};
+use oci_model::{
+    Defaulted, ObjectWriter, OciMember, OciRecord, Optional, read2, write_optional, write_required,
+};
 use serde_json::Value;
 use std::alloc::Global;
 
@@ -81,8 +82,8 @@ impl Root {
 }
 
 impl OciRecord for Root {
-    ghost use Rattle.oci_json_members.specs.DefaultMembers.{default_text};
-    ghost use Rattle.oci_json_model.specs.Same.{same_document, same_more, same_last, same_given, same_perhaps, same_texts, same_truths};
+    ghost use Rattle.oci_model.specs.DefaultMembers.{default_text};
+    ghost use Rattle.oci_model.specs.Same.{same_document, same_more, same_last, same_given, same_perhaps, same_texts, same_truths};
     ghost use Rattle.oci_shapes.specs.Root.{root};
     ghost use Rattle.oci_runtime_records.specs.Root.{root_plain};
 
@@ -127,9 +128,9 @@ pub struct RootBuilder {
 
 impl RootBuilder {
     ghost use Rattle.std.specs.Prelude.{Some, unwrap_or, option_map, codes, true};
-    ghost use Rattle.oci_json_model.specs.Plain as plain;
-    ghost use Rattle.oci_json_model.specs.Plain.{filled};
-    ghost use Rattle.oci_json_model.specs.Types.{perhaps, text_plain, truth_plain};
+    ghost use Rattle.oci_model.specs.Plain as plain;
+    ghost use Rattle.oci_model.specs.Plain.{filled};
+    ghost use Rattle.oci_model.specs.Types.{perhaps, text_plain, truth_plain};
 
     /// Sets `path`: the path of the root file system, where a directory MUST exist: absolute or relative to the bundle, SHOULD be `rootfs`,
     /// and on Windows MUST be a volume GUID path. REQUIRED; absent, it is read as empty. Not checked here.

@@ -4,13 +4,12 @@ ghost use Rattle.std.specs.Prelude.{◌≡◌, IfOk, IfErr};
 
 mod files;
 
-use oci_json_model::{
-    ObjectWriter, OciMember, OciRecord, copy_optional, try_join2, try_join4, write_optional,
-    write_required,
+use oci_base::{OciSpecError, Result};
+use oci_model::{
+    Defaulted, ObjectWriter, OciMember, OciRecord, Optional, copy_optional, read3, try_join2,
+    try_join4, write_optional, write_required,
 };
-use oci_json_readers::{Defaulted, Optional, read3};
-use oci_runtime_names::ContainerState;
-use oci_text_base::{OciSpecError, Result};
+use oci_text::ContainerState;
 use serde_json::Value;
 use std::alloc::Global;
 use std::collections::BTreeMap;
@@ -218,9 +217,9 @@ impl State {
 }
 
 impl OciRecord for State {
-    ghost use Rattle.oci_runtime_names.specs.ContainerState.{container_state_same};
-    ghost use Rattle.oci_json_members.specs.DefaultMembers.{default_name, default_text};
-    ghost use Rattle.oci_json_model.specs.Same.{same_document, same_more, same_last, same_given, same_perhaps, same_texts, same_maps, same_integers, same_variants};
+    ghost use Rattle.oci_text.specs.ContainerState.{container_state_same};
+    ghost use Rattle.oci_model.specs.DefaultMembers.{default_name, default_text};
+    ghost use Rattle.oci_model.specs.Same.{same_document, same_more, same_last, same_given, same_perhaps, same_texts, same_maps, same_integers, same_variants};
     ghost use Rattle.oci_shapes.specs.State.{state};
     ghost use Rattle.oci_runtime_records.specs.State.{state_plain};
 
@@ -309,9 +308,9 @@ pub struct StateBuilder {
 
 impl StateBuilder {
     ghost use Rattle.std.specs.Prelude.{Some, unwrap_or, option_map, []};
-    ghost use Rattle.oci_json_model.specs.Plain as plain;
-    ghost use Rattle.oci_json_model.specs.Types.{text_plain, variant_plain};
-    ghost use Rattle.oci_runtime_names.specs.ContainerState.{container_state_name, container_state_default};
+    ghost use Rattle.oci_model.specs.Plain as plain;
+    ghost use Rattle.oci_model.specs.Types.{text_plain, variant_plain};
+    ghost use Rattle.oci_text.specs.ContainerState.{container_state_name, container_state_default};
 
     /// Sets `version`: the version of the runtime specification with which the state complies. REQUIRED; absent, it is read as empty.
     pub fn version(mut self, version: String) -> Self

@@ -7,19 +7,19 @@ use Rattle.serde_json.specs.Read.{read}
 use Rattle.serde_json.specs.Written.{has_float, members_have_float, compact_text}
 use Rattle.serde_json.specs.View.{view}
 use Rattle.serde_json.specs.declared.value.Value.{Value}
-use Rattle.oci_text_base.specs.Refused.{IsSchema}
-use Rattle.oci_text_base.specs.declared.error.OciSpecError.{OciSpecError}
-use Rattle.oci_text_base.specs.CpuList.{IsCpuList}
-use Rattle.oci_json_model.specs.Plain as plain
-use Rattle.oci_json_model.specs.Plain.{Plain, Plains, no_plains, Entries, no_entries, entry, Slot, empty, filled, Slots, no_slots, slot, text_of, free_of}
-use Rattle.oci_json_model.specs.Shape as shape
-use Rattle.oci_json_model.specs.Shape.{Presence, required, defaulted, optional, nullable, unless_empty, Shape, text, truth, whole, named, open_name, digest_text, cpu_text, cap_set, list, key_set, detail, free_map, rows, Rows, no_rows, row}
-use Rattle.oci_json_model.specs.Fits.{Each, EachEntry, IfFilled}
-use Rattle.oci_json_model.specs.Means.{Means, MeansRows, MeansEither, MeansMember, EachMeans, EachEntryMeans, IsThere, IsThereOr, is_object, get_second, unless_null}
-use Rattle.oci_json_model.specs.Refused.{IsRefused}
-use Rattle.oci_json_model.specs.Value.{value, free_members}
-use Rattle.oci_json_model.specs.WellFormed.{WellFormed, AreWellFormed, MemberIsWellFormed}
-use Rattle.oci_json_model.specs.Writable.{Writable, AreWritable}
+use Rattle.oci_base.specs.Refused.{IsSchema}
+use Rattle.oci_base.specs.declared.error.OciSpecError.{OciSpecError}
+use Rattle.oci_base.specs.CpuList.{IsCpuList}
+use Rattle.oci_model.specs.Plain as plain
+use Rattle.oci_model.specs.Plain.{Plain, Plains, no_plains, Entries, no_entries, entry, Slot, empty, filled, Slots, no_slots, slot, text_of, free_of}
+use Rattle.oci_model.specs.Shape as shape
+use Rattle.oci_model.specs.Shape.{Presence, required, defaulted, optional, nullable, unless_empty, Shape, text, truth, whole, named, open_name, digest_text, cpu_text, cap_set, list, key_set, detail, free_map, rows, Rows, no_rows, row}
+use Rattle.oci_model.specs.Fits.{Each, EachEntry, IfFilled}
+use Rattle.oci_model.specs.Means.{Means, MeansRows, MeansEither, MeansMember, EachMeans, EachEntryMeans, IsThere, IsThereOr, is_object, get_second, unless_null}
+use Rattle.oci_model.specs.Refused.{IsRefused}
+use Rattle.oci_model.specs.Value.{value, free_members}
+use Rattle.oci_model.specs.WellFormed.{WellFormed, AreWellFormed, MemberIsWellFormed}
+use Rattle.oci_model.specs.Writable.{Writable, AreWritable}
 use Rattle.oci_schema.specs.Allows.{allows, each_allowed, each_member_allowed, items_allowed, members_allowed, member_allowed, either_allowed}
 use Rattle.oci_schema.specs.Normalized.{IsSound, HasNoNormalForm, is_kept, accepts, rows_accept, normalized}
 use Rattle.oci_schema.proofs.Decides.{first_of, later_of, meant, allowed}

@@ -5,14 +5,14 @@ use lib.Signed.{le_z_yes}
 use Rattle.serde_json.specs.Data.{Data, null, boolean, number, string, array, object, Items, no_items, item, Members, no_members, member}
 use Rattle.serde_json.specs.Find.{as_bool, as_str, as_array, as_object, as_null, get}
 use Rattle.serde_json.specs.Written.{has_float, members_have_float, compact_text}
-use Rattle.oci_text_base.specs.Names.{is_listed}
-use Rattle.oci_json_model.specs.Plain as plain
-use Rattle.oci_json_model.specs.Plain.{Plain, Plains, no_plains, Entries, no_entries, entry, Slot, empty, filled, Slots, no_slots, slot}
-use Rattle.oci_json_model.specs.Shape as shape
-use Rattle.oci_json_model.specs.Shape.{Presence, required, defaulted, optional, nullable, unless_empty, Shape, text, truth, whole, named, open_name, digest_text, cpu_text, cap_set, list, key_set, detail, free_map, rows, Rows, no_rows, row}
-use Rattle.oci_json_model.specs.Means.{Means, MeansRows, MeansEither, MeansMember, EachMeans, EachEntryMeans, IsThere, IsThereOr, is_object, get_second, unless_null, as_whole, opened, member_names, free_values, AreObjects, IsCapability, AreCapabilities, SomeIs, IsSetOf}
-use Rattle.oci_runtime_names.specs.CpuScan.{is_cpu_text}
-use Rattle.oci_runtime_names.proofs.CpuLists.{cpu_list_decides}
+use Rattle.oci_base.specs.Names.{is_listed}
+use Rattle.oci_model.specs.Plain as plain
+use Rattle.oci_model.specs.Plain.{Plain, Plains, no_plains, Entries, no_entries, entry, Slot, empty, filled, Slots, no_slots, slot}
+use Rattle.oci_model.specs.Shape as shape
+use Rattle.oci_model.specs.Shape.{Presence, required, defaulted, optional, nullable, unless_empty, Shape, text, truth, whole, named, open_name, digest_text, cpu_text, cap_set, list, key_set, detail, free_map, rows, Rows, no_rows, row}
+use Rattle.oci_model.specs.Means.{Means, MeansRows, MeansEither, MeansMember, EachMeans, EachEntryMeans, IsThere, IsThereOr, is_object, get_second, unless_null, as_whole, opened, member_names, free_values, AreObjects, IsCapability, AreCapabilities, SomeIs, IsSetOf}
+use Rattle.oci_text.specs.CpuScan.{is_cpu_text}
+use Rattle.oci_text.proofs.CpuLists.{cpu_list_decides}
 use Rattle.oci_schema.specs.Allows.{allows, rows_allow, each_allowed, items_allowed, each_member_allowed, members_allowed, text_allowed, names_capability, is_in_range, are_free, member_allowed, either_allowed, is_digest_text, is_spelled, is_capability, item_is, some_is, set_in}
 use Rattle.oci_schema.proofs.Texts.{digest_decides, capability_decides, spelled_decides}
 

@@ -5,12 +5,12 @@ use Rattle.serde_json.specs.Data.{Data, boolean, string, array, no_items}
 use Rattle.serde_json.specs.View.{view}
 use Rattle.serde_json.specs.declared.value.Value.{Value, the_lemmas}
 use Rattle.serde_json.specs.declared.value.Value.TheVariants as json
-use Rattle.oci_json_model.specs.Fits.{Fits}
-use Rattle.oci_json_model.specs.Plain as plain
-use Rattle.oci_json_model.specs.Plain.{Plain}
-use Rattle.oci_json_model.specs.Shape as shape
-use Rattle.oci_json_model.specs.Shape.{Shape, text, truth, whole, named, open_name, digest_text, cpu_text, cap_set, list, key_set, detail, free_map, rows}
-use Rattle.oci_json_model.specs.Value.{value}
+use Rattle.oci_model.specs.Fits.{Fits}
+use Rattle.oci_model.specs.Plain as plain
+use Rattle.oci_model.specs.Plain.{Plain}
+use Rattle.oci_model.specs.Shape as shape
+use Rattle.oci_model.specs.Shape.{Shape, text, truth, whole, named, open_name, digest_text, cpu_text, cap_set, list, key_set, detail, free_map, rows}
+use Rattle.oci_model.specs.Value.{value}
 
 variant_value : (s : Shape) (t : List ℕ) → Fits s (plain.variant t) → value s (plain.variant t) ≡ string t
 variant_value text t h = let k = h.1 in cc

@@ -3,10 +3,10 @@ use Rattle.std.proofs.Common.{◌≡◌, ℕ, ◌+◌, List, [], ◌∷◌, ◌+
 use Rattle.std.specs.Prelude.{◌↔◌}
 use Rattle.serde_json.specs.Data.{Data, Items, no_items, item, Members, no_members, member}
 use Rattle.serde_json.specs.Find.{as_array, as_object, as_null, get}
-use Rattle.oci_json_model.specs.Plain.{Plain}
-use Rattle.oci_json_model.specs.Means.{Means, is_object, get_second}
-use Rattle.oci_json_model.specs.Shape as shape
-use Rattle.oci_json_model.specs.Shape.{Presence, required, defaulted, optional, nullable, unless_empty, Shape, text, truth, whole, named, open_name, digest_text, cpu_text, cap_set, list, key_set, detail, free_map, rows, Rows, no_rows, row}
+use Rattle.oci_model.specs.Plain.{Plain}
+use Rattle.oci_model.specs.Means.{Means, is_object, get_second}
+use Rattle.oci_model.specs.Shape as shape
+use Rattle.oci_model.specs.Shape.{Presence, required, defaulted, optional, nullable, unless_empty, Shape, text, truth, whole, named, open_name, digest_text, cpu_text, cap_set, list, key_set, detail, free_map, rows, Rows, no_rows, row}
 use Rattle.oci_schema.specs.Allows.{allows, rows_allow, each_allowed, items_allowed, each_member_allowed, members_allowed, member_allowed, either_allowed}
 use Rattle.oci_schema.specs.Places.{under_name, under_index}
 use Rattle.oci_schema.specs.Violations.{Report, unless, each_violations, items_violations, each_member_violations, members_violations, member_violations, either_violations, row_violations, violations, rows_violations}

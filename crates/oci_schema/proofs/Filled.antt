@@ -1,17 +1,17 @@
 -- Default records, member by member.
 use Rattle.std.proofs.Common.{◌≡◌, ℕ, zero, suc, ◌+◌, ◌<◌, ◌≤◌, List, [], ◌∷◌, length, drop, map, slice_index_or, Option, None, sym, ap, ◌∙◌, subst, arith}
 use Rattle.serde_json.specs.Data.{Members, no_members}
-use Rattle.oci_json_model.specs.Fits.{Fits, FitsRows, FitsMember, IfFilled}
-use Rattle.oci_json_model.specs.Plain.{no_slots, slots}
-use Rattle.oci_json_model.specs.Shape.{Shape}
-use Rattle.oci_json_model.specs.Value.{value, with_member, member_value, with_rows}
-use Rattle.oci_json_model.specs.WellFormed.{WellFormed, AreWellFormed, MemberIsWellFormed}
-use Rattle.oci_json_model.specs.Writable.{Writable, AreWritable}
-use Rattle.oci_schema_types.specs.Shapes.{presence_of, default_slot, members_in, schema_shape}
-use Rattle.oci_schema_types.specs.declared.scalar.DefaultValue.{DefaultValue}
+use Rattle.oci_model.specs.Fits.{Fits, FitsRows, FitsMember, IfFilled}
+use Rattle.oci_model.specs.Plain.{no_slots, slots}
+use Rattle.oci_model.specs.Shape.{Shape}
+use Rattle.oci_model.specs.Value.{value, with_member, member_value, with_rows}
+use Rattle.oci_model.specs.WellFormed.{WellFormed, AreWellFormed, MemberIsWellFormed}
+use Rattle.oci_model.specs.Writable.{Writable, AreWritable}
+use Rattle.oci_schema.specs.Shapes.{presence_of, default_slot, members_in, schema_shape}
+use Rattle.oci_schema.specs.declared.presence.DefaultValue.{DefaultValue}
 use Rattle.oci_schema.proofs.Listed.{drop_at}
 use Rattle.oci_schema.proofs.Moved.{past}
-use Rattle.oci_schema_types.specs.declared.record.Member.{Member}
+use Rattle.oci_schema.specs.declared.record.Member.{Member}
 
 module _ (f : ℕ → Shape) where
   -- some members are written, and the others are still to be

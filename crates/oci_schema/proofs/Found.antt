@@ -5,8 +5,8 @@ use Rattle.std.proofs.lemmas.List.Elements.{All-contains_itself}
 use Rattle.serde_json.specs.Data.{Data, null, boolean, number, string, array, object}
 use Rattle.serde_json.specs.Find.{get, get_member, step, walk, pointer}
 use Rattle.serde_json.proofs.Paths.{walk_part, walk_last}
-use Rattle.oci_json_model.specs.Means.{is_object}
-use Rattle.oci_json_model.specs.Shape.{Shape}
+use Rattle.oci_model.specs.Means.{is_object}
+use Rattle.oci_model.specs.Shape.{Shape}
 use Rattle.oci_schema.specs.Leads.{Step, to_member, spelled, Goes, IsOrderly}
 use Rattle.oci_schema.specs.Places.{escaped, under_name}
 use Rattle.oci_schema.specs.Violations.{Expectation, a_value, a_member, no_alias, violations}

@@ -2,7 +2,7 @@
 use Rattle.std.proofs.Common.{◌≡◌, ap, ◌∙◌, sym, Bool, true, Option, Some, None, Result, Ok, Err}
 use Rattle.std.specs.Prelude.{OnOk}
 use Rattle.serde_json.specs.Data.{Data}
-use Rattle.oci_json_model.specs.Shape.{Presence}
+use Rattle.oci_model.specs.Shape.{Presence}
 use Rattle.oci_schema.specs.Allows.{member_allowed, either_allowed}
 use Rattle.oci_schema.specs.Normalized.{chosen, is_one_there}
 

@@ -5,11 +5,11 @@ use Rattle.serde_json.specs.Data.{Data, null, boolean, number, string, array, ob
 use Rattle.serde_json.specs.Find.{as_null}
 use Rattle.serde_json.specs.View.{view}
 use Rattle.serde_json.specs.declared.value.Value.{Value}
-use Rattle.oci_text_base.specs.Refused.{IsSchema}
-use Rattle.oci_text_base.specs.declared.error.OciSpecError.{OciSpecError}
-use Rattle.oci_json_model.specs.Means.{unless_null}
-use Rattle.oci_json_model.specs.Plain.{Plain}
-use Rattle.oci_json_model.specs.Shape.{Presence, required, defaulted, optional, nullable, unless_empty}
+use Rattle.oci_base.specs.Refused.{IsSchema}
+use Rattle.oci_base.specs.declared.error.OciSpecError.{OciSpecError}
+use Rattle.oci_model.specs.Means.{unless_null}
+use Rattle.oci_model.specs.Plain.{Plain}
+use Rattle.oci_model.specs.Shape.{Presence, required, defaulted, optional, nullable, unless_empty}
 use Rattle.oci_schema.specs.Allows.{member_allowed}
 use Rattle.oci_schema.specs.Normalized.{normalized_member, unless_no_items}
 use Rattle.oci_schema.specs.Given.{given, written}

@@ -2,9 +2,9 @@
 use Rattle.std.proofs.Common.{◌≡◌, ◌≤◌, Option, Some, None, sym, subst, arith}
 use Rattle.std.specs.Prelude.{option_and_then}
 use Rattle.serde_json.specs.Data.{Data, null, boolean, number, string, array, object}
-use Rattle.oci_json_model.specs.Means.{unless_null}
-use Rattle.oci_json_model.specs.Shape.{Presence, required, defaulted, optional, nullable, unless_empty}
-use Rattle.oci_json_model.specs.Sizes.{size, found_size}
+use Rattle.oci_model.specs.Means.{unless_null}
+use Rattle.oci_model.specs.Shape.{Presence, required, defaulted, optional, nullable, unless_empty}
+use Rattle.oci_model.specs.Sizes.{size, found_size}
 use Rattle.oci_schema.specs.Given.{given}
 
 null_smaller : (d : Data) → found_size (unless_null d) ≤ size d

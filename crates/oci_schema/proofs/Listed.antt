@@ -2,9 +2,9 @@
 use Rattle.std.proofs.Common.{◌≡◌, ℕ, zero, suc, ◌+◌, ◌<◌, List, [], ◌∷◌, length, drop, map, slice_index_or, refl, sym, ap, ◌∙◌, arith}
 use Rattle.std.specs.Prelude.{◌↔◌}
 use Rattle.serde_json.specs.Data.{Data}
-use Rattle.oci_json_model.specs.Plain.{Plain}
-use Rattle.oci_json_model.specs.Means.{Means}
-use Rattle.oci_json_model.specs.Shape.{Shape}
+use Rattle.oci_model.specs.Plain.{Plain}
+use Rattle.oci_model.specs.Means.{Means}
+use Rattle.oci_model.specs.Shape.{Shape}
 use Rattle.oci_schema.specs.Violations.{reported, violations}
 use Rattle.oci_schema.specs.declared.violation.Violation.{Violation}
 use Rattle.oci_schema.proofs.Empty.{none_is_meant}

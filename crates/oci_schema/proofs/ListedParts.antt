@@ -4,9 +4,9 @@ use Rattle.std.proofs.lemmas.List.{append-nil}
 use Rattle.serde_json.specs.Data.{Data, item, Members, member}
 use Rattle.serde_json.specs.View.{view, items_view}
 use Rattle.serde_json.specs.declared.value.Value.{Value}
-use Rattle.oci_json_model.specs.Shape.{Shape}
-use Rattle.oci_schema_types.specs.Shapes.{members_in}
-use Rattle.oci_schema_types.specs.declared.record.Member.{Member}
+use Rattle.oci_model.specs.Shape.{Shape}
+use Rattle.oci_schema.specs.Shapes.{members_in}
+use Rattle.oci_schema.specs.declared.record.Member.{Member}
 use Rattle.oci_schema.specs.Places.{under_index, under_name}
 use Rattle.oci_schema.specs.Violations.{Report, each_violations, each_member_violations, rows_violations, known_violations}
 use Rattle.oci_schema.proofs.Moved.{past}

@@ -2,8 +2,8 @@
 use Rattle.std.proofs.Common.{◌≡◌, ℕ, List, ◌∷◌, Bool, true, false, ◌||◌, Option, Some, None, bytes_eq, refl}
 use Rattle.std.specs.Prelude.{not}
 use Rattle.std.proofs.lemmas.Slice.Eq.{bytes_eq-Decides}
-use Rattle.oci_text_base.specs.Names.{is_listed, no_text_twice}
-use Rattle.oci_json_model.specs.Shape.{with_second}
+use Rattle.oci_base.specs.Names.{is_listed, no_text_twice}
+use Rattle.oci_model.specs.Shape.{with_second}
 use Rattle.oci_schema.proofs.Decides.{later_of}
 
 pub or_right : (a b : Bool) → b ≡ true → (a || b) ≡ true

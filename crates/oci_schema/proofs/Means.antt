@@ -3,15 +3,15 @@ use Rattle.std.proofs.Common.{◌≡◌, ℕ, List, Option, Some, None, Result, 
 use Rattle.serde_json.specs.Data.{Data}
 use Rattle.serde_json.specs.View.{view}
 use Rattle.serde_json.specs.declared.value.Value.{Value}
-use Rattle.oci_json_model.specs.Plain.{Plain}
-use Rattle.oci_json_model.specs.Shape.{Shape}
-use Rattle.oci_json_model.specs.Means.{Means}
-use Rattle.oci_json_model.specs.Value.{value}
-use Rattle.oci_json_model.specs.Writable.{Writable}
-use Rattle.oci_text_base.specs.Refused.{IsIo}
-use Rattle.oci_text_base.specs.declared.error.OciSpecError.{OciSpecError}
-use Rattle.oci_text_base.specs.declared.error.OciSpecError.TheVariants.{Other, Io, SerDe, Builder, Memory}
-use Rattle.oci_json_io.specs.Engines.{MeansBytes, ReadsAs, IsNotNormalized, AppendsSome}
+use Rattle.oci_model.specs.Plain.{Plain}
+use Rattle.oci_model.specs.Shape.{Shape}
+use Rattle.oci_model.specs.Means.{Means}
+use Rattle.oci_model.specs.Value.{value}
+use Rattle.oci_model.specs.Writable.{Writable}
+use Rattle.oci_base.specs.Refused.{IsIo}
+use Rattle.oci_base.specs.declared.error.OciSpecError.{OciSpecError}
+use Rattle.oci_base.specs.declared.error.OciSpecError.TheVariants.{Other, Io, SerDe, Builder, Memory}
+use Rattle.oci_json.specs.Engines.{MeansBytes, ReadsAs, IsNotNormalized, AppendsSome}
 use Rattle.oci_schema.specs.Normalizes.{Normalizes}
 use Rattle.oci_schema.specs.Normalized.{HasNoNormalForm}
 

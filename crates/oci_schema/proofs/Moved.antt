@@ -4,15 +4,15 @@ use Rattle.std.specs.Prelude.{not}
 use Rattle.std.proofs.lemmas.Slice.Eq.{bytes_eq-Decides}
 use Rattle.serde_json.specs.Data.{Data, object, Members, no_members}
 use Rattle.serde_json.specs.Find.{get, get_member}
-use Rattle.oci_text_base.specs.Names.{is_listed, no_text_twice}
-use Rattle.oci_json_model.specs.Means.{get_second}
-use Rattle.oci_json_model.specs.Shape.{Presence, Shape, Rows, row, names, with_second}
-use Rattle.oci_json_model.specs.Value.{value, with_member}
-use Rattle.oci_json_model.specs.WellFormed.{AreWellFormed}
+use Rattle.oci_base.specs.Names.{is_listed, no_text_twice}
+use Rattle.oci_model.specs.Means.{get_second}
+use Rattle.oci_model.specs.Shape.{Presence, Shape, Rows, row, names, with_second}
+use Rattle.oci_model.specs.Value.{value, with_member}
+use Rattle.oci_model.specs.WellFormed.{AreWellFormed}
 use Rattle.oci_schema.specs.Allows.{either_allowed}
 use Rattle.oci_schema.specs.Normalized.{accepts, rows_accept, known_accepted, chosen, normalized_member, normalized, normalized_rows, known_normalized, is_one_of}
-use Rattle.oci_schema_types.specs.Shapes.{presence_of, alias_of, schema_shape, members_in}
-use Rattle.oci_schema_types.specs.declared.record.Member.{Member}
+use Rattle.oci_schema.specs.Shapes.{presence_of, alias_of, schema_shape, members_in}
+use Rattle.oci_schema.specs.declared.record.Member.{Member}
 use Rattle.oci_schema.proofs.Decides.{first_of, later_of, refuted}
 use Rattle.oci_schema.proofs.Listings.{or_right, listed_first, later_listed, rest_once}
 use Rattle.oci_schema.proofs.Listed.{drop_at}

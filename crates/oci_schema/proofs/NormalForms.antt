@@ -5,15 +5,15 @@ use Rattle.serde_json.specs.Data.{Data, null, boolean, number, string, array, ob
 use Rattle.serde_json.specs.Find.{as_bool, as_str, as_null, get, of_integer}
 use Rattle.serde_json.specs.Read.{read}
 use Rattle.serde_json.specs.Written.{compact_text}
-use Rattle.oci_text_base.specs.Names.{is_listed}
-use Rattle.oci_json_model.specs.Plain as plain
-use Rattle.oci_json_model.specs.Plain.{Plain, Plains, no_plains, Entries, no_entries, entry, Slot, empty, filled, Slots, no_slots, slot, text_of, set_of, list_of, map_of, document_of}
-use Rattle.oci_json_model.specs.Shape as shape
-use Rattle.oci_json_model.specs.Shape.{Presence, required, defaulted, optional, nullable, unless_empty, Shape, text, truth, whole, named, open_name, digest_text, cpu_text, cap_set, list, key_set, detail, free_map, rows, Rows, no_rows, row}
-use Rattle.oci_json_model.specs.Fits.{Each, EachEntry, IfFilled}
-use Rattle.oci_json_model.specs.Means.{Means, MeansRows, MeansEither, MeansMember, EachMeans, EachEntryMeans, IsThere, IsThereOr, get_second, unless_null, free_values, IsSetOf}
-use Rattle.oci_json_model.specs.Value.{value, capability_texts, each_value, each_entry_value, free_members, member_value, with_member, with_rows}
-use Rattle.oci_json_model.specs.Writable.{Writable, AreWritable}
+use Rattle.oci_base.specs.Names.{is_listed}
+use Rattle.oci_model.specs.Plain as plain
+use Rattle.oci_model.specs.Plain.{Plain, Plains, no_plains, Entries, no_entries, entry, Slot, empty, filled, Slots, no_slots, slot, text_of, set_of, list_of, map_of, document_of}
+use Rattle.oci_model.specs.Shape as shape
+use Rattle.oci_model.specs.Shape.{Presence, required, defaulted, optional, nullable, unless_empty, Shape, text, truth, whole, named, open_name, digest_text, cpu_text, cap_set, list, key_set, detail, free_map, rows, Rows, no_rows, row}
+use Rattle.oci_model.specs.Fits.{Each, EachEntry, IfFilled}
+use Rattle.oci_model.specs.Means.{Means, MeansRows, MeansEither, MeansMember, EachMeans, EachEntryMeans, IsThere, IsThereOr, get_second, unless_null, free_values, IsSetOf}
+use Rattle.oci_model.specs.Value.{value, capability_texts, each_value, each_entry_value, free_members, member_value, with_member, with_rows}
+use Rattle.oci_model.specs.Writable.{Writable, AreWritable}
 use Rattle.oci_schema.specs.Allows.{each_allowed, each_member_allowed, items_allowed, members_allowed, member_allowed, either_allowed, set_in, some_is}
 use Rattle.oci_schema.specs.Normalized.{is_kept, accepts, rows_accept, array_items, each_normalized, each_member_normalized, chosen, unless_absent, unless_no_items, normalized_member, normalized, normalized_rows}
 use Rattle.oci_schema.proofs.Decides.{both, allowed, some_decides}

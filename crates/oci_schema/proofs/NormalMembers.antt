@@ -10,10 +10,10 @@ use Rattle.std.proofs.lemmas.Slice.Eq.{bytes_eq-Decides}
 use Rattle.serde_json.specs.Data.{Data, object, Members, no_members, member, put}
 use Rattle.serde_json.specs.Find.{get_member}
 use Rattle.serde_json.proofs.Views.{get_member-put, get_member-put_other}
-use Rattle.oci_text_base.specs.Names.{is_listed, no_text_twice}
-use Rattle.oci_json_model.specs.Means.{get_second}
-use Rattle.oci_json_model.specs.Shape.{Presence, required, defaulted, optional, nullable, unless_empty, Shape, Rows, no_rows, row, names, with_second}
-use Rattle.oci_json_model.specs.Value.{value, with_member}
+use Rattle.oci_base.specs.Names.{is_listed, no_text_twice}
+use Rattle.oci_model.specs.Means.{get_second}
+use Rattle.oci_model.specs.Shape.{Presence, required, defaulted, optional, nullable, unless_empty, Shape, Rows, no_rows, row, names, with_second}
+use Rattle.oci_model.specs.Value.{value, with_member}
 use Rattle.oci_json.specs.Readable.{IsBefore, IsInOrder}
 use Rattle.oci_json.proofs.Trees.{before_rest, put_in_order}
 use Rattle.oci_schema.specs.Allows.{member_allowed, either_allowed}

@@ -14,10 +14,10 @@ use Rattle.serde_json.specs.Written.{compact_text}
 use Rattle.serde_json.specs.View.{view, items_view, members_view}
 use Rattle.serde_json.specs.declared.value.Value.{Value}
 use Rattle.serde_json.proofs.Views.{Entry, view-lookup}
-use Rattle.oci_json_model.specs.Means.{is_object, member_names}
-use Rattle.oci_json_model.specs.Shape as shape
-use Rattle.oci_json_model.specs.Shape.{Shape, key_set, detail}
-use Rattle.oci_json_model.specs.Value.{with_text, sorted, empty_objects, is_empty_array}
+use Rattle.oci_model.specs.Means.{is_object, member_names}
+use Rattle.oci_model.specs.Shape as shape
+use Rattle.oci_model.specs.Shape.{Shape, key_set, detail}
+use Rattle.oci_model.specs.Value.{with_text, sorted, empty_objects, is_empty_array}
 use Rattle.oci_json.specs.Readable.{IsBefore, IsInOrder}
 use Rattle.oci_json.proofs.ReadAgain.{compact_read}
 use Rattle.oci_schema.specs.Allows.{allows, each_member_allowed}

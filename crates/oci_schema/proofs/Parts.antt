@@ -12,13 +12,13 @@ use Rattle.serde_json.specs.Data.{Data, Items, no_items, item, member, put}
 use Rattle.serde_json.specs.View.{view, items_view, members_view}
 use Rattle.serde_json.specs.declared.value.Value.{Value}
 use Rattle.serde_json.proofs.Views.{Entry}
-use Rattle.oci_json_model.specs.Means.{Means}
-use Rattle.oci_json_model.specs.Plain.{Plain}
-use Rattle.oci_json_model.specs.Refused.{IsRefused}
-use Rattle.oci_json_model.specs.Shape.{Shape, detail}
-use Rattle.oci_json_model.specs.Value.{value}
-use Rattle.oci_json_model.specs.Writable.{Writable}
-use Rattle.oci_json_model.proofs.Writers.{inserted}
+use Rattle.oci_model.specs.Means.{Means}
+use Rattle.oci_model.specs.Plain.{Plain}
+use Rattle.oci_model.specs.Refused.{IsRefused}
+use Rattle.oci_model.specs.Shape.{Shape, detail}
+use Rattle.oci_model.specs.Value.{value}
+use Rattle.oci_model.specs.Writable.{Writable}
+use Rattle.oci_model.proofs.Writers.{inserted}
 use Rattle.oci_schema.specs.Allows.{allows, each_allowed}
 use Rattle.oci_schema.specs.Normalized.{accepts, normalized, each_normalized, each_member_normalized}
 use Rattle.oci_schema.proofs.Decides.{meant}

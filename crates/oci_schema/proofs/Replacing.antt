@@ -1,7 +1,7 @@
 -- Marks that are replaced, one by one.
 use Rattle.std.proofs.Common.{◌≡◌, ◌≢◌, ℕ, suc, ◌+◌, ◌<◌, drop, IsUtf8, subst, List, [], ◌∷◌, ◌++◌, length, get_or, refl, sym, ap, ◌∙◌, append_assoc, length-append, eq-eqb, ne_eqb, arith}
 use Rattle.std.proofs.lemmas.Str.{IsUtf8-drop, IsCharBoundary-after_ascii}
-use Rattle.oci_text_base.proofs.Lacks.{Lacks, lacks_from}
+use Rattle.oci_base.proofs.Lacks.{Lacks, lacks_from}
 use Rattle.oci_schema.specs.Places.{replaced}
 
 pub replaced_none : (mark : ℕ) (by t : List ℕ) → Lacks mark t → replaced mark by t ≡ t

@@ -6,7 +6,7 @@ use Rattle.std.specs.declared.cmp.Ordering.TheVariants.{Less, Equal, Greater}
 use Rattle.std.specs.Cmp.Lexicographic.{slice_cmp}
 use Rattle.serde_json.specs.Data.{Data, null, boolean, number, string, array, object, Items, Members, no_members, member}
 use Rattle.serde_json.specs.Find.{get, get_member, as_array, as_object}
-use Rattle.oci_json_model.specs.Sizes.{size, items_size, members_size, found_size}
+use Rattle.oci_model.specs.Sizes.{size, items_size, members_size, found_size}
 
 one_of : (o : Ordering) (a b c : Option Data) (n : ℕ) → found_size a ≤ n → found_size b ≤ n → found_size c ≤ n → found_size (match_ordering o a b c) ≤ n
 one_of Less a b c n x y z = x

@@ -3,10 +3,10 @@ use Rattle.std.proofs.Common.{◌≡◌, ℕ, zero, suc, ◌+◌, ◌-◌, ◌<�
 use Rattle.serde_json.specs.Data.{Data, array, object, Items, item, Members}
 use Rattle.serde_json.specs.View.{view, items_view}
 use Rattle.serde_json.specs.declared.value.Value.{Value}
-use Rattle.oci_json_model.specs.Shape.{Shape}
-use Rattle.oci_json_model.specs.WellFormed.{AreWellFormed}
-use Rattle.oci_schema_types.specs.Shapes.{presence_of, schema_shape, members_in}
-use Rattle.oci_schema_types.specs.declared.record.Member.{Member}
+use Rattle.oci_model.specs.Shape.{Shape}
+use Rattle.oci_model.specs.WellFormed.{AreWellFormed}
+use Rattle.oci_schema.specs.Shapes.{presence_of, schema_shape, members_in}
+use Rattle.oci_schema.specs.declared.record.Member.{Member}
 use Rattle.oci_schema.specs.Normal.{IsNormal, AreNormal, IsNormalMember, IsNormalEntry}
 use Rattle.oci_schema.specs.Normalized.{normalized, each_normalized}
 use Rattle.oci_schema.specs.Plain.{IsPlain, ArePlain, HoldPlain}

@@ -4,13 +4,13 @@ use Rattle.std.specs.Prelude.{◌↔◌, IsTrue, IfSome, IfNone, map}
 use Rattle.std.specs.List.{list_any}
 use Rattle.std.proofs.lemmas.Slice.Eq.{bytes_eq-Decides}
 use Rattle.std.proofs.lemmas.List.{length-map}
-use Rattle.oci_text_base.specs.Capabilities.{ascii_upper, cap, repeated, CapText}
-use Rattle.oci_text_base.specs.CpuList.{IsCpuList}
-use Rattle.oci_text_base.specs.Digest.{IsDigestText, digest_refusal}
-use Rattle.oci_text_base.specs.Names.{is_listed}
+use Rattle.oci_base.specs.Capabilities.{ascii_upper, cap, repeated, CapText}
+use Rattle.oci_base.specs.CpuList.{IsCpuList}
+use Rattle.oci_base.specs.Digest.{IsDigestText, digest_refusal}
+use Rattle.oci_base.specs.Names.{is_listed}
 use Rattle.oci_text.proofs.Refusals.{digest_refused}
-use Rattle.oci_runtime_names.specs.CpuScan.{is_cpu_text}
-use Rattle.oci_runtime_names.proofs.CpuLists.{cpu_list_decides}
+use Rattle.oci_text.specs.CpuScan.{is_cpu_text}
+use Rattle.oci_text.proofs.CpuLists.{cpu_list_decides}
 use Rattle.oci_schema.specs.Allows.{is_digest_text, any_up_to, is_spelled, is_capability}
 
 -- two computations that decide one thing are one

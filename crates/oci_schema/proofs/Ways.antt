@@ -7,7 +7,7 @@ use Rattle.std.proofs.lemmas.List.Elements.{All-contains_itself}
 use Rattle.std.proofs.lemmas.Map.Lookups.{exact_bytes}
 use Rattle.serde_json.specs.Data.{Data, null, boolean, number, string, array, object, Members, no_members, member}
 use Rattle.serde_json.specs.Find.{get, get_member}
-use Rattle.oci_json_model.specs.Shape.{Shape}
+use Rattle.oci_model.specs.Shape.{Shape}
 use Rattle.oci_schema.specs.Leads.{Step, to_member, to_item, spelled, Have, HasMember, Goes, LeadsTo, HoldsAt, IsSo}
 use Rattle.oci_schema.specs.Places.{under_name, under_index}
 use Rattle.oci_schema.specs.Violations.{Expectation, Report, a_value, a_member, no_alias, violations}

@@ -5,15 +5,15 @@ use Rattle.std.specs.Prelude as std
 use Rattle.serde_json.specs.Data.{Data, Items, no_items, item, Members, no_members, member}
 use Rattle.serde_json.specs.Find.{as_bool, as_str, as_array, as_object, as_null, get}
 use Rattle.serde_json.specs.Written.{has_float, members_have_float}
-use Rattle.oci_text_base.specs.Capabilities.{ascii_upper, cap, repeated}
-use Rattle.oci_text_base.specs.Digest.{digest_refusal}
-use Rattle.oci_text_base.specs.Names.{is_listed}
-use Rattle.oci_json_model.specs.Means.{as_whole, is_object, get_second}
-use Rattle.oci_json_model.specs.Shape.{Presence, required, defaulted, optional, nullable, unless_empty, Shape, text, truth, whole, named, open_name, digest_text, cpu_text, cap_set, list, key_set, detail, free_map, rows, Rows, no_rows, row}
-use Rattle.oci_json_model.specs.Shape as shape
-use Rattle.oci_runtime_names.specs.CpuScan.{is_cpu_text}
-use Rattle.oci_schema_types.specs.Shapes.{schema_shape, presence_of, alias_of}
-use Rattle.oci_schema_types.specs.declared.record.Member.{Member}
+use Rattle.oci_base.specs.Capabilities.{ascii_upper, cap, repeated}
+use Rattle.oci_base.specs.Digest.{digest_refusal}
+use Rattle.oci_base.specs.Names.{is_listed}
+use Rattle.oci_model.specs.Means.{as_whole, is_object, get_second}
+use Rattle.oci_model.specs.Shape.{Presence, required, defaulted, optional, nullable, unless_empty, Shape, text, truth, whole, named, open_name, digest_text, cpu_text, cap_set, list, key_set, detail, free_map, rows, Rows, no_rows, row}
+use Rattle.oci_model.specs.Shape as shape
+use Rattle.oci_text.specs.CpuScan.{is_cpu_text}
+use Rattle.oci_schema.specs.Shapes.{schema_shape, presence_of, alias_of}
+use Rattle.oci_schema.specs.declared.record.Member.{Member}
 
 -- ---- strings
 

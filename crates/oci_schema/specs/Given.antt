@@ -1,8 +1,8 @@
 -- The value of a member as it is found, and as it is written.
 use Rattle.std.specs.Prelude.{Bool, true, false, Option, Some, option_and_then}
 use Rattle.serde_json.specs.Data.{Data}
-use Rattle.oci_json_model.specs.Means.{unless_null}
-use Rattle.oci_json_model.specs.Shape.{Presence, required, defaulted, optional, nullable, unless_empty}
+use Rattle.oci_model.specs.Means.{unless_null}
+use Rattle.oci_model.specs.Shape.{Presence, required, defaulted, optional, nullable, unless_empty}
 use Rattle.oci_schema.specs.Normalized.{unless_no_items}
 
 -- whether null counts as absent

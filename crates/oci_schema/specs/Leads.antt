@@ -3,7 +3,7 @@ use Rattle.std.specs.Prelude.{◌≡◌, ◌≤◌, ◌^◌, ◌⊎◌, ⊤, ℕ
 use Rattle.serde_json.specs.Data.{Data, null, boolean, number, string, array, object, Items, no_items, item, Members, no_members, member}
 use Rattle.serde_json.specs.Events.{items_len}
 use Rattle.serde_json.specs.Find.{as_array, as_object, get, get_item}
-use Rattle.oci_json_model.specs.Means.{is_object}
+use Rattle.oci_model.specs.Means.{is_object}
 use Rattle.oci_json.specs.Readable.{IsInOrder}
 use Rattle.oci_schema.specs.Places.{under_name, under_index}
 use Rattle.oci_schema.specs.Violations.{Expectation, is_of_kind, a_value, a_member, no_alias, Report}

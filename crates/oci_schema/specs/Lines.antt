@@ -1,8 +1,8 @@
 -- The line of a violation: its JSON pointer, escaped, since names of members are a stranger's, and what is expected there.
 use Rattle.std.specs.Prelude.{ℕ, List, ◌++◌, codes}
 use Rattle.std.specs.List.{flat_map}
-use Rattle.oci_escape.specs.Escaped.{escaped}
-use Rattle.oci_schema_types.specs.Texts.{shape_text}
+use Rattle.oci_base.specs.Escaped.{escaped}
+use Rattle.oci_schema.specs.Texts.{shape_text}
 use Rattle.oci_schema.specs.Violations.{ValueKind, a_scalar, an_array, an_object, Expectation, a_value, a_member, no_alias, Report}
 
 abbrev pub kind_text : ValueKind → List ℕ

@@ -2,8 +2,8 @@
 use Rattle.std.specs.Prelude.{◌≡◌, ◌⊎◌, ⊤, ℕ, List, Bool, true, false, Some, is_some}
 use Rattle.serde_json.specs.Data.{Data, object, Items, Members, no_members, member}
 use Rattle.serde_json.specs.Find.{get_member}
-use Rattle.oci_json_model.specs.Shape.{Presence, required, defaulted, optional, nullable, unless_empty, Shape, Rows, no_rows, row}
-use Rattle.oci_json_model.specs.Value.{value}
+use Rattle.oci_model.specs.Shape.{Presence, required, defaulted, optional, nullable, unless_empty, Shape, Rows, no_rows, row}
+use Rattle.oci_model.specs.Value.{value}
 use Rattle.oci_schema.specs.Allows.{each_allowed, each_member_allowed, member_allowed}
 use Rattle.oci_schema.specs.Normalized.{accepts, rows_accept, normalized, each_normalized, each_member_normalized, normalized_member, normalized_rows}
 

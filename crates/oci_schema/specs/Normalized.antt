@@ -4,17 +4,17 @@ use Rattle.serde_json.specs.Data.{Data, null, number, array, object, Items, no_i
 use Rattle.serde_json.specs.Find.{as_array, as_object, of_integer, get}
 use Rattle.serde_json.specs.Read.{read}
 use Rattle.serde_json.specs.Written.{has_float, compact_text}
-use Rattle.oci_json_model.specs.Means.{Means, as_whole, get_second, member_names, unless_null}
-use Rattle.oci_json_model.specs.Plain.{Plain}
-use Rattle.oci_json_model.specs.Refused.{IsRefused}
-use Rattle.oci_json_model.specs.WellFormed.{WellFormed, MemberIsWellFormed}
-use Rattle.oci_json_model.specs.Writable.{Writable}
-use Rattle.oci_json_model.specs.Shape.{Presence, required, defaulted, optional, nullable, unless_empty, Shape, text, truth, whole, named, open_name, digest_text, cpu_text, cap_set, list, key_set, detail, free_map, rows, Rows, no_rows, row}
-use Rattle.oci_json_model.specs.Shape as shape
-use Rattle.oci_json_model.specs.Value.{value, capability_texts, sorted, empty_objects, with_member, is_empty_array}
+use Rattle.oci_model.specs.Means.{Means, as_whole, get_second, member_names, unless_null}
+use Rattle.oci_model.specs.Plain.{Plain}
+use Rattle.oci_model.specs.Refused.{IsRefused}
+use Rattle.oci_model.specs.WellFormed.{WellFormed, MemberIsWellFormed}
+use Rattle.oci_model.specs.Writable.{Writable}
+use Rattle.oci_model.specs.Shape.{Presence, required, defaulted, optional, nullable, unless_empty, Shape, text, truth, whole, named, open_name, digest_text, cpu_text, cap_set, list, key_set, detail, free_map, rows, Rows, no_rows, row}
+use Rattle.oci_model.specs.Shape as shape
+use Rattle.oci_model.specs.Value.{value, capability_texts, sorted, empty_objects, with_member, is_empty_array}
 use Rattle.oci_schema.specs.Allows.{allows_by, rows_allow_by, detail_allowed, set_in, either_allowed}
-use Rattle.oci_schema_types.specs.Shapes.{presence_of, alias_of, schema_shape}
-use Rattle.oci_schema_types.specs.declared.record.Member.{Member}
+use Rattle.oci_schema.specs.Shapes.{presence_of, alias_of, schema_shape}
+use Rattle.oci_schema.specs.declared.record.Member.{Member}
 
 -- ---- which values have a normal form
 

@@ -1,12 +1,12 @@
 -- What a call promises that reads a document and writes its normal form.
 use Rattle.std.specs.Prelude.{ℕ, List, Option, Result, ◌⊎◌, IfErr, IfSome, OnOk}
 use Rattle.std.specs.Io.KnownBytes.{Appends, Keeps}
-use Rattle.oci_text_base.specs.Refused.{IsSchema, IsJson, IsMemorySerDeOrIo, IsIo}
-use Rattle.oci_text_base.specs.declared.error.OciSpecError.{OciSpecError}
-use Rattle.oci_json_model.specs.Plain.{Plain}
-use Rattle.oci_json_model.specs.Shape.{Shape}
-use Rattle.oci_json_model.specs.Value.{value}
-use Rattle.oci_json_io.specs.Engines.{AppendsSome, KeepsUnlessIo, IsNotNormalized, IsNoJson, MeansBytes, IsPretty}
+use Rattle.oci_base.specs.Refused.{IsSchema, IsJson, IsMemorySerDeOrIo, IsIo}
+use Rattle.oci_base.specs.declared.error.OciSpecError.{OciSpecError}
+use Rattle.oci_model.specs.Plain.{Plain}
+use Rattle.oci_model.specs.Shape.{Shape}
+use Rattle.oci_model.specs.Value.{value}
+use Rattle.oci_json.specs.Engines.{AppendsSome, KeepsUnlessIo, IsNotNormalized, IsNoJson, MeansBytes, IsPretty}
 
 -- `Writes F`: the text of the document that the input decodes to is one of which F holds; `old` and `new` are what the writer
 -- held before and holds after, where they are known

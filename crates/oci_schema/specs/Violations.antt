@@ -2,13 +2,13 @@
 use Rattle.std.specs.Prelude.{ℕ, ◌+◌, List, [], ◌∷◌, ◌++◌, Bool, if◌then◌else◌, Option, Some, None, is_some, string_bytes}
 use Rattle.serde_json.specs.Data.{Data, Items, no_items, item, Members, no_members, member}
 use Rattle.serde_json.specs.Find.{as_array, as_object, as_null, get}
-use Rattle.oci_json_model.specs.Means.{is_object}
-use Rattle.oci_json_model.specs.Shape.{Presence, required, defaulted, optional, nullable, unless_empty, Shape, text, truth, whole, named, open_name, digest_text, cpu_text, cap_set, list, key_set, detail, free_map, rows, Rows, no_rows, row}
-use Rattle.oci_json_model.specs.Shape as shape
+use Rattle.oci_model.specs.Means.{is_object}
+use Rattle.oci_model.specs.Shape.{Presence, required, defaulted, optional, nullable, unless_empty, Shape, text, truth, whole, named, open_name, digest_text, cpu_text, cap_set, list, key_set, detail, free_map, rows, Rows, no_rows, row}
+use Rattle.oci_model.specs.Shape as shape
 use Rattle.oci_schema.specs.Allows.{allows}
 use Rattle.oci_schema.specs.Places.{under_name, under_index}
-use Rattle.oci_schema_types.specs.Shapes.{scalar_shape, schema_shape, presence_of, alias_of}
-use Rattle.oci_schema_types.specs.declared.record.Member.{Member}
+use Rattle.oci_schema.specs.Shapes.{scalar_shape, schema_shape, presence_of, alias_of}
+use Rattle.oci_schema.specs.declared.record.Member.{Member}
 use Rattle.oci_schema.specs.declared.violation.Kind.{Kind}
 use Rattle.oci_schema.specs.declared.violation.Kind.TheVariants as kind
 use Rattle.oci_schema.specs.declared.violation.Violation.{Violation}

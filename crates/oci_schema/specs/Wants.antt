@@ -2,9 +2,9 @@
 use Rattle.std.specs.Prelude.{◌≡◌, ◌⊎◌, ℕ, List, [], ◌∷◌, Bool, true, false, ◌&&◌, Option, Some, None, is_some}
 use Rattle.serde_json.specs.Data.{Data}
 use Rattle.serde_json.specs.Find.{as_null, get, pointer}
-use Rattle.oci_json_model.specs.Means.{is_object, get_second}
-use Rattle.oci_json_model.specs.Shape as shape
-use Rattle.oci_json_model.specs.Shape.{Presence, required, Shape, list, rows, Rows, no_rows, row}
+use Rattle.oci_model.specs.Means.{is_object, get_second}
+use Rattle.oci_model.specs.Shape as shape
+use Rattle.oci_model.specs.Shape.{Presence, required, Shape, list, rows, Rows, no_rows, row}
 use Rattle.oci_schema.specs.Given.{may_be_null}
 use Rattle.oci_schema.specs.Leads.{Step, to_member, to_item, spelled, HasMember, HasItem}
 use Rattle.oci_schema.specs.Places.{under_name}

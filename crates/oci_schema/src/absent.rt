@@ -2,22 +2,21 @@
 ghost use Rattle.std.specs.Prelude.{◌≡◌, true, false, None, map, option_map, IfOk, IfErr, OnOk};
 ghost use Rattle.serde_json.specs.Data.{string, object, no_members};
 ghost use Rattle.serde_json.specs.View.{view, members_view};
-ghost use Rattle.oci_text_base.specs.Refused.{IsSchema, IsMemoryOrSchema};
-ghost use Rattle.oci_json_model.specs.Plain.{document, slots, text as plain_text, whole as plain_whole};
-ghost use Rattle.oci_json_model.specs.Fits.{Fits, FitsRows, FitsMember, IfFilled};
-ghost use Rattle.oci_json_model.specs.Value.{value as json_of, with_rows, with_member, member_value};
-ghost use Rattle.oci_json_model.specs.WellFormed.{WellFormed, AreWellFormed, MemberIsWellFormed};
-ghost use Rattle.oci_json_model.specs.Writable.{Writable, AreWritable};
-ghost use Rattle.oci_schema_types.specs.Shapes.{scalar_shape, presence_of, default_plain, default_slot, schema_shape, members_in};
+ghost use Rattle.oci_base.specs.Refused.{IsSchema, IsMemoryOrSchema};
+ghost use Rattle.oci_model.specs.Plain.{document, slots, text as plain_text, whole as plain_whole};
+ghost use Rattle.oci_model.specs.Fits.{Fits, FitsRows, FitsMember, IfFilled};
+ghost use Rattle.oci_model.specs.Value.{value as json_of, with_rows, with_member, member_value};
+ghost use Rattle.oci_model.specs.WellFormed.{WellFormed, AreWellFormed, MemberIsWellFormed};
+ghost use Rattle.oci_model.specs.Writable.{Writable, AreWritable};
+ghost use Rattle.oci_schema.specs.Shapes.{scalar_shape, presence_of, default_plain, default_slot, schema_shape, members_in};
 ghost use Rattle.oci_schema.specs.Allows.{member_allowed};
 ghost use Rattle.oci_schema.specs.Normalized.{IsSound, accepts, normalized, normalized_member};
 
 use crate::member::{put_member, written, written_for_none};
-use oci_json_members::OciKind;
-use oci_json_model::fault::refused;
-use oci_json_readers::Detail;
-use oci_schema_types::{DefaultValue, Member, Part, Presence, Records, Scalar, Schema};
-use oci_text_base::Result;
+use crate::{DefaultValue, Member, Part, Presence, Records, Scalar, Schema};
+use oci_base::Result;
+use oci_model::fault::refused;
+use oci_model::{Detail, OciKind};
 use serde_json::{Map, Number, Value};
 use std::alloc::Global;
 

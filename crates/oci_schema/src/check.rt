@@ -1,13 +1,13 @@
 //! Whether a schema allows a value.
 ghost use Rattle.std.specs.Prelude.{◌≡◌, ◌↔◌, true, option_map};
 ghost use Rattle.serde_json.specs.View.{view, items_view, members_view};
-ghost use Rattle.oci_json_model.specs.Plain.{Plain};
-ghost use Rattle.oci_json_model.specs.Means.{Means};
-ghost use Rattle.oci_schema_types.specs.Shapes.{part_shape, schema_shape, presence_of, members_in};
+ghost use Rattle.oci_model.specs.Plain.{Plain};
+ghost use Rattle.oci_model.specs.Means.{Means};
+ghost use Rattle.oci_schema.specs.Shapes.{part_shape, schema_shape, presence_of, members_in};
 ghost use Rattle.oci_schema.specs.Allows.{allows, rows_allow, known_allowed, member_allowed, each_allowed, each_member_allowed};
 
 use crate::scalar::scalar_allows;
-use oci_schema_types::{Member, Part, Presence, Records, Schema};
+use crate::{Member, Part, Presence, Records, Schema};
 use serde_json::{Map, Value};
 
 /// Whether the value is valid: whether it denotes content of the schema.

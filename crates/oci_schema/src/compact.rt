@@ -1,19 +1,19 @@
 //! The normal form of a document, as compact text.
 ghost use Rattle.std.specs.Prelude.{◌≡◌, IfOk, IfErr, IfSome, OnOk};
 ghost use Rattle.serde_json.specs.View.{view};
-ghost use Rattle.oci_text_base.specs.Refused.{IsSchema, IsJson, IsMemorySerDeOrIo};
-ghost use Rattle.oci_json_model.specs.Plain.{Plain};
-ghost use Rattle.oci_json_model.specs.Value.{value as json_of};
-ghost use Rattle.oci_json_model.specs.WellFormed.{WellFormed};
-ghost use Rattle.oci_json_model.specs.Writable.{Writable};
-ghost use Rattle.oci_json_io.specs.Engines.{MeansBytes, WritesDocument, ReadsBackDocument, IsNotNormalized, IsNoJson};
-ghost use Rattle.oci_schema_types.specs.Shapes.{schema_shape};
+ghost use Rattle.oci_base.specs.Refused.{IsSchema, IsJson, IsMemorySerDeOrIo};
+ghost use Rattle.oci_model.specs.Plain.{Plain};
+ghost use Rattle.oci_model.specs.Value.{value as json_of};
+ghost use Rattle.oci_model.specs.WellFormed.{WellFormed};
+ghost use Rattle.oci_model.specs.Writable.{Writable};
+ghost use Rattle.oci_json.specs.Engines.{MeansBytes, WritesDocument, ReadsBackDocument, IsNotNormalized, IsNoJson};
+ghost use Rattle.oci_schema.specs.Shapes.{schema_shape};
 ghost use Rattle.oci_schema.specs.Normalizes.{Normalizes};
 
 use crate::value::normalize_value;
-use oci_json_io::{value_from_reader, write_text};
-use oci_schema_types::{Records, Schema};
-use oci_text_base::Result;
+use crate::{Records, Schema};
+use oci_base::Result;
+use oci_json::{value_from_reader, write_text};
 use serde_json::Value;
 use std::alloc::Global;
 use std::io::{Read, Write};

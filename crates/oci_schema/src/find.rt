@@ -1,7 +1,7 @@
 //! All violations of a schema by a value.
 ghost use Rattle.std.specs.Prelude.{◌≡◌, ◌∷◌, ◌++◌, [], None, map, option_map, OnOk};
 ghost use Rattle.serde_json.specs.View.{view, items_view, members_view};
-ghost use Rattle.oci_schema_types.specs.Shapes.{scalar_shape, part_shape, schema_shape, presence_of, members_in};
+ghost use Rattle.oci_schema.specs.Shapes.{scalar_shape, part_shape, schema_shape, presence_of, members_in};
 ghost use Rattle.oci_schema.specs.Places.{under_name as under};
 ghost use Rattle.oci_schema.specs.Violations.{reported, violations as all_violations, each_violations, each_member_violations, rows_violations, known_violations, member_violations, expectation_of, value_kind, a_value, no_alias};
 
@@ -9,8 +9,7 @@ use crate::member::is_null_absent;
 use crate::place::{under_index, under_name};
 use crate::scalar::scalar_allows;
 use crate::violation::expected_kind;
-use crate::{Expected, Kind, Violation};
-use oci_schema_types::{Member, Part, Presence, Records, Scalar, Schema};
+use crate::{Expected, Kind, Member, Part, Presence, Records, Scalar, Schema, Violation};
 use serde_json::{Map, Value};
 use std::alloc::{AllocError, Global};
 

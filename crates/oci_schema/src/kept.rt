@@ -3,19 +3,19 @@ ghost use Rattle.std.specs.Prelude.{◌≡◌, IfSome, IsTrue, is_some};
 ghost use Rattle.serde_json.specs.Data.{number, object, no_members};
 ghost use Rattle.serde_json.specs.Find.{of_integer, get_member};
 ghost use Rattle.serde_json.specs.View.{view, items_view, members_view};
-ghost use Rattle.oci_text_base.specs.Names.{no_text_twice};
-ghost use Rattle.oci_json_model.specs.Means.{as_whole};
-ghost use Rattle.oci_json_model.specs.Shape.{names};
-ghost use Rattle.oci_json_model.specs.Value.{is_empty_array};
-ghost use Rattle.oci_json_model.specs.WellFormed.{WellFormed, AreWellFormed, MemberIsWellFormed};
+ghost use Rattle.oci_base.specs.Names.{no_text_twice};
+ghost use Rattle.oci_model.specs.Means.{as_whole};
+ghost use Rattle.oci_model.specs.Shape.{names};
+ghost use Rattle.oci_model.specs.Value.{is_empty_array};
+ghost use Rattle.oci_model.specs.WellFormed.{WellFormed, AreWellFormed, MemberIsWellFormed};
 ghost use Rattle.oci_json.specs.Readable.{IsInOrder};
-ghost use Rattle.oci_schema_types.specs.Shapes.{scalar_shape, part_shape, schema_shape, members_in, presence_of};
+ghost use Rattle.oci_schema.specs.Shapes.{scalar_shape, part_shape, schema_shape, members_in, presence_of};
 ghost use Rattle.oci_schema.specs.Normalized.{IsSound};
 ghost use Rattle.oci_schema.specs.Normal.{IsNormal, AreNormal, HoldNormal, AreNormalMembers, is_always_written as is_written, IsNormalMember, IsNormalEntry, AreNormalEntries, HasAll, AreEmptyObjects};
 
 use crate::plain::is_plain;
 use crate::scalar::scalar_allows;
-use oci_schema_types::{Member, Part, Presence, Records, Scalar, Schema};
+use crate::{Member, Part, Presence, Records, Scalar, Schema};
 use serde_json::{Map, Value};
 
 /// How deep a text nests at most.

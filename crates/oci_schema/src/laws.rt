@@ -6,7 +6,7 @@ ghost use Rattle.serde_json.specs.Events.{items_len};
 ghost use Rattle.serde_json.specs.Find.{pointer};
 ghost use Rattle.serde_json.specs.View.{view, items_view, members_view};
 ghost use Rattle.oci_json.specs.Readable.{IsInOrder};
-ghost use Rattle.oci_json_model.specs.Shape.{Shape};
+ghost use Rattle.oci_model.specs.Shape.{Shape};
 ghost use Rattle.oci_schema.specs.Leads.{IsSo, LeadsTo, IsOrderly, AreOrderly, HoldOrderly};
 ghost use Rattle.oci_schema.specs.Violations.{Report, violations};
 ghost use Rattle.oci_schema.specs.Wants.{IsViolation, Finds};

@@ -2,16 +2,15 @@
 ghost use Rattle.std.specs.Prelude.{◌≡◌, ◌↔◌, [], map, IfOk, string_bytes};
 ghost use Rattle.std.specs.List.{Contains};
 ghost use Rattle.serde_json.specs.View.{view};
-ghost use Rattle.oci_json_model.specs.Plain.{Plain};
-ghost use Rattle.oci_json_model.specs.Means.{Means};
-ghost use Rattle.oci_schema_types.specs.Shapes.{schema_shape};
+ghost use Rattle.oci_model.specs.Plain.{Plain};
+ghost use Rattle.oci_model.specs.Means.{Means};
+ghost use Rattle.oci_schema.specs.Shapes.{schema_shape};
 ghost use Rattle.oci_schema.specs.Lines.{lines};
 ghost use Rattle.oci_schema.specs.Violations.{Report, reported, violations as all_violations};
 ghost use Rattle.oci_schema.specs.Wants.{IsViolation};
 
-use crate::Violation;
 use crate::find::add_violations;
-use oci_schema_types::{Records, Schema};
+use crate::{Records, Schema, Violation};
 use serde_json::Value;
 use std::alloc::{AllocError, Global};
 

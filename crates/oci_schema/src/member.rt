@@ -1,16 +1,16 @@
 //! The value of a member as it is found, and as it is written.
 ghost use Rattle.std.specs.Prelude.{◌≡◌, option_map, option_and_then, IfErr, OnOk};
 ghost use Rattle.serde_json.specs.View.{view, members_view};
-ghost use Rattle.oci_text_base.specs.Refused.{IsSchema, IsMemoryOrSchema};
-ghost use Rattle.oci_json_model.specs.Means.{unless_null as without_null};
-ghost use Rattle.oci_json_model.specs.Plain.{empty};
-ghost use Rattle.oci_json_model.specs.Value.{with_member, member_value};
-ghost use Rattle.oci_schema_types.specs.Shapes.{presence_of};
+ghost use Rattle.oci_base.specs.Refused.{IsSchema, IsMemoryOrSchema};
+ghost use Rattle.oci_model.specs.Means.{unless_null as without_null};
+ghost use Rattle.oci_model.specs.Plain.{empty};
+ghost use Rattle.oci_model.specs.Value.{with_member, member_value};
+ghost use Rattle.oci_schema.specs.Shapes.{presence_of};
 ghost use Rattle.oci_schema.specs.Given.{may_be_null, given as what_is_given, written as what_is_written};
 
+use crate::Presence;
 use crate::normal::unless_no_items;
-use oci_schema_types::Presence;
-use oci_text_base::Result;
+use oci_base::Result;
 use serde_json::{Map, Value};
 use std::alloc::Global;
 
@@ -66,7 +66,7 @@ pub fn written_for_none(presence: &Presence) -> Option<Value>
 }
 
 /// Puts a member of this name into the object, if it has a value.
-#[tactic(auto, using(oci_json_model::proofs::Writers::inserted))]
+#[tactic(auto, using(oci_model::proofs::Writers::inserted))]
 pub fn put_member(
     members: &mut Map<String, Value>,
     name: &str,

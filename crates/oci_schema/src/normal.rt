@@ -3,21 +3,20 @@ ghost use Rattle.std.specs.Prelude.{◌≡◌, true, false, IfOk, IfErr, IfSome,
 ghost use Rattle.serde_json.specs.Data.{number};
 ghost use Rattle.serde_json.specs.Find.{of_integer};
 ghost use Rattle.serde_json.specs.View.{view};
-ghost use Rattle.oci_text_base.specs.Refused.{IsSchema, IsMemoryOrSchema};
-ghost use Rattle.oci_runtime_names.specs.Capability.{capability_table};
-ghost use Rattle.oci_json_model.specs.Shape.{cap_set, key_set, detail};
-ghost use Rattle.oci_json_model.specs.Means.{as_whole};
+ghost use Rattle.oci_base.specs.Refused.{IsSchema, IsMemoryOrSchema};
+ghost use Rattle.oci_text.specs.Capability.{capability_table};
+ghost use Rattle.oci_model.specs.Shape.{cap_set, key_set, detail};
+ghost use Rattle.oci_model.specs.Means.{as_whole};
 ghost use Rattle.oci_schema.specs.Normalized.{accepts, normalized, unless_no_items as without_empty};
-ghost use Rattle.oci_schema_types.specs.Shapes.{scalar_shape};
+ghost use Rattle.oci_schema.specs.Shapes.{scalar_shape};
 
+use crate::Scalar;
 use crate::kept::has_no_items;
 use crate::scalar::scalar_allows;
-use oci_json_members::{Keys, OciKind};
-use oci_json_model::fault::refused;
-use oci_json_readers::Detail;
-use oci_runtime_names::Caps;
-use oci_schema_types::Scalar;
-use oci_text_base::Result;
+use oci_base::Result;
+use oci_model::fault::refused;
+use oci_model::{Detail, Keys, OciKind};
+use oci_text::Caps;
 use serde_json::Value;
 use std::alloc::Global;
 

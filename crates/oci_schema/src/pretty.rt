@@ -1,12 +1,12 @@
 //! The normal form of a document, as pretty text.
-ghost use Rattle.oci_json_model.specs.WellFormed.{WellFormed};
-ghost use Rattle.oci_schema_types.specs.Shapes.{schema_shape};
+ghost use Rattle.oci_model.specs.WellFormed.{WellFormed};
+ghost use Rattle.oci_schema.specs.Shapes.{schema_shape};
 ghost use Rattle.oci_schema.specs.Normalizes.{Normalizes, WritesPretty};
 
 use crate::compact::normal_value_from_reader;
-use oci_json_io::write_text;
-use oci_schema_types::{Records, Schema};
-use oci_text_base::Result;
+use crate::{Records, Schema};
+use oci_base::Result;
+use oci_json::write_text;
 use std::alloc::Global;
 use std::io::{Read, Write};
 

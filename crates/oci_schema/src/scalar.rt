@@ -1,18 +1,17 @@
 //! Whether a scalar allows a value.
 ghost use Rattle.std.specs.Prelude.{◌≡◌};
 ghost use Rattle.serde_json.specs.View.{view, items_view, members_view};
-ghost use Rattle.oci_text_base.specs.Names.{is_listed};
-ghost use Rattle.oci_runtime_names.specs.Capability.{capability_table};
-ghost use Rattle.oci_json_model.specs.Means.{as_whole, is_object};
-ghost use Rattle.oci_runtime_names.specs.CpuScan.{is_cpu_text};
+ghost use Rattle.oci_base.specs.Names.{is_listed};
+ghost use Rattle.oci_text.specs.Capability.{capability_table};
+ghost use Rattle.oci_model.specs.Means.{as_whole, is_object};
+ghost use Rattle.oci_text.specs.CpuScan.{is_cpu_text};
 ghost use Rattle.oci_schema.specs.Allows.{allows, is_capability as is_of_table, is_digest_text, names_capability, each_allowed, each_member_allowed};
-ghost use Rattle.oci_schema_types.specs.Shapes.{scalar_shape, names_of};
+ghost use Rattle.oci_schema.specs.Shapes.{scalar_shape, names_of};
 
-use oci_json_model::JsonName;
-use oci_json_readers::number::{has_other_numbers, members_have_other_numbers};
-use oci_runtime_names::{Capability, is_cpu_list};
-use oci_schema_types::Scalar;
-use oci_text::is_digest;
+use crate::Scalar;
+use oci_model::JsonName;
+use oci_model::other_numbers::{has_other_numbers, members_have_other_numbers};
+use oci_text::{Capability, is_cpu_list, is_digest};
 use serde_json::{Map, Value};
 
 /// Whether the scalar allows the value.

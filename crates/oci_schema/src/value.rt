@@ -1,18 +1,18 @@
 //! The normal form of a value.
 ghost use Rattle.std.specs.Prelude.{◌≡◌, IfOk, IfErr};
 ghost use Rattle.serde_json.specs.View.{view};
-ghost use Rattle.oci_text_base.specs.Refused.{IsSchema, IsMemoryOrSchema};
-ghost use Rattle.oci_json_model.specs.Plain.{Plain};
-ghost use Rattle.oci_json_model.specs.Means.{Means};
-ghost use Rattle.oci_json_model.specs.Value.{value as json_of};
-ghost use Rattle.oci_json_model.specs.WellFormed.{WellFormed};
-ghost use Rattle.oci_json_model.specs.Writable.{Writable};
-ghost use Rattle.oci_schema_types.specs.Shapes.{schema_shape};
+ghost use Rattle.oci_base.specs.Refused.{IsSchema, IsMemoryOrSchema};
+ghost use Rattle.oci_model.specs.Plain.{Plain};
+ghost use Rattle.oci_model.specs.Means.{Means};
+ghost use Rattle.oci_model.specs.Value.{value as json_of};
+ghost use Rattle.oci_model.specs.WellFormed.{WellFormed};
+ghost use Rattle.oci_model.specs.Writable.{Writable};
+ghost use Rattle.oci_schema.specs.Shapes.{schema_shape};
 ghost use Rattle.oci_schema.specs.Normalized.{HasNoNormalForm};
 
 use crate::normal_value::normal_value;
-use oci_schema_types::{Records, Schema};
-use oci_text_base::Result;
+use crate::{Records, Schema};
+use oci_base::Result;
 use serde_json::Value;
 use std::alloc::Global;
 

@@ -1,10 +1,10 @@
 //! Violations of a schema by a value.
 ghost use Rattle.std.specs.Prelude.{◌≡◌};
-ghost use Rattle.oci_schema_types.specs.Shapes.{scalar_shape, part_shape, schema_shape};
+ghost use Rattle.oci_schema.specs.Shapes.{scalar_shape, part_shape, schema_shape};
 ghost use Rattle.oci_schema.specs.Violations.{kind_of, value_kind};
 
-use oci_escape::Escaped;
-use oci_schema_types::{Part, Records, Scalar, Schema};
+use crate::{Part, Records, Scalar, Schema};
+use oci_base::Escaped;
 use std::fmt;
 
 /// A kind of values. The items and members of a value have violations of their own.

@@ -21,6 +21,7 @@ pub mod image;
 pub mod image_descriptor;
 pub mod image_manifest;
 pub mod image_platform;
+pub mod kind;
 pub mod linux;
 pub mod linux_records;
 pub mod parts;
@@ -31,4 +32,5 @@ pub mod runtime_records;
 pub mod runtime_spec;
 pub mod table;
 
+pub use kind::Kind;
 pub use table::{OciRecords, oci_records, record_at};

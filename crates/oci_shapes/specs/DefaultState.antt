@@ -1,6 +1,6 @@
 -- The default state is a state (runtime specification, "The Container Process State", `state`).
 use Rattle.std.specs.Prelude.{[], refl}
-use Rattle.oci_json_model.specs.Fits.{Fits}
+use Rattle.oci_model.specs.Fits.{Fits}
 use Rattle.oci_shapes.specs.State.{state, default_state}
 
 pub default_state_fits : Fits state default_state

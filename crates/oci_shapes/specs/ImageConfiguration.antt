@@ -3,7 +3,7 @@
 use Rattle.std.specs.Prelude.{codes}
 use Rattle.oci_text.specs.Arch.{arches}
 use Rattle.oci_text.specs.Os.{oses}
-use Rattle.oci_json_model.specs.Shape.{Shape, rows, no_rows, listed, required, optional, text, open_name, list}
+use Rattle.oci_model.specs.Shape.{Shape, rows, no_rows, listed, required, optional, text, open_name, list}
 use Rattle.oci_shapes.specs.Config.{config}
 use Rattle.oci_shapes.specs.RootFs.{root_fs}
 use Rattle.oci_shapes.specs.History.{history}

@@ -2,8 +2,8 @@
 -- Manifests of one image for several platforms (image specification, "Image Index").
 use Rattle.std.specs.Prelude.{codes}
 use Rattle.oci_text.specs.MediaType.{media_types}
-use Rattle.oci_json_model.specs.Shape.{Shape, rows, no_rows, listed, required, optional, text, open_name, list, map}
-use Rattle.oci_json_model.specs.Types.{u32}
+use Rattle.oci_model.specs.Shape.{Shape, rows, no_rows, listed, required, optional, text, open_name, list, map}
+use Rattle.oci_model.specs.Types.{u32}
 use Rattle.oci_shapes.specs.Descriptor.{descriptor}
 
 -- the members, in the order in which they are checked

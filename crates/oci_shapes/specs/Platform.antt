@@ -3,7 +3,7 @@
 use Rattle.std.specs.Prelude.{codes, Some}
 use Rattle.oci_text.specs.Arch.{arches}
 use Rattle.oci_text.specs.Os.{oses}
-use Rattle.oci_json_model.specs.Shape.{Shape, rows, no_rows, row, listed, required, optional, text, open_name, list}
+use Rattle.oci_model.specs.Shape.{Shape, rows, no_rows, row, listed, required, optional, text, open_name, list}
 
 -- the members, in the order in which they are checked
 abbrev pub platform : Shape

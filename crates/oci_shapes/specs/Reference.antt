@@ -1,6 +1,6 @@
 -- A reference as a document: an object of its texts, which are not tested when it is read (distribution specification, "Pulling manifests").
 use Rattle.std.specs.Prelude.{codes}
-use Rattle.oci_json_model.specs.Shape.{Shape, rows, no_rows, listed, required, optional, text}
+use Rattle.oci_model.specs.Shape.{Shape, rows, no_rows, listed, required, optional, text}
 
 -- the members, in the order in which they are looked at
 abbrev pub reference : Shape

@@ -9,7 +9,7 @@ pub mod rules;
 pub mod runtime;
 pub mod schema;
 
-pub use oci_text::{Explanation, JsonName, explain};
-pub use oci_text_base::{
+pub use oci_base::{
     OciSpecError, Result, SchemaFault, SerDeError, UninitializedFieldError, UnknownName,
 };
+pub use oci_text::{Explanation, JsonName, explain};

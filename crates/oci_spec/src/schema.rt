@@ -6,14 +6,14 @@ mod linux;
 mod runtime;
 pub mod typed;
 
+pub use oci_schema::bytes::{
+    Workspace, is_valid_bytes, normalize, normalize_bytes, normalize_pretty_bytes,
+    violations_in_bytes,
+};
 pub use oci_schema::{
     DefaultValue, Expected, Kind, Member, Part, Presence, Record, Records, Scalar, Schema,
     Violation, is_valid, normal_value_from_reader, normalize_pretty, normalize_value,
     violation_lines, violations,
-};
-pub use oci_schema_bytes::{
-    Workspace, is_valid_bytes, normalize, normalize_bytes, normalize_pretty_bytes,
-    violations_in_bytes,
 };
 pub use oci_schemas::{OciRecords, oci_records};
 pub use typed::{

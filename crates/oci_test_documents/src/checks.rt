@@ -1,9 +1,9 @@
 //! How answers are compared, and texts made.
 
+use oci_base::{OciSpecError, Result, SerDeError};
 use oci_json::to_string;
-use oci_json_model::OciRecord;
-use oci_test_harness::Harness;
-use oci_text_base::{OciSpecError, Result, SerDeError};
+use oci_model::OciRecord;
+use oci_test_support::Harness;
 use std::alloc::{AllocError, Global};
 use std::io::ErrorKind;
 

@@ -1,12 +1,12 @@
 //! Distribution documents made in code: built, written and copied.
 
 use crate::checks::{check, written};
+use oci_base::Result;
 use oci_distribution::{
     ErrorCode, ErrorInfo, ErrorInfoBuilder, ErrorResponse, ErrorResponseBuilder, RepositoryList,
     RepositoryListBuilder, TagList, TagListBuilder,
 };
-use oci_test_harness::Harness;
-use oci_text_base::Result;
+use oci_test_support::Harness;
 use std::alloc::Global;
 
 pub fn info(alloc: Global, detail: &str) -> Result<ErrorInfo> {

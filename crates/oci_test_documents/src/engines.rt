@@ -1,6 +1,6 @@
 //! The engines over distribution documents, over streams that fail, and over files.
 
-use oci_test_harness::{Harness, HarnessOutOfMemory};
+use oci_test_support::{Harness, HarnessOutOfMemory};
 
 mod files;
 mod reading;

@@ -1,12 +1,12 @@
 //! The printed texts of errors, and what is explained of them.
 
 use crate::distribution::reply;
-use oci_reference_scan::ParseError;
-use oci_test_harness::Harness;
-use oci_text::explain;
-use oci_text_base::{
+use oci_base::{
     OciSpecError, Result, SchemaFault, SerDeError, UninitializedFieldError, UnknownName,
 };
+use oci_reference::ParseError;
+use oci_test_support::Harness;
+use oci_text::explain;
 use serde_json::Value;
 use std::alloc::Global;
 use std::fmt::Display;

@@ -1,10 +1,10 @@
-//! Image documents in files. What texts are read as is in the rows of `oci_test_golden`, and what else these documents do is run in
-//! `oci_test_vectors`.
+//! Image documents in files. What texts are read as is in the rows of `oci_test_tables`, and what else these documents do is run in
+//! `oci_vectors`.
 
 use crate::checks::{check, written};
+use oci_base::Result;
 use oci_image::{ArtifactManifest, ImageConfiguration, ImageIndex, ImageManifest, OciLayout};
-use oci_test_harness::{Harness, HarnessOutOfMemory};
-use oci_text_base::Result;
+use oci_test_support::{Harness, HarnessOutOfMemory};
 use std::fs;
 
 /// A document of an image.

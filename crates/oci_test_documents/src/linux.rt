@@ -1,14 +1,14 @@
 //! What records of the Linux part display.
 
 use crate::checks::check;
+use oci_base::Result;
 use oci_cgroups::{
     LinuxDeviceCgroup, LinuxDeviceCgroupBuilder, LinuxInterfacePriority,
     LinuxInterfacePriorityBuilder,
 };
 use oci_linux::{LinuxDeviceBuilder, cgroup_of};
-use oci_runtime_names::LinuxDeviceType;
-use oci_test_harness::Harness;
-use oci_text_base::Result;
+use oci_test_support::Harness;
+use oci_text::LinuxDeviceType;
 use std::alloc::Global;
 use std::fmt::Display;
 

@@ -2,13 +2,13 @@
 //! canonical, so each way gives them back; indented texts are compared with what the JSON library prints of the value.
 
 use crate::checks::{check, repeated};
+use oci_base::Result;
 use oci_image::ImageConfiguration;
 use oci_json::{from_reader, from_slice, normalize, to_string, to_string_pretty};
 use oci_schema::{is_valid, violations};
 use oci_schemas::OciRecords;
 use oci_schemas::image::image_configuration;
-use oci_test_harness::{Harness, HarnessOutOfMemory, Input, Manner};
-use oci_text_base::Result;
+use oci_test_support::{Harness, HarnessOutOfMemory, Input, Manner};
 use serde_json::Value;
 use std::alloc::{AllocError, Global};
 

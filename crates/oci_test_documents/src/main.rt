@@ -15,7 +15,7 @@ mod process;
 mod references;
 mod runtime;
 
-use oci_test_harness::{Harness, HarnessOutOfMemory, exit};
+use oci_test_support::{Harness, HarnessOutOfMemory, exit};
 use std::process::ExitCode;
 
 /// All groups.

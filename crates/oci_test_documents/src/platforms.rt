@@ -1,10 +1,10 @@
 //! Objects of any values in documents of Windows, and the names of namespaces of z/OS.
 
 use crate::checks::{check, written};
-use oci_json_model::OciRecord;
+use oci_base::{OciSpecError, Result};
+use oci_model::OciRecord;
 use oci_platforms::{Windows, WindowsBuilder, ZOSNamespaceType};
-use oci_test_harness::Harness;
-use oci_text_base::{OciSpecError, Result};
+use oci_test_support::Harness;
 use serde_json::Value;
 use std::alloc::Global;
 use std::collections::BTreeMap;

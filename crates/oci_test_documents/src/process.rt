@@ -1,10 +1,10 @@
 //! CPU lists.
 
 use crate::checks::{Answer, check, check_refused, repeated, written};
+use oci_base::Result;
 use oci_json::to_writer;
 use oci_process::{ExecCPUAffinity, ExecCPUAffinityBuilder, is_cpu_list};
-use oci_test_harness::{Harness, HarnessOutOfMemory, Manner};
-use oci_text_base::Result;
+use oci_test_support::{Harness, HarnessOutOfMemory, Manner};
 use std::alloc::Global;
 use std::io::Write;
 

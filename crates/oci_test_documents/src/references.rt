@@ -1,11 +1,11 @@
-//! References: limits of length, and the calls that take memory. The texts that are read are rows of commands in `oci_test_vectors`.
+//! References: limits of length, and the calls that take memory. The texts that are read are rows of commands in `oci_vectors`.
 
 use crate::checks::{check, repeated};
+use oci_base::Result;
 use oci_image::{Descriptor, Digest, MediaType};
 use oci_pin::pin;
 use oci_reference::{ParseError, Reference};
-use oci_test_harness::{Harness, HarnessOutOfMemory};
-use oci_text_base::Result;
+use oci_test_support::{Harness, HarnessOutOfMemory};
 use std::alloc::Global;
 
 /// A front, how many times a part follows, and an end; and the length of the repository, or the refusal.

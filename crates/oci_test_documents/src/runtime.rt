@@ -1,11 +1,10 @@
 //! Mounts with mappings, and a root whose path is made canonical.
 
 use crate::checks::{Answer, check, written};
-use oci_linux_records::{LinuxIdMapping, LinuxIdMappingBuilder};
-use oci_runtime_records::{Mount, MountBuilder, Root};
-use oci_runtime_root::canonicalize;
-use oci_test_harness::Harness;
-use oci_text_base::{OciSpecError, Result};
+use oci_base::{OciSpecError, Result};
+use oci_linux::{LinuxIdMapping, LinuxIdMappingBuilder};
+use oci_runtime_records::{Mount, MountBuilder, Root, canonicalize};
+use oci_test_support::Harness;
 use std::alloc::Global;
 
 fn one_mapping(alloc: Global) -> Result<Vec<LinuxIdMapping>> {

@@ -7,7 +7,7 @@
 //! "--data %p=data/%p ")`.
 #![tactic(auto)]
 
-use oci_test_harness::{HarnessOutOfMemory, exit};
+use oci_test_support::{HarnessOutOfMemory, exit};
 use std::env;
 use std::process::ExitCode;
 
@@ -39,14 +39,14 @@ static PARTS: [(&str, Part); 9] = [
 
 fn run(rt: &HostRuntime, part: Part) -> Result<(), HarnessOutOfMemory> {
     match part {
-        Part::Golden => oci_test_golden::run(rt),
-        Part::Tables => oci_test_golden::tables::run(rt),
-        Part::Defaults => oci_test_defaults::run(rt),
-        Part::Rules => oci_test_rules::run(rt),
-        Part::Vectors => return oci_test_vectors::run_vectors(rt),
-        Part::Calls => return oci_test_vectors::run_calls(rt),
-        Part::StringVectors => return oci_test_memory::run_vectors(rt),
-        Part::StringCalls => return oci_test_memory::run_calls(rt),
+        Part::Golden => oci_test_tables::golden::run(rt),
+        Part::Tables => oci_test_tables::golden::tables::run(rt),
+        Part::Defaults => oci_test_tables::defaults::run(rt),
+        Part::Rules => oci_test_tables::rules::run(rt),
+        Part::Vectors => return oci_vectors::run_vectors(rt),
+        Part::Calls => return oci_vectors::run_calls(rt),
+        Part::StringVectors => return oci_vectors::memory::run_vectors(rt),
+        Part::StringCalls => return oci_vectors::memory::run_calls(rt),
         Part::Lanes => {
             let _ = oci_bench::run_lanes(rt, "lanes/documents");
         }
@@ -84,7 +84,7 @@ fn run_named(rt: &HostRuntime, word: &str) -> ExitCode {
 }
 
 fn listed(rt: &HostRuntime) -> ExitCode {
-    match oci_test_rules::list(rt) {
+    match oci_test_tables::rules::list(rt) {
         Ok(()) => ExitCode::SUCCESS,
         Err(fault) => {
             let _ = eprintln!(rt; "{fault}");

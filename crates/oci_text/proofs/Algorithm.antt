@@ -1,10 +1,10 @@
 -- The automaton of a digest's algorithm: inside a component or before one, or the text is none.
 use Rattle.std.proofs.Common.{◌≡◌, ℕ, ◌⊎◌, ◌↔◌, ◌&&◌, Bool, true, false, cond, List, [], ◌∷◌, ◌++◌, Option, Some, None, refl, sym, subst, inl, inr, arith}
 use Rattle.std.specs.List.{fold}
-use Rattle.oci_text_base.specs.Classes.{is_lower, is_joint, IsSomeOf, IsOneOf, one, more}
-use Rattle.oci_text_base.specs.Digest.{IsAlgorithm}
-use Rattle.oci_text_base.proofs.Lacks.{both, Lacks, lacks_joined, lacks_one, lacks_some}
-use Rattle.oci_text_base.proofs.Runs.{by_test, run_some, run_one, run_joined, run_describes, some_push, some_first, joined_push}
+use Rattle.oci_base.specs.Classes.{is_lower, is_joint, IsSomeOf, IsOneOf, one, more}
+use Rattle.oci_base.specs.Digest.{IsAlgorithm}
+use Rattle.oci_base.proofs.Lacks.{both, Lacks, lacks_joined, lacks_one, lacks_some}
+use Rattle.oci_base.proofs.Runs.{by_test, run_some, run_one, run_joined, run_describes, some_push, some_first, joined_push}
 
 -- one byte more
 abbrev pub step : Option Bool → ℕ → Option Bool

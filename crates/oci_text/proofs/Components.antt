@@ -9,12 +9,12 @@ use Rattle.std.proofs.lemmas.List.Quantifiers.{position-Some}
 use Rattle.std.proofs.lemmas.Bool.{ltb-true, ltb-false}
 use Rattle.std.proofs.lemmas.Str.{IsCharBoundary-before_ascii, IsCharBoundary-after_ascii}
 use Rattle.oci_text.specs.declared.fault.Fault.{Fault}
-use Rattle.oci_text_base.specs.Classes.{has, until, after, colon, is_joint}
-use Rattle.oci_text_base.specs.Digest.{part_refusal, component_refusal, encoded_refusal, digest_refusal, IsDigest}
+use Rattle.oci_base.specs.Classes.{has, until, after, colon, is_joint}
+use Rattle.oci_base.specs.Digest.{part_refusal, component_refusal, encoded_refusal, digest_refusal, IsDigest}
 use Rattle.oci_text.specs.Faults.{fault_text}
-use Rattle.oci_text_base.proofs.Lacks.{lacks_from}
+use Rattle.oci_base.proofs.Lacks.{lacks_from}
 use Rattle.oci_text.proofs.Refusals.{digest_refused}
-use Rattle.oci_text_base.proofs.Marks.{has_at, has_none, until_is}
+use Rattle.oci_base.proofs.Marks.{has_at, has_none, until_is}
 
 -- where the first mark is, if there is one
 first_at : (p : ℕ → Bool) (t : List ℕ) (i : ℕ) → position p t ≡ Some i → (position_or_len p t < length t) × (position_or_len p t ≡ i)

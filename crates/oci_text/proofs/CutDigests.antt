@@ -4,13 +4,13 @@ use Rattle.std.proofs.Math.Seq.{drop-append-add}
 use Rattle.std.specs.Result.{IfOk}
 use Rattle.serde_json.specs.Data.{Data}
 use Rattle.serde_json.specs.Find.{as_str}
-use Rattle.oci_json_model.specs.Means.{Means}
-use Rattle.oci_json_model.specs.Plain as plain
-use Rattle.oci_json_model.specs.Shape as shape
-use Rattle.oci_text_base.specs.declared.error.OciSpecError.{OciSpecError}
-use Rattle.oci_text_base.specs.Classes.{until, after, colon}
-use Rattle.oci_text_base.specs.Digest.{IsDigest, IsDigestText}
-use Rattle.oci_text_base.specs.Names.{Name, opened}
+use Rattle.oci_model.specs.Means.{Means}
+use Rattle.oci_model.specs.Plain as plain
+use Rattle.oci_model.specs.Shape as shape
+use Rattle.oci_base.specs.declared.error.OciSpecError.{OciSpecError}
+use Rattle.oci_base.specs.Classes.{until, after, colon}
+use Rattle.oci_base.specs.Digest.{IsDigest, IsDigestText}
+use Rattle.oci_base.specs.Names.{Name, opened}
 use Rattle.oci_text.specs.CutDigests.{IsCutDigest}
 use Rattle.oci_text.proofs.Refusals.{digest_cut, digest_refused, digest_text}
 

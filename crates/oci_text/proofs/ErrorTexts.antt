@@ -1,9 +1,9 @@
 -- The texts of error codes, from their JSON texts.
 use Rattle.std.proofs.Common.{◌≡◌, ℕ, List, sym}
 use Rattle.std.specs.Prelude.{IsTrue, codes}
-use Rattle.oci_text_base.specs.Names.{is_listed}
+use Rattle.oci_base.specs.Names.{is_listed}
 use Rattle.oci_text.specs.ErrorCode.{all_error_codes, error_code_back, error_code_name, error_code_text, error_codes}
-use Rattle.oci_json_model.specs.Variants.{listed}
+use Rattle.oci_model.specs.Variants.{listed}
 use Rattle.oci_text.specs.declared.error_code.ErrorCode.{ErrorCode}
 use Rattle.oci_text.specs.declared.error_code.ErrorCode.TheVariants.{TooManyRequests}
 

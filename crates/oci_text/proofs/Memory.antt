@@ -2,9 +2,9 @@
 use Rattle.std.proofs.Common.{◌≡◌, ℕ, List, Result, Ok, Err, refl, sym, subst, inr}
 use Rattle.std.specs.Prelude.{Option, Some, None}
 use Rattle.std.specs.Result.{IfErr, IsErrAnd}
-use Rattle.oci_text_base.specs.Refused.{Refuses}
-use Rattle.oci_text_base.specs.declared.error.OciSpecError.{OciSpecError}
-use Rattle.oci_text_base.specs.declared.error.OciSpecError.TheVariants.{Memory}
+use Rattle.oci_base.specs.Refused.{Refuses}
+use Rattle.oci_base.specs.declared.error.OciSpecError.{OciSpecError}
+use Rattle.oci_base.specs.declared.error.OciSpecError.TheVariants.{Memory}
 
 -- at the exit of a `?`
 pub at_exit : {T : Type 0} (P : OciSpecError → Type 0) (r : Result T OciSpecError) → P Memory → IsErrAnd r (λ e. e ≡ Memory) → IfErr r P

@@ -1,8 +1,8 @@
 -- The architectures of platforms (image specification, "Image Index", `architecture`; Go, `GOARCH`).
 use Rattle.std.proofs.Common.{◌≡◌, String, Global, false, refl}
-use Rattle.oci_text_base.specs.Names.{is_other, name_text, opened}
-use Rattle.oci_json_model.specs.Fits.{FitsOpen}
-use Rattle.oci_json_model.specs.Types.{name_plain}
+use Rattle.oci_base.specs.Names.{is_other, name_text, opened}
+use Rattle.oci_model.specs.Fits.{FitsOpen}
+use Rattle.oci_model.specs.Types.{name_plain}
 use Rattle.oci_text.proofs.OpenMembers.{fits}
 use Rattle.oci_text.specs.Arch.{arch_name, arches}
 use Rattle.oci_text.specs.declared.arch.Arch.{Arch}

@@ -1,8 +1,8 @@
 -- The operating systems of platforms (image specification, "Image Index", `os`; Go, `GOOS`).
 use Rattle.std.proofs.Common.{◌≡◌, String, Global, false, refl}
-use Rattle.oci_text_base.specs.Names.{is_other, name_text, opened}
-use Rattle.oci_json_model.specs.Fits.{FitsOpen}
-use Rattle.oci_json_model.specs.Types.{name_plain}
+use Rattle.oci_base.specs.Names.{is_other, name_text, opened}
+use Rattle.oci_model.specs.Fits.{FitsOpen}
+use Rattle.oci_model.specs.Types.{name_plain}
 use Rattle.oci_text.proofs.OpenMembers.{fits}
 use Rattle.oci_text.specs.Os.{os_name, oses}
 use Rattle.oci_text.specs.declared.os.Os.{Os}

@@ -3,15 +3,15 @@ use Rattle.std.proofs.Common.{◌≡◌, ℕ, List, Bool, true, false, cond, Som
 use Rattle.std.specs.Prelude.{IfOk, IsTrue, Result, Ok, Err}
 use Rattle.serde_json.specs.Data.{Data}
 use Rattle.serde_json.specs.Find.{as_str}
-use Rattle.oci_text_base.specs.declared.error.OciSpecError.{OciSpecError}
-use Rattle.oci_text_base.specs.Names as names
-use Rattle.oci_text_base.specs.Names.{Name, variant, other, is_listed, is_other, name_text}
-use Rattle.oci_json_model.specs.Shape.{open_name}
-use Rattle.oci_json_model.specs.Plain as plain
-use Rattle.oci_json_model.specs.Plain.{text_of}
-use Rattle.oci_json_model.specs.Means.{opened, Means}
-use Rattle.oci_json_model.specs.Fits.{FitsOpen}
-use Rattle.oci_json_model.specs.Types.{name_plain}
+use Rattle.oci_base.specs.declared.error.OciSpecError.{OciSpecError}
+use Rattle.oci_base.specs.Names as names
+use Rattle.oci_base.specs.Names.{Name, variant, other, is_listed, is_other, name_text}
+use Rattle.oci_model.specs.Shape.{open_name}
+use Rattle.oci_model.specs.Plain as plain
+use Rattle.oci_model.specs.Plain.{text_of}
+use Rattle.oci_model.specs.Means.{opened, Means}
+use Rattle.oci_model.specs.Fits.{FitsOpen}
+use Rattle.oci_model.specs.Types.{name_plain}
 
 same_choice : (b : Bool) (t : List ℕ) → name_plain (cond b (variant t) (other t)) ≡ cond b (plain.variant t) (plain.other t)
 same_choice true t = refl

@@ -2,7 +2,7 @@
 use Rattle.std.proofs.Common.{◌≡◌, ℕ, zero, suc, List, [], ◌∷◌, Bool, true, false, ◌||◌, bytes_eq, Some, refl, sym, ap, ◌∙◌}
 use Rattle.std.specs.List.{slice_get}
 use Rattle.std.proofs.lemmas.Slice.Eq.{bytes_eq-Decides}
-use Rattle.oci_text_base.specs.Names.{Name, variant, other, opened, is_listed, is_other, name_text}
+use Rattle.oci_base.specs.Names.{Name, variant, other, opened, is_listed, is_other, name_text}
 
 or_true : (b : Bool) → (b || true) ≡ true
 or_true true = refl

@@ -4,8 +4,8 @@ use Rattle.std.specs.List.{slice_get}
 use Rattle.std.specs.Option.{option_map}
 use Rattle.std.proofs.lemmas.Option.{slice_get-map, slice_get-get_or}
 use Rattle.std.proofs.lemmas.Slice.Eq.{bytes_eq-Decides}
-use Rattle.oci_text_base.specs.Names.{is_listed}
-use Rattle.oci_json_model.proofs.Tables.{past}
+use Rattle.oci_base.specs.Names.{is_listed}
+use Rattle.oci_model.proofs.Tables.{past}
 
 -- an item that is the text stands at its place
 pub stands_at : {T : Type 0} (f : T → List ℕ) (xs : List T) (i : ℕ) (d : T) (t : List ℕ) (b : Bool) → b ≡ bytes_eq t (f (get_or xs i d)) → i < length xs → b ≡ true → slice_get (map f xs) i ≡ Some t

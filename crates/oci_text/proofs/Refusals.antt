@@ -5,11 +5,11 @@ use Rattle.std.specs.Option.{option_or}
 use Rattle.std.specs.List.{list_all, slice_split, onto_first, fold}
 use Rattle.std.proofs.lemmas.Bool.{eqb-true, eq-eqb}
 use Rattle.std.proofs.lemmas.Slice.Eq.{bytes_eq-Decides}
-use Rattle.oci_text_base.specs.Classes.{has, until, after, colon, is_lower, is_lower_hex, is_encoded_byte, is_joint, IsSomeOf}
-use Rattle.oci_text_base.specs.Digest.{IsAlgorithm, IsSha, MeetsSha, IsDigest, component_refusal, sha_refusal, digits_refusal, encoded_refusal, digest_refusal}
+use Rattle.oci_base.specs.Classes.{has, until, after, colon, is_lower, is_lower_hex, is_encoded_byte, is_joint, IsSomeOf}
+use Rattle.oci_base.specs.Digest.{IsAlgorithm, IsSha, MeetsSha, IsDigest, component_refusal, sha_refusal, digits_refusal, encoded_refusal, digest_refusal}
 use Rattle.oci_text.specs.CutDigests.{IsCutDigest}
 use Rattle.oci_text.proofs.Algorithm.{step, accepts, no_colon, stuck, joint_not_lower}
-use Rattle.oci_text_base.proofs.Marks.{has_at, first_cut, until_is}
+use Rattle.oci_base.proofs.Marks.{has_at, first_cut, until_is}
 
 -- The components, as the automaton sees them.
 abbrev done : Option Bool → Bool

@@ -1,10 +1,10 @@
 -- SHA-256 digests.
 use Rattle.std.proofs.Common.{◌≡◌, ℕ, true, false, List, ◌++◌, refl, ap, arith}
 use Rattle.std.specs.Prelude.{codes, bytes_eq}
-use Rattle.oci_text_base.specs.Classes.{is_lower_hex, is_encoded_byte, one}
-use Rattle.oci_text_base.specs.Digest.{IsSha}
+use Rattle.oci_base.specs.Classes.{is_lower_hex, is_encoded_byte, one}
+use Rattle.oci_base.specs.Digest.{IsSha}
 use Rattle.oci_text.specs.CutDigests.{IsCutDigest}
-use Rattle.oci_text_base.proofs.Runs.{in_wider}
+use Rattle.oci_base.proofs.Runs.{in_wider}
 use Rattle.oci_text.proofs.Refusals.{digest_text, digest_refused}
 
 hex_encoded : (b : ℕ) → is_lower_hex b ≡ true → is_encoded_byte b ≡ true

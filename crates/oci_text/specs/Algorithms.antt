@@ -1,6 +1,6 @@
 -- The algorithms of digests (image specification, "Content Descriptors", "Registered Algorithms").
 use Rattle.std.specs.Prelude.{ℕ, List, [], ◌∷◌, codes, map, string_bytes, Option, Some, None}
-use Rattle.oci_text_base.specs.Names.{Name, variant, other, name_text}
+use Rattle.oci_base.specs.Names.{Name, variant, other, name_text}
 use Rattle.oci_text.specs.declared.digest_algorithm.DigestAlgorithm.{DigestAlgorithm}
 use Rattle.oci_text.specs.declared.digest_algorithm.DigestAlgorithm.TheVariants.{Sha256, Sha384, Sha512, Other}
 

@@ -1,6 +1,6 @@
 -- The architectures of platforms (image specification, "Image Index", `architecture`; Go, `GOARCH`).
 use Rattle.std.specs.Prelude.{ℕ, List, [], ◌∷◌, codes, map, string_bytes}
-use Rattle.oci_text_base.specs.Names.{Name, variant, other, name_text}
+use Rattle.oci_base.specs.Names.{Name, variant, other, name_text}
 use Rattle.oci_text.specs.declared.arch.Arch.{Arch}
 use Rattle.oci_text.specs.declared.arch.Arch.TheVariants.{i386, Amd64, Amd64p32, ARM, ARMbe, ARM64, ARM64be, LoongArch64, Mips, Mipsle, Mips64, Mips64le, Mips64p32, Mips64p32le, PowerPC, PowerPC64, PowerPC64le, RISCV, RISCV64, s390, s390x, SPARC, SPARC64, Wasm, Other}
 

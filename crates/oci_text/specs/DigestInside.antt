@@ -1,8 +1,8 @@
 -- What holds inside each digest (image specification, "Content Descriptors", "Digests").
 use Rattle.std.specs.Prelude.{◌≡◌, length, string_bytes}
 use Rattle.oci_text.specs.declared.digest.Digest.TheInside.{Inside}
-use Rattle.oci_text_base.specs.Classes.{until, colon}
-use Rattle.oci_text_base.specs.Names.{opened}
+use Rattle.oci_base.specs.Classes.{until, colon}
+use Rattle.oci_base.specs.Names.{opened}
 use Rattle.oci_text.specs.Algorithms.{algorithms, algorithm_name}
 use Rattle.oci_text.specs.CutDigests.{IsCutDigest}
 

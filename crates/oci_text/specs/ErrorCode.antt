@@ -1,7 +1,7 @@
 -- The codes of a registry's errors (distribution specification, "Error Codes").
 use Rattle.std.specs.Prelude.{◌≡◌, ◌↔◌, ℕ, List, [], ◌∷◌, true, Some, codes, map, refl}
 use denote.Enum.Bare.{sameb}
-use Rattle.oci_json_model.specs.Variants.{variant_of, told_by_name}
+use Rattle.oci_model.specs.Variants.{variant_of, told_by_name}
 use Rattle.oci_text.specs.contracts.error_code.ErrorCode.{the_type}
 use Rattle.oci_text.specs.declared.error_code.ErrorCode.{ErrorCode}
 use Rattle.oci_text.specs.declared.error_code.ErrorCode.TheVariants.{BlobUnknown, BlobUploadInvalid, BlobUploadUnknown, DigestInvalid, ManifestBlobUnknown, ManifestInvalid, ManifestUnknown, NameInvalid, NameUnknown, SizeInvalid, Unauthorized, Denied, Unsupported, TooManyRequests}

@@ -1,10 +1,10 @@
 -- What an error says to a person.
 use Rattle.std.specs.Prelude.{ℕ, List, length, ◌++◌, ◌==◌, if◌then◌else◌, codes, Option, Some, None, string_bytes}
-use Rattle.oci_text_base.specs.declared.error.OciSpecError.{OciSpecError}
-use Rattle.oci_text_base.specs.declared.error.OciSpecError.TheVariants.{Other, Io, SerDe, Builder, Memory}
-use Rattle.oci_text_base.specs.declared.error.SchemaFault.{SchemaFault}
-use Rattle.oci_text_base.specs.declared.error.SerDeError.{SerDeError}
-use Rattle.oci_text_base.specs.declared.error.SerDeError.TheVariants.{Json, Schema}
+use Rattle.oci_base.specs.declared.error.OciSpecError.{OciSpecError}
+use Rattle.oci_base.specs.declared.error.OciSpecError.TheVariants.{Other, Io, SerDe, Builder, Memory}
+use Rattle.oci_base.specs.declared.error.SchemaFault.{SchemaFault}
+use Rattle.oci_base.specs.declared.error.SerDeError.{SerDeError}
+use Rattle.oci_base.specs.declared.error.SerDeError.TheVariants.{Json, Schema}
 
 -- the record and the member that a schema rejects; the record alone where no member is named
 abbrev pub explained_fault : SchemaFault → List ℕ

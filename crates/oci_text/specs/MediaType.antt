@@ -1,6 +1,6 @@
 -- The media types (image specification, "Media Types").
 use Rattle.std.specs.Prelude.{ℕ, List, [], ◌∷◌, codes, map, string_bytes, Option, Some, None}
-use Rattle.oci_text_base.specs.Names.{Name, variant, other, name_text}
+use Rattle.oci_base.specs.Names.{Name, variant, other, name_text}
 use Rattle.oci_text.specs.declared.media_type.MediaType.{MediaType}
 use Rattle.oci_text.specs.declared.media_type.MediaType.TheVariants.{Descriptor, LayoutHeader, ImageManifest, ImageIndex, ImageLayer, ImageLayerGzip, ImageLayerZstd, ImageLayerNonDistributable, ImageLayerNonDistributableGzip, ImageLayerNonDistributableZstd, ImageConfig, ArtifactManifest, EmptyJSON, Other}
 

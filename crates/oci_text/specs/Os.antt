@@ -1,6 +1,6 @@
 -- The operating systems of platforms (image specification, "Image Index", `os`; Go, `GOOS`).
 use Rattle.std.specs.Prelude.{ℕ, List, [], ◌∷◌, codes, map, string_bytes}
-use Rattle.oci_text_base.specs.Names.{Name, variant, other, name_text}
+use Rattle.oci_base.specs.Names.{Name, variant, other, name_text}
 use Rattle.oci_text.specs.declared.os.Os.{Os}
 use Rattle.oci_text.specs.declared.os.Os.TheVariants.{AIX, Android, Darwin, DragonFlyBSD, FreeBSD, Hurd, Illumos, iOS, Js, Linux, Nacl, NetBSD, OpenBSD, Plan9, Solaris, Windows, zOS, Other}
 

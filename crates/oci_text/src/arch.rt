@@ -1,14 +1,14 @@
 //! The architectures of a platform (image specification, "Image Index", `architecture`: the values of `GOARCH`).
 ghost use Rattle.std.specs.Prelude.{◌≡◌, IfOk, IfErr, IfSome, IfNone, string_bytes, Some, None, false};
 ghost use Rattle.std.specs.List.{slice_get};
-ghost use Rattle.oci_text_base.specs.Names.{other, opened, is_other, name_text};
+ghost use Rattle.oci_base.specs.Names.{other, opened, is_other, name_text};
 ghost use Rattle.oci_text.specs.Arch.{arch_name, arches};
 
 use crate::place::place;
-use oci_json_model::OciMember;
-use oci_json_model::fault::refused;
-use oci_json_model::owned::into_text;
-use oci_text_base::{OciSpecError, Result};
+use oci_base::{OciSpecError, Result};
+use oci_model::OciMember;
+use oci_model::fault::refused;
+use oci_model::owned::into_text;
 use serde_json::Value;
 use std::alloc::Global;
 use std::fmt;
@@ -100,7 +100,7 @@ static TEXTS: [&str; 24] = [
 
 impl Default for Arch {
     ghost use Rattle.std.specs.Prelude.{codes};
-    ghost use Rattle.oci_text_base.specs.Names.{variant};
+    ghost use Rattle.oci_base.specs.Names.{variant};
 
     ghost is_default = { λ m. arch_name m ≡ variant (codes "amd64") };
 
@@ -112,7 +112,7 @@ impl Default for Arch {
 impl PartialEq for Arch {
     ghost use Rattle.std.specs.Cmp.{on_per, partial_equiv_from_equiv};
     ghost use Rattle.std.specs.Ordering.{on};
-    ghost use Rattle.oci_text_base.specs.Names.{name_eq, name_equiv};
+    ghost use Rattle.oci_base.specs.Names.{name_eq, name_equiv};
 
     ghost eq = { on arch_name name_eq };
 
@@ -125,7 +125,7 @@ impl PartialEq for Arch {
 
 impl Eq for Arch {
     ghost use Rattle.std.specs.Cmp.{on_equiv};
-    ghost use Rattle.oci_text_base.specs.Names.{name_equiv};
+    ghost use Rattle.oci_base.specs.Names.{name_equiv};
 
     ghost laws = { on_equiv arch_name name_equiv };
 }
@@ -265,15 +265,15 @@ impl Arch {
 
 impl OciMember for Arch {
     ghost use Rattle.std.specs.Prelude.{refl};
-    ghost use Rattle.oci_json_model.specs.Shape.{open_name};
-    ghost use Rattle.oci_json_model.specs.Types.{name_plain};
-    ghost use Rattle.oci_json_model.specs.Same.{same_named};
+    ghost use Rattle.oci_model.specs.Shape.{open_name};
+    ghost use Rattle.oci_model.specs.Types.{name_plain};
+    ghost use Rattle.oci_model.specs.Same.{same_named};
 
     ghost shape = { open_name arches };
 
     ghost plain = { λ m. name_plain (arch_name m) };
 
-    #[tactic(auto, using(oci_json_model::proofs::Readers::no_name, crate::proofs::OpenMembers::name_means))]
+    #[tactic(auto, using(oci_model::proofs::Readers::no_name, crate::proofs::OpenMembers::name_means))]
     fn read(alloc: Global, value: &Value) -> Result<Arch> {
         match value.as_str() {
             Some(text) => Arch::from_text(alloc, text),
@@ -281,7 +281,7 @@ impl OciMember for Arch {
         }
     }
 
-    #[tactic(auto, using(oci_json_model::proofs::Readers::no_name, crate::proofs::OpenMembers::name_means))]
+    #[tactic(auto, using(oci_model::proofs::Readers::no_name, crate::proofs::OpenMembers::name_means))]
     fn read_owned(_alloc: Global, value: Value) -> Result<Arch> {
         match into_text(value) {
             Some(text) => Ok(Arch::from_string(text)),

@@ -1,18 +1,18 @@
 //! Digests (image specification, "Content Descriptors", "Digests").
 ghost use Rattle.std.specs.Prelude.{◌≡◌, ◌↔◌, ◌∷◌, ◌++◌, List, ℕ, length, IfOk, IfErr, IsTrue, string_bytes};
-ghost use Rattle.oci_text_base.specs.Classes.{until, after, colon};
-ghost use Rattle.oci_text_base.specs.Digest.{IsDigest, IsDigestText, digest_refusal};
-ghost use Rattle.oci_text_base.specs.Names.{opened};
-ghost use Rattle.oci_text_base.specs.Refused.{Refuses};
+ghost use Rattle.oci_base.specs.Classes.{until, after, colon};
+ghost use Rattle.oci_base.specs.Digest.{IsDigest, IsDigestText, digest_refusal};
+ghost use Rattle.oci_base.specs.Names.{opened};
+ghost use Rattle.oci_base.specs.Refused.{Refuses};
 ghost use Rattle.oci_text.specs.Algorithms.{algorithms, algorithm_name};
 ghost use Rattle.oci_text.specs.CutDigests.{IsCutDigest};
 
 use crate::digest_algorithm::DigestAlgorithm;
 use crate::fault::{are_lower_hex, digest_fault};
-use oci_json_model::OciMember;
-use oci_json_model::fault::refused;
-use oci_json_model::owned::into_text;
-use oci_text_base::{OciSpecError, Result};
+use oci_base::{OciSpecError, Result};
+use oci_model::OciMember;
+use oci_model::fault::refused;
+use oci_model::owned::into_text;
 use serde_json::Value;
 use std::alloc::Global;
 use std::fmt;
@@ -167,15 +167,15 @@ impl Digest {
 }
 
 impl OciMember for Digest {
-    ghost use Rattle.oci_json_model.specs.Shape.{digest_text};
-    ghost use Rattle.oci_json_model.specs.Plain as plain_tree;
-    ghost use Rattle.oci_json_model.specs.Same.{same_bytes};
+    ghost use Rattle.oci_model.specs.Shape.{digest_text};
+    ghost use Rattle.oci_model.specs.Plain as plain_tree;
+    ghost use Rattle.oci_model.specs.Same.{same_bytes};
 
     ghost shape = { digest_text };
 
     ghost plain = { λ d. plain_tree.text d };
 
-    #[tactic(auto, using(oci_json_model::proofs::Readers::no_text, oci_json_model::proofs::Readers::not_digest))]
+    #[tactic(auto, using(oci_model::proofs::Readers::no_text, oci_model::proofs::Readers::not_digest))]
     fn read(alloc: Global, value: &Value) -> Result<Digest> {
         match value.as_str() {
             Some(text) => {
@@ -189,7 +189,7 @@ impl OciMember for Digest {
         }
     }
 
-    #[tactic(auto, using(oci_json_model::proofs::Readers::no_text, oci_json_model::proofs::Readers::not_digest))]
+    #[tactic(auto, using(oci_model::proofs::Readers::no_text, oci_model::proofs::Readers::not_digest))]
     fn read_owned(_alloc: Global, value: Value) -> Result<Digest> {
         match into_text(value) {
             Some(text) => {

@@ -1,9 +1,9 @@
 //! The algorithms of digests (image specification, "Content Descriptors", "Registered Algorithms").
 ghost use Rattle.std.specs.Prelude.{◌≡◌, IfOk, IfErr};
-ghost use Rattle.oci_text_base.specs.Names.{opened, name_text};
+ghost use Rattle.oci_base.specs.Names.{opened, name_text};
 ghost use Rattle.oci_text.specs.Algorithms.{algorithms, algorithm_name, hexlen};
 
-use oci_text_base::{OciSpecError, Result};
+use oci_base::{OciSpecError, Result};
 use std::alloc::Global;
 use std::fmt;
 

@@ -3,8 +3,8 @@ ghost use Rattle.std.specs.Prelude.{◌≡◌, IfOk, IfErr};
 ghost use Rattle.oci_text.specs.ErrorCode.{error_code_text};
 ghost use Rattle.oci_text.specs.declared.error_code.ErrorCode.{ErrorCode};
 
-use oci_json_model::{ClosedName, JsonName, OciMember, read_name, write_name};
-use oci_text_base::{Result, UnknownName};
+use oci_base::{Result, UnknownName};
+use oci_model::{ClosedName, JsonName, OciMember, read_name, write_name};
 use serde_json::Value;
 use std::alloc::Global;
 use std::fmt;
@@ -130,8 +130,8 @@ impl ClosedName for ErrorCode {
 
 impl OciMember for ErrorCode {
     ghost use Rattle.std.specs.Prelude.{refl};
-    ghost use Rattle.oci_json_model.specs.Shape.{named};
-    ghost use Rattle.oci_json_model.specs.ClosedNames.{same_variants, variant_plain};
+    ghost use Rattle.oci_model.specs.Shape.{named};
+    ghost use Rattle.oci_model.specs.ClosedNames.{same_variants, variant_plain};
     ghost use Rattle.oci_text.specs.ErrorCode.{error_code_name, error_codes, error_code_same};
 
     ghost shape = { named error_codes };

@@ -1,7 +1,7 @@
 //! All that an error knows, in one line.
 ghost use Rattle.std.specs.Prelude.{◌≡◌};
 
-use oci_text_base::{OciSpecError, SchemaFault, SerDeError};
+use oci_base::{OciSpecError, SchemaFault, SerDeError};
 use std::fmt;
 
 /// What an error says: a line without a newline of its own, which [`explain`] makes of a borrowed error.

@@ -1,13 +1,13 @@
 //! Why a text is no digest (image specification, "Content Descriptors", "Digests").
 ghost use Rattle.std.specs.Prelude.{◌≡◌, ◌++◌, option_map, Some, IfOk, string_bytes, position, codes, decimal};
 ghost use Rattle.std.specs.List.{list_all, slice_split};
-ghost use Rattle.oci_text_base.specs.Classes.{is_lower, is_lower_hex, is_encoded_byte, is_joint};
-ghost use Rattle.oci_text_base.specs.Digest.{component_refusal, part_refusal, sha_refusal, digits_refusal, encoded_refusal, digest_refusal};
-ghost use Rattle.oci_text_base.specs.Refused.{Refuses};
+ghost use Rattle.oci_base.specs.Classes.{is_lower, is_lower_hex, is_encoded_byte, is_joint};
+ghost use Rattle.oci_base.specs.Digest.{component_refusal, part_refusal, sha_refusal, digits_refusal, encoded_refusal, digest_refusal};
+ghost use Rattle.oci_base.specs.Refused.{Refuses};
 ghost use Rattle.oci_text.specs.Faults.{fault_text};
 
-use oci_text_base::OciSpecError;
-use oci_text_base::classes::{is_encoded_byte, is_joint, is_lower, is_lower_hex};
+use oci_base::OciSpecError;
+use oci_base::classes::{is_encoded_byte, is_joint, is_lower, is_lower_hex};
 use std::alloc::{AllocError, Global};
 
 /// The first rule that a text breaks.

@@ -1,8 +1,8 @@
 //! Laws of the grammars of digests and of CPU lists, and of the tables of names, over their definitions alone.
 ghost use Rattle.std.specs.Prelude.{◌≡◌, ◌↔◌, ℕ, List, [], None, false, codes};
-ghost use Rattle.oci_text_base.specs.CpuList.{IsCpuList};
-ghost use Rattle.oci_text_base.specs.Digest.{IsDigest, IsDigestText, digest_refusal};
-ghost use Rattle.oci_text_base.specs.Names.{is_other, name_text, opened};
+ghost use Rattle.oci_base.specs.CpuList.{IsCpuList};
+ghost use Rattle.oci_base.specs.Digest.{IsDigest, IsDigestText, digest_refusal};
+ghost use Rattle.oci_base.specs.Names.{is_other, name_text, opened};
 ghost use Rattle.oci_text.specs.Arch.{arch_name, arches};
 ghost use Rattle.oci_text.specs.declared.arch.Arch.{Arch};
 ghost use Rattle.oci_text.specs.declared.media_type.MediaType.{MediaType};

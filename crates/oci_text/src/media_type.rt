@@ -1,14 +1,14 @@
 //! The media types (image specification, "Media Types").
 ghost use Rattle.std.specs.Prelude.{◌≡◌, ℕ, List, IfOk, IfErr, IfSome, IfNone, Option, Some, None, string_bytes, false};
 ghost use Rattle.std.specs.List.{slice_get};
-ghost use Rattle.oci_text_base.specs.Names.{other, opened, is_other, name_text};
+ghost use Rattle.oci_base.specs.Names.{other, opened, is_other, name_text};
 ghost use Rattle.oci_text.specs.MediaType.{media_type_name, media_types, docker_name};
 
 use crate::place::place;
-use oci_json_model::OciMember;
-use oci_json_model::fault::refused;
-use oci_json_model::owned::into_text;
-use oci_text_base::{OciSpecError, Result};
+use oci_base::{OciSpecError, Result};
+use oci_model::OciMember;
+use oci_model::fault::refused;
+use oci_model::owned::into_text;
 use serde_json::Value;
 use std::alloc::Global;
 use std::fmt;
@@ -66,7 +66,7 @@ static TEXTS: [&str; 13] = [
 impl PartialEq for MediaType {
     ghost use Rattle.std.specs.Cmp.{on_per, partial_equiv_from_equiv};
     ghost use Rattle.std.specs.Ordering.{on};
-    ghost use Rattle.oci_text_base.specs.Names.{name_eq, name_equiv};
+    ghost use Rattle.oci_base.specs.Names.{name_eq, name_equiv};
 
     ghost eq = { on media_type_name name_eq };
 
@@ -79,7 +79,7 @@ impl PartialEq for MediaType {
 
 impl Eq for MediaType {
     ghost use Rattle.std.specs.Cmp.{on_equiv};
-    ghost use Rattle.oci_text_base.specs.Names.{name_equiv};
+    ghost use Rattle.oci_base.specs.Names.{name_equiv};
 
     ghost laws = { on_equiv media_type_name name_equiv };
 }
@@ -211,15 +211,15 @@ impl MediaType {
 
 impl OciMember for MediaType {
     ghost use Rattle.std.specs.Prelude.{refl};
-    ghost use Rattle.oci_json_model.specs.Shape.{open_name};
-    ghost use Rattle.oci_json_model.specs.Types.{name_plain};
-    ghost use Rattle.oci_json_model.specs.Same.{same_named};
+    ghost use Rattle.oci_model.specs.Shape.{open_name};
+    ghost use Rattle.oci_model.specs.Types.{name_plain};
+    ghost use Rattle.oci_model.specs.Same.{same_named};
 
     ghost shape = { open_name media_types };
 
     ghost plain = { λ m. name_plain (media_type_name m) };
 
-    #[tactic(auto, using(oci_json_model::proofs::Readers::no_name, crate::proofs::OpenMembers::name_means))]
+    #[tactic(auto, using(oci_model::proofs::Readers::no_name, crate::proofs::OpenMembers::name_means))]
     fn read(alloc: Global, value: &Value) -> Result<MediaType> {
         match value.as_str() {
             Some(text) => MediaType::from_text(alloc, text),
@@ -227,7 +227,7 @@ impl OciMember for MediaType {
         }
     }
 
-    #[tactic(auto, using(oci_json_model::proofs::Readers::no_name, crate::proofs::OpenMembers::name_means))]
+    #[tactic(auto, using(oci_model::proofs::Readers::no_name, crate::proofs::OpenMembers::name_means))]
     fn read_owned(_alloc: Global, value: Value) -> Result<MediaType> {
         match into_text(value) {
             Some(text) => Ok(MediaType::from_string(text)),

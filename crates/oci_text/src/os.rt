@@ -1,14 +1,14 @@
 //! The operating systems of a platform (image specification, "Image Index", `os`: the values of `GOOS`).
 ghost use Rattle.std.specs.Prelude.{◌≡◌, IfOk, IfErr, IfSome, IfNone, string_bytes, Some, None, false};
 ghost use Rattle.std.specs.List.{slice_get};
-ghost use Rattle.oci_text_base.specs.Names.{other, opened, is_other, name_text};
+ghost use Rattle.oci_base.specs.Names.{other, opened, is_other, name_text};
 ghost use Rattle.oci_text.specs.Os.{os_name, oses};
 
 use crate::place::place;
-use oci_json_model::OciMember;
-use oci_json_model::fault::refused;
-use oci_json_model::owned::into_text;
-use oci_text_base::{OciSpecError, Result};
+use oci_base::{OciSpecError, Result};
+use oci_model::OciMember;
+use oci_model::fault::refused;
+use oci_model::owned::into_text;
 use serde_json::Value;
 use std::alloc::Global;
 use std::fmt;
@@ -62,7 +62,7 @@ static TEXTS: [&str; 17] = [
 
 impl Default for Os {
     ghost use Rattle.std.specs.Prelude.{codes};
-    ghost use Rattle.oci_text_base.specs.Names.{variant};
+    ghost use Rattle.oci_base.specs.Names.{variant};
 
     ghost is_default = { λ m. os_name m ≡ variant (codes "linux") };
 
@@ -74,7 +74,7 @@ impl Default for Os {
 impl PartialEq for Os {
     ghost use Rattle.std.specs.Cmp.{on_per, partial_equiv_from_equiv};
     ghost use Rattle.std.specs.Ordering.{on};
-    ghost use Rattle.oci_text_base.specs.Names.{name_eq, name_equiv};
+    ghost use Rattle.oci_base.specs.Names.{name_eq, name_equiv};
 
     ghost eq = { on os_name name_eq };
 
@@ -87,7 +87,7 @@ impl PartialEq for Os {
 
 impl Eq for Os {
     ghost use Rattle.std.specs.Cmp.{on_equiv};
-    ghost use Rattle.oci_text_base.specs.Names.{name_equiv};
+    ghost use Rattle.oci_base.specs.Names.{name_equiv};
 
     ghost laws = { on_equiv os_name name_equiv };
 }
@@ -213,15 +213,15 @@ impl Os {
 
 impl OciMember for Os {
     ghost use Rattle.std.specs.Prelude.{refl};
-    ghost use Rattle.oci_json_model.specs.Shape.{open_name};
-    ghost use Rattle.oci_json_model.specs.Types.{name_plain};
-    ghost use Rattle.oci_json_model.specs.Same.{same_named};
+    ghost use Rattle.oci_model.specs.Shape.{open_name};
+    ghost use Rattle.oci_model.specs.Types.{name_plain};
+    ghost use Rattle.oci_model.specs.Same.{same_named};
 
     ghost shape = { open_name oses };
 
     ghost plain = { λ m. name_plain (os_name m) };
 
-    #[tactic(auto, using(oci_json_model::proofs::Readers::no_name, crate::proofs::OpenMembers::name_means))]
+    #[tactic(auto, using(oci_model::proofs::Readers::no_name, crate::proofs::OpenMembers::name_means))]
     fn read(alloc: Global, value: &Value) -> Result<Os> {
         match value.as_str() {
             Some(text) => Os::from_text(alloc, text),
@@ -229,7 +229,7 @@ impl OciMember for Os {
         }
     }
 
-    #[tactic(auto, using(oci_json_model::proofs::Readers::no_name, crate::proofs::OpenMembers::name_means))]
+    #[tactic(auto, using(oci_model::proofs::Readers::no_name, crate::proofs::OpenMembers::name_means))]
     fn read_owned(_alloc: Global, value: Value) -> Result<Os> {
         match into_text(value) {
             Some(text) => Ok(Os::from_string(text)),

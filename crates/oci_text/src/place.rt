@@ -1,7 +1,7 @@
 //! How a text is looked up in the table of an extensible enum.
 ghost use Rattle.std.specs.Prelude.{◌≡◌, Some, false, map, IfSome, IfNone};
 ghost use Rattle.std.specs.List.{slice_get};
-ghost use Rattle.oci_text_base.specs.Names.{is_listed};
+ghost use Rattle.oci_base.specs.Names.{is_listed};
 
 /// The place of a text among these.
 pub fn place(text: &str, texts: &[&str]) -> Option<usize>

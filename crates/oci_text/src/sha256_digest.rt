@@ -1,11 +1,11 @@
 //! SHA-256 digests (image specification, "Content Descriptors", "SHA-256").
 ghost use Rattle.std.specs.Prelude.{◌≡◌, ◌++◌, IfOk, IfErr, codes};
-ghost use Rattle.oci_text_base.specs.Digest.{IsSha, digest_refusal};
-ghost use Rattle.oci_text_base.specs.Refused.{Refuses};
+ghost use Rattle.oci_base.specs.Digest.{IsSha, digest_refusal};
+ghost use Rattle.oci_base.specs.Refused.{Refuses};
 
 use crate::digest::Digest;
 use crate::fault::digest_fault;
-use oci_text_base::{OciSpecError, Result};
+use oci_base::{OciSpecError, Result};
 use std::alloc::Global;
 use std::fmt;
 use std::hash::{Hash, Hasher};
@@ -19,7 +19,7 @@ pub struct Sha256Digest {
 
 impl Model for Sha256Digest {
     ghost use Rattle.std.specs.Prelude.{List, ℕ, string_bytes};
-    ghost use Rattle.oci_text_base.specs.Digest.{IsSha};
+    ghost use Rattle.oci_base.specs.Digest.{IsSha};
 
     ghost Value = { List ℕ };
 

@@ -3,7 +3,7 @@
 ghost use Rattle.std.specs.Prelude.{◌≡◌, IfOk, IfErr};
 
 use crate::linux_cpu::LinuxCpu;
-use oci_text_base::{OciSpecError, Result};
+use oci_base::{OciSpecError, Result};
 use std::alloc::Global;
 
 /// Builds a `LinuxCpu`.

@@ -11,8 +11,8 @@ use crate::mount_extensions::MountExtensions;
 use crate::net_devices::NetDevices;
 use crate::seccomp::Seccomp;
 use crate::selinux::Selinux;
-use oci_runtime_names::LinuxNamespaceType;
-use oci_text_base::{OciSpecError, Result};
+use oci_base::{OciSpecError, Result};
+use oci_text::LinuxNamespaceType;
 use std::alloc::Global;
 
 /// Builds a `LinuxFeature`.

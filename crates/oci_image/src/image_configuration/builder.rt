@@ -6,8 +6,8 @@ use crate::config::Config;
 use crate::history::History;
 use crate::image_configuration::ImageConfiguration;
 use crate::root_fs::RootFs;
+use oci_base::{OciSpecError, Result};
 use oci_text::{Arch, Os};
-use oci_text_base::{OciSpecError, Result};
 use std::alloc::Global;
 
 /// Builds an `ImageConfiguration`.
@@ -29,8 +29,8 @@ impl ImageConfigurationBuilder {
     ghost use Rattle.std.specs.Prelude.{Some, unwrap_or, option_map, codes};
     ghost use Rattle.oci_text.specs.Arch.{arch_name};
     ghost use Rattle.oci_text.specs.Os.{os_name};
-    ghost use Rattle.oci_json_model.specs.Plain as plain;
-    ghost use Rattle.oci_json_model.specs.Types.{name_plain};
+    ghost use Rattle.oci_model.specs.Plain as plain;
+    ghost use Rattle.oci_model.specs.Types.{name_plain};
     ghost use Rattle.oci_image.specs.RootFs.{root_fs_plain, default_root_fs};
 
     /// Sets `created`: when the image was created, a date and time by RFC 3339, section 5.6. The format is not checked here.

@@ -3,16 +3,16 @@
 ghost use Rattle.std.specs.Prelude.{IfOk, IfErr};
 
 use super::ImageConfiguration;
-use oci_text_base::Result;
+use oci_base::Result;
 use std::alloc::Global;
 use std::io::{Read, Write};
 use std::rt::Files;
 
 impl ImageConfiguration {
     ghost use Rattle.std.specs.Prelude.{IfSome, OnOk};
-    ghost use Rattle.oci_text_base.specs.Refused.{IsMemory, IsSchema, IsJson, IsMemoryOrIo, IsMemorySerDeOrIo};
-    ghost use Rattle.oci_json_model.specs.Value.{value as json_of};
-    ghost use Rattle.oci_json_io.specs.Engines.{MeansBytes, IsNoJson, IsNoDocument, AppendsCompact, AppendsPretty, BeginsCompact, BeginsPretty, KeepsUnlessIo, IsCompactText, IsPrettyText, ReadsBack};
+    ghost use Rattle.oci_base.specs.Refused.{IsMemory, IsSchema, IsJson, IsMemoryOrIo, IsMemorySerDeOrIo};
+    ghost use Rattle.oci_model.specs.Value.{value as json_of};
+    ghost use Rattle.oci_json.specs.Engines.{MeansBytes, IsNoJson, IsNoDocument, AppendsCompact, AppendsPretty, BeginsCompact, BeginsPretty, KeepsUnlessIo, IsCompactText, IsPrettyText, ReadsBack};
     ghost use Rattle.oci_shapes.specs.ImageConfiguration.{image_configuration};
     ghost use Rattle.oci_image.specs.ImageConfiguration.{image_configuration_plain};
 
@@ -20,7 +20,7 @@ impl ImageConfiguration {
     pub fn from_file<R: Files>(rt: &R, alloc: Global, path: &str) -> Result<ImageConfiguration>
         ensures kind { IfErr result IsMemorySerDeOrIo }
     {
-        oci_json_io::from_file(rt, alloc, path)
+        oci_json::from_file(rt, alloc, path)
     }
 
     /// Reads to the end and deserializes the bytes. Fails with `Io` if a read fails, or `SerDe` if the bytes are not JSON or the schema
@@ -31,21 +31,21 @@ impl ImageConfiguration {
         ensures schema { IfErr result (λ e. IsSchema e → IfSome (R.remaining reader) (IsNoDocument image_configuration)) }
         ensures kind { IfErr result IsMemorySerDeOrIo }
     {
-        oci_json_io::from_reader(alloc, reader)
+        oci_json::from_reader(alloc, reader)
     }
 
     /// Serializes to compact JSON in the file at `path`, which is created or truncated once the JSON is complete.
     pub fn to_file<R: Files>(&self, rt: &R, alloc: Global, path: &str) -> Result<()>
         ensures kind { IfErr result IsMemoryOrIo }
     {
-        oci_json_io::to_file(rt, self, alloc, path)
+        oci_json::to_file(rt, self, alloc, path)
     }
 
     /// Serializes to pretty JSON in the file at `path`, which is created or truncated once the JSON is complete.
     pub fn to_file_pretty<R: Files>(&self, rt: &R, alloc: Global, path: &str) -> Result<()>
         ensures kind { IfErr result IsMemoryOrIo }
     {
-        oci_json_io::to_file_pretty(rt, self, alloc, path)
+        oci_json::to_file_pretty(rt, self, alloc, path)
     }
 
     /// Serializes to compact JSON. On `Io` a prefix of it was written, on `Memory` nothing.
@@ -56,7 +56,7 @@ impl ImageConfiguration {
         ensures unwritten { IfErr result (KeepsUnlessIo (W.contents writer.old) (W.contents writer.new)) }
         ensures kind { IfErr result IsMemoryOrIo }
     {
-        oci_json_io::to_writer(self, alloc, writer)
+        oci_json::to_writer(self, alloc, writer)
     }
 
     /// Serializes to pretty JSON. On `Io` a prefix of it was written, on `Memory` nothing.
@@ -66,7 +66,7 @@ impl ImageConfiguration {
         ensures unwritten { IfErr result (KeepsUnlessIo (W.contents writer.old) (W.contents writer.new)) }
         ensures kind { IfErr result IsMemoryOrIo }
     {
-        oci_json_io::to_writer_pretty(self, alloc, writer)
+        oci_json::to_writer_pretty(self, alloc, writer)
     }
 
     /// Serializes to a compact JSON string.
@@ -75,7 +75,7 @@ impl ImageConfiguration {
         ensures reads_back { OnOk result (ReadsBack (json_of image_configuration (image_configuration_plain self.now))) }
         ensures kind { IfErr result IsMemory }
     {
-        oci_json_io::to_string(self, alloc)
+        oci_json::to_string(self, alloc)
     }
 
     /// Serializes to a pretty JSON string: one line per member or item, indented by two spaces per level, without a final newline.
@@ -83,6 +83,6 @@ impl ImageConfiguration {
         ensures ok { IfOk result (IsPrettyText (json_of image_configuration (image_configuration_plain self.now))) }
         ensures kind { IfErr result IsMemory }
     {
-        oci_json_io::to_string_pretty(self, alloc)
+        oci_json::to_string_pretty(self, alloc)
     }
 }

@@ -7,13 +7,13 @@ use crate::defaults::{
     resources_without_rules,
 };
 use crate::linux::Linux;
-use oci_cgroups::LinuxResources;
-use oci_json_model::try_join4;
-use oci_linux_records::{
+use crate::{
     LinuxDevice, LinuxIdMapping, LinuxIntelRdt, LinuxMemoryPolicy, LinuxNamespace, LinuxNetDevice,
     LinuxPersonality, LinuxSeccomp, LinuxTimeOffset,
 };
-use oci_text_base::{OciSpecError, Result};
+use oci_base::{OciSpecError, Result};
+use oci_cgroups::LinuxResources;
+use oci_model::try_join4;
 use std::alloc::Global;
 use std::collections::BTreeMap;
 
@@ -41,12 +41,12 @@ pub struct LinuxBuilder {
 
 impl LinuxBuilder {
     ghost use Rattle.std.specs.Prelude.{Some, unwrap_or, option_map};
-    ghost use Rattle.oci_json_model.specs.Plain.{filled};
+    ghost use Rattle.oci_model.specs.Plain.{filled};
     ghost use Rattle.oci_linux.specs.Defaults.{default_masked_paths, default_namespaces, default_readonly_paths};
     ghost use Rattle.oci_linux.specs.DefaultResources.{default_resources};
-    ghost use Rattle.oci_json_model.specs.Types.{perhaps, text_plain, list_plain};
+    ghost use Rattle.oci_model.specs.Types.{perhaps, text_plain, list_plain};
     ghost use Rattle.oci_cgroups.specs.LinuxResources.{linux_resources_plain};
-    ghost use Rattle.oci_linux_records.specs.LinuxNamespace.{linux_namespace_plain};
+    ghost use Rattle.oci_linux.specs.LinuxNamespace.{linux_namespace_plain};
 
     /// Sets `net_devices`: the network devices of the host that are moved into the container, by their names on the host.
     pub fn net_devices(mut self, net_devices: BTreeMap<String, LinuxNetDevice>) -> Self

@@ -3,11 +3,11 @@
 ghost use Rattle.std.specs.Prelude.{◌≡◌};
 
 use super::Linux;
-use oci_cgroups::LinuxResources;
-use oci_linux_records::{
+use crate::{
     LinuxDevice, LinuxIdMapping, LinuxIntelRdt, LinuxMemoryPolicy, LinuxNamespace, LinuxNetDevice,
     LinuxPersonality, LinuxSeccomp, LinuxTimeOffset,
 };
+use oci_cgroups::LinuxResources;
 use std::collections::BTreeMap;
 
 impl Linux {

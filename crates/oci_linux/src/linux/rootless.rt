@@ -1,17 +1,17 @@
 //! The Linux part of a container that a user without privileges starts.
 ghost use Rattle.std.specs.Prelude.{◌≡◌, IfOk, IfErr};
-ghost use Rattle.oci_json_model.specs.Types.{list_plain};
+ghost use Rattle.oci_model.specs.Types.{list_plain};
 ghost use Rattle.oci_linux.specs.Linux.{linux_plain};
 ghost use Rattle.oci_linux.specs.Rootless.{mapping_of, rootless_linux};
-ghost use Rattle.oci_linux_records.specs.LinuxIdMapping.{linux_id_mapping_plain};
+ghost use Rattle.oci_linux.specs.LinuxIdMapping.{linux_id_mapping_plain};
 
 use super::Linux;
 use crate::defaults::{
     get_default_maskedpaths, get_default_readonly_paths, get_rootless_namespaces,
 };
-use oci_json_model::try_join5;
-use oci_linux_records::{LinuxIdMapping, LinuxIdMappingBuilder};
-use oci_text_base::{OciSpecError, Result};
+use crate::{LinuxIdMapping, LinuxIdMappingBuilder};
+use oci_base::{OciSpecError, Result};
+use oci_model::try_join5;
 use std::alloc::Global;
 
 impl Linux {

@@ -1,12 +1,12 @@
 //! Which affinities the builder of `ExecCPUAffinity` rejects.
 ghost use Rattle.std.specs.Prelude.{◌≡◌, ◌⊎◌, ℕ, List, Some, IfOk, IfErr, string_bytes};
-ghost use Rattle.oci_text_base.specs.Refused.{Says};
-ghost use Rattle.oci_runtime_names.specs.Affinities.{AreLists, IsFirstOther};
+ghost use Rattle.oci_base.specs.Refused.{Says};
+ghost use Rattle.oci_text.specs.Affinities.{AreLists, IsFirstOther};
 ghost use Rattle.oci_process.specs.RefusedAffinities.{affinity_refusal};
 
 use super::{ExecCPUAffinity, ExecCPUAffinityBuilder};
-use oci_runtime_names::refused_affinity;
-use oci_text_base::{OciSpecError, Result};
+use oci_base::{OciSpecError, Result};
+use oci_text::refused_affinity;
 use std::alloc::{AllocError, Global};
 
 impl ExecCPUAffinityBuilder {

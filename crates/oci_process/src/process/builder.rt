@@ -11,8 +11,8 @@ use crate::process::Process;
 use crate::process_defaults::{default_args, default_cwd, default_env, default_rlimits};
 use crate::scheduler::Scheduler;
 use crate::user::User;
-use oci_json_model::{try_join2, try_join3};
-use oci_text_base::{OciSpecError, Result};
+use oci_base::{OciSpecError, Result};
+use oci_model::{try_join2, try_join3};
 use std::alloc::Global;
 
 /// Builds a `Process`.
@@ -38,10 +38,10 @@ pub struct ProcessBuilder {
 
 impl ProcessBuilder {
     ghost use Rattle.std.specs.Prelude.{Some, unwrap_or, option_map, false, true};
-    ghost use Rattle.oci_json_model.specs.Plain as plain;
-    ghost use Rattle.oci_json_model.specs.Plain.{filled};
+    ghost use Rattle.oci_model.specs.Plain as plain;
+    ghost use Rattle.oci_model.specs.Plain.{filled};
     ghost use Rattle.oci_process.specs.ProcessDefaults.{default_args, default_cwd, default_env, default_rlimits};
-    ghost use Rattle.oci_json_model.specs.Types.{perhaps, text_plain, truth_plain, list_plain};
+    ghost use Rattle.oci_model.specs.Types.{perhaps, text_plain, truth_plain, list_plain};
     ghost use Rattle.oci_process.specs.User.{user_plain, default_user};
     ghost use Rattle.oci_process.specs.LinuxCapabilities.{linux_capabilities_plain, default_linux_capabilities};
     ghost use Rattle.oci_process.specs.PosixRlimit.{posix_rlimit_plain};

@@ -1,13 +1,13 @@
 //! Which mounts the builder of `Mount` rejects.
 ghost use Rattle.std.specs.Prelude.{◌≡◌, None, IfOk, IfErr, OnOk, unwrap_or, option_map, []};
-ghost use Rattle.oci_text_base.specs.Refused.{Refuses};
-ghost use Rattle.oci_json_model.specs.Plain as plain;
-ghost use Rattle.oci_json_model.specs.Types.{text_plain};
+ghost use Rattle.oci_base.specs.Refused.{Refuses};
+ghost use Rattle.oci_model.specs.Plain as plain;
+ghost use Rattle.oci_model.specs.Types.{text_plain};
 ghost use Rattle.oci_runtime_records.specs.MountBuilder.{mount_refusal, has_items};
 
 use super::{Mount, MountBuilder};
-use oci_linux_records::LinuxIdMapping;
-use oci_text_base::{OciSpecError, Result};
+use oci_base::{OciSpecError, Result};
+use oci_linux::LinuxIdMapping;
 use std::alloc::Global;
 
 impl MountBuilder {

@@ -1,14 +1,14 @@
 //! Mounts from a table.
 ghost use Rattle.std.specs.Prelude.{◌≡◌, IfOk, IfErr, map};
-ghost use Rattle.oci_json_model.specs.Plain as plain;
-ghost use Rattle.oci_json_model.specs.Types.{perhaps, list_plain, text_plain};
+ghost use Rattle.oci_model.specs.Plain as plain;
+ghost use Rattle.oci_model.specs.Types.{perhaps, list_plain, text_plain};
 ghost use Rattle.oci_runtime_records.specs.Mount.{mount_plain};
 ghost use Rattle.oci_runtime_records.specs.DefaultMounts.{mount_of_row, options_slot};
 
 use super::Mount;
 use crate::defaults::MountRow;
-use oci_linux_records::texts_of;
-use oci_text_base::{OciSpecError, Result};
+use oci_base::{OciSpecError, Result};
+use oci_linux::texts_of;
 use std::alloc::Global;
 
 impl Mount {

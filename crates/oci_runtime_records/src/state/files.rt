@@ -1,9 +1,9 @@
 //! States in files.
 ghost use Rattle.std.specs.Prelude.{IfErr};
-ghost use Rattle.oci_text_base.specs.Refused.{IsMemoryOrIo, IsMemorySerDeOrIo};
+ghost use Rattle.oci_base.specs.Refused.{IsMemoryOrIo, IsMemorySerDeOrIo};
 
 use super::State;
-use oci_text_base::Result;
+use oci_base::Result;
 use std::alloc::Global;
 use std::rt::Files;
 
@@ -13,7 +13,7 @@ impl State {
     pub fn load<R: Files>(rt: &R, alloc: Global, path: &str) -> Result<State>
         ensures kind { IfErr result IsMemorySerDeOrIo }
     {
-        oci_json_io::from_file(rt, alloc, path)
+        oci_json::from_file(rt, alloc, path)
     }
 
     /// Serializes the state to a file as compact JSON. The file is created or truncated once the text is made, so it is unchanged if the
@@ -21,6 +21,6 @@ impl State {
     pub fn save<R: Files>(&self, rt: &R, alloc: Global, path: &str) -> Result<()>
         ensures kind { IfErr result IsMemoryOrIo }
     {
-        oci_json_io::to_file(rt, self, alloc, path)
+        oci_json::to_file(rt, self, alloc, path)
     }
 }

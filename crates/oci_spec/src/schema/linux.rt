@@ -3,13 +3,12 @@
 use crate::schema::typed::HasSchema;
 use oci_cgroups::{
     LinuxBlockIo, LinuxCpu, LinuxDeviceCgroup, LinuxHugepageLimit, LinuxInterfacePriority,
-    LinuxMemory, LinuxNetwork, LinuxPids, LinuxResources, LinuxThrottleDevice, LinuxWeightDevice,
+    LinuxMemory, LinuxNetwork, LinuxPids, LinuxRdma, LinuxResources, LinuxThrottleDevice,
+    LinuxWeightDevice,
 };
-use oci_cgroups_rdma::LinuxRdma;
-use oci_linux::Linux;
-use oci_linux_records::{
-    LinuxDevice, LinuxIdMapping, LinuxIntelRdt, LinuxMemoryPolicy, LinuxNamespace, LinuxNetDevice,
-    LinuxPersonality, LinuxSeccomp, LinuxSeccompArg, LinuxSyscall, LinuxTimeOffset,
+use oci_linux::{
+    Linux, LinuxDevice, LinuxIdMapping, LinuxIntelRdt, LinuxMemoryPolicy, LinuxNamespace,
+    LinuxNetDevice, LinuxPersonality, LinuxSeccomp, LinuxSeccompArg, LinuxSyscall, LinuxTimeOffset,
 };
 use oci_schema::Schema;
 use oci_schemas::cgroups::{

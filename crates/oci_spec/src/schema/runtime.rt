@@ -13,8 +13,8 @@ use oci_platforms::{
 use oci_process::{
     Box, ExecCPUAffinity, LinuxCapabilities, LinuxIOPriority, PosixRlimit, Process, Scheduler, User,
 };
+use oci_runtime::Spec;
 use oci_runtime_records::{ContainerProcessState, Hook, Hooks, Mount, Root, State};
-use oci_runtime_spec::Spec;
 use oci_schema::Schema;
 use oci_schemas::features::{
     apparmor, cgroup, features, id_map, intel_rdt, linux_feature, memory_policy, mount_extensions,

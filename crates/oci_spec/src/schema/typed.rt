@@ -2,21 +2,21 @@
 ghost use Rattle.std.specs.Prelude.{◌≡◌, ◌↔◌, [], true, map, IfOk, IfErr, OnOk};
 ghost use Rattle.std.specs.List.{Contains};
 ghost use Rattle.serde_json.specs.View.{view};
-ghost use Rattle.oci_text_base.specs.Refused.{IsSchema, IsMemoryOrSchema};
-ghost use Rattle.oci_json_model.specs.Plain.{Plain};
-ghost use Rattle.oci_json_model.specs.Means.{Means};
-ghost use Rattle.oci_json_model.specs.Value.{value as json_of};
-ghost use Rattle.oci_json_model.specs.Writable.{Writable};
-ghost use Rattle.oci_json_io.specs.Engines.{WritesDocument, ReadsBackDocument};
-ghost use Rattle.oci_schema_types.specs.Shapes.{schema_shape};
+ghost use Rattle.oci_base.specs.Refused.{IsSchema, IsMemoryOrSchema};
+ghost use Rattle.oci_model.specs.Plain.{Plain};
+ghost use Rattle.oci_model.specs.Means.{Means};
+ghost use Rattle.oci_model.specs.Value.{value as json_of};
+ghost use Rattle.oci_model.specs.Writable.{Writable};
+ghost use Rattle.oci_json.specs.Engines.{WritesDocument, ReadsBackDocument};
+ghost use Rattle.oci_schema.specs.Shapes.{schema_shape};
 ghost use Rattle.oci_schema.specs.Violations.{Report, reported, violations as all_violations};
 ghost use Rattle.oci_schema.specs.Wants.{IsViolation};
 ghost use Rattle.oci_schema.specs.Normalized.{HasNoNormalForm};
 ghost use Rattle.oci_schema.specs.Normalizes.{Normalizes, WritesPretty};
 
-use oci_json_model::OciRecord;
+use oci_base::Result;
+use oci_model::OciRecord;
 use oci_schema::{Records, Schema, Violation};
-use oci_text_base::Result;
 use serde_json::Value;
 use std::alloc::{AllocError, Global};
 use std::io::{Read, Write};
@@ -74,7 +74,7 @@ pub fn normalize_as<T: HasSchema, R: Read + Drop, W: Write>(
     ensures reads_back { OnOk result (ReadsBackDocument T.shape (R.remaining reader)) }
 {
     let (records, schema) = T::schema();
-    oci_schema_bytes::normalize(records, schema, alloc, reader, writer)
+    oci_schema::bytes::normalize(records, schema, alloc, reader, writer)
 }
 
 /// Reads a `T` to the end of the input and writes its normal form as pretty JSON, as `normalize_pretty` does.

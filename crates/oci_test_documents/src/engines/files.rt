@@ -1,13 +1,13 @@
 use crate::checks::{check_io, check_refused};
 use crate::distribution::reply;
+use oci_base::Result;
 use oci_distribution::ErrorResponse;
 use oci_json::{from_file, to_file, to_file_pretty};
-use oci_test_harness::{Harness, HarnessOutOfMemory};
-use oci_text_base::Result;
+use oci_test_support::{Harness, HarnessOutOfMemory};
 use std::fs;
 use std::io::ErrorKind;
 
-/// A document that can't be written makes no file. What is written to one, and one that keeps its bytes, is run in `oci_test_vectors`.
+/// A document that can't be written makes no file. What is written to one, and one that keeps its bytes, is run in `oci_vectors`.
 fn unwritable(harness: &mut Harness<'_>) -> std::result::Result<(), HarnessOutOfMemory> {
     let path = "unwritable.json";
     let refused = put(harness.rt, "abcd", path);

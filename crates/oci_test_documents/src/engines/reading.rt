@@ -1,10 +1,10 @@
 use super::rows::{FAILING_READERS, LISTS};
 use crate::checks::{Answer, check, check_io, repeated, written};
+use oci_base::Result;
 use oci_distribution::RepositoryList;
 use oci_json::{from_reader, from_slice, normalize};
-use oci_json_model::optional_either;
-use oci_test_harness::{Harness, HarnessOutOfMemory, Input, Manner};
-use oci_text_base::Result;
+use oci_model::optional_either;
+use oci_test_support::{Harness, HarnessOutOfMemory, Input, Manner};
 use serde_json::Value;
 use std::alloc::Global;
 use std::io::ErrorKind;

@@ -1,10 +1,10 @@
 use super::rows::DETAILS;
 use crate::checks::{check, check_refused, written};
 use crate::distribution::{info, reply};
+use oci_base::Result;
 use oci_json::{to_string, to_string_pretty, to_writer, to_writer_pretty};
-use oci_json_model::OciRecord;
-use oci_test_harness::{Harness, Manner};
-use oci_text_base::Result;
+use oci_model::OciRecord;
+use oci_test_support::{Harness, Manner};
 
 const PLACE: (&str, &str) = ("ErrorInfo", "detail");
 

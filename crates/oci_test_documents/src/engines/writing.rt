@@ -1,9 +1,9 @@
 use super::rows::{FAILING_WRITERS, REPLIES};
 use crate::checks::{check, check_io};
+use oci_base::Result;
 use oci_distribution::ErrorResponse;
 use oci_json::{from_slice, normalize, to_string, to_string_pretty, to_writer, to_writer_pretty};
-use oci_test_harness::{Harness, Manner};
-use oci_text_base::Result;
+use oci_test_support::{Harness, Manner};
 use std::alloc::Global;
 use std::io::ErrorKind;
 

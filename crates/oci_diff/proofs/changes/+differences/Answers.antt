@@ -1,15 +1,14 @@
 use Rattle.std.proofs.Common.{◌≡◌, List, get_or, subst, ◌<◌, length, ◌≤◌, rules, arith, sym, ap, ◌∙◌, None, Some, inl, inr}
 use Rattle.std.proofs.lemmas.Result.{on_ok_weaker}
-use Rattle.serde_json.specs.Data.{object, array}
+use Rattle.serde_json.specs.Data.{object, array, member}
 use Rattle.serde_json.specs.Find.{get, get_item}
 use Rattle.serde_json.specs.View.{view, items_view, members_view}
 use Rattle.serde_json.proofs.Views.{view-Object, view-Array}
 use Rattle.oci_schema.specs.Places.{under_name, under_index}
 use Rattle.oci_diff.proofs.Adds.{in_turn, at_both, within_size, both_parts, member_adds, item_adds, new_item, old_item, old_member, within_size, first_have, rest_among, rest_smaller}
 use Rattle.std.specs.Prelude.{string_bytes}
-use Rattle.serde_json.specs.Data.{member}
 use Rattle.oci_diff.specs.declared.changes.Change.TheVariants.{Added, Removed}
-use Rattle.oci_json_model.specs.Sizes.{size, items_size}
+use Rattle.oci_model.specs.Sizes.{size, items_size}
 use Rattle.oci_diff.proofs.Aligning.{item_at}
 use Rattle.oci_diff.specs.Best.{IsStepOf}
 use Rattle.oci_diff.specs.Same.{AreSame}

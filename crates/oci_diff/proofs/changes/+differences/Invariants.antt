@@ -1,7 +1,7 @@
 use Rattle.std.proofs.Common.{◌+◌, ◌*◌, ◌≤◌, length}
 use Rattle.serde_json.specs.Data.{object, array}
 use Rattle.serde_json.specs.View.{view, items_view, members_view}
-use Rattle.oci_json_model.specs.Sizes.{size, items_size, members_size}
+use Rattle.oci_model.specs.Sizes.{size, items_size, members_size}
 use Rattle.oci_diff.specs.Differs.{StandAt, AddsIf}
 use Rattle.oci_diff.proofs.Ways.{AreAmong}
 use Rattle.oci_diff.proofs.changes.+differences.Given as goal

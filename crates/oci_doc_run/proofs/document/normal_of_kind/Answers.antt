@@ -1,6 +1,6 @@
 use Rattle.std.proofs.Common.{subst}
 use Rattle.std.specs.Io.KnownBytes.{Appends}
-use Rattle.oci_json_io.specs.Engines.{WritesDocument}
+use Rattle.oci_json.specs.Engines.{WritesDocument}
 use Rattle.oci_doc_run.proofs.document.normal_of_kind.Goals as goal
 
 pub returns-clause-ok : goal.returns-clause-ok

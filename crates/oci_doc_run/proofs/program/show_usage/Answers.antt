@@ -1,5 +1,5 @@
 use Rattle.std.proofs.Common.{subst}
-use Rattle.oci_json_io.specs.Engines.{AppendsSome}
+use Rattle.oci_json.specs.Engines.{AppendsSome}
 use Rattle.oci_doc_run.proofs.Begun.{begun}
 use Rattle.oci_doc_run.proofs.program.show_usage.Goals as goal
 

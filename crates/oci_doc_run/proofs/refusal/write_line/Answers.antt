@@ -1,6 +1,6 @@
 use Rattle.std.proofs.Common.{[], ◌∷◌, ◌++◌, subst}
 use Rattle.std.specs.Io.KnownBytes.{Appends}
-use Rattle.oci_json_io.specs.Engines.{AppendsSome}
+use Rattle.oci_json.specs.Engines.{AppendsSome}
 use Rattle.oci_doc_run.proofs.Begun.{appends_first, appends_then, err_gives, on_err}
 use Rattle.oci_doc_run.proofs.refusal.write_line.Goals as goal
 

@@ -1,8 +1,8 @@
 use Rattle.std.proofs.Common.{refl}
 use Rattle.serde_json.specs.Data.{Data}
-use Rattle.oci_json_model.specs.Plain.{Slots, no_slots, slot}
-use Rattle.oci_json_model.specs.Shape.{Shape, rows}
-use Rattle.oci_json_model.specs.Means.{MeansRows}
+use Rattle.oci_model.specs.Plain.{Slots, no_slots, slot}
+use Rattle.oci_model.specs.Shape.{Shape, rows}
+use Rattle.oci_model.specs.Means.{MeansRows}
 use Rattle.oci_json.specs.Examples.{system, twice_named}
 use Rattle.oci_json.proofs.laws.second_names.Goals as goal
 

@@ -1,6 +1,6 @@
 use Rattle.oci_linux.specs.Defaults.{new_namespace}
-use Rattle.oci_linux_records.specs.LinuxNamespace.{linux_namespace_plain}
-use Rattle.oci_linux_records.proofs.Lists.{plains_next}
+use Rattle.oci_linux.specs.LinuxNamespace.{linux_namespace_plain}
+use Rattle.oci_linux.proofs.Lists.{plains_next}
 use Rattle.oci_linux.proofs.defaults.namespaces_of.Goals as goal
 
 pub loop-typ-preserved : goal.loop-typ-preserved

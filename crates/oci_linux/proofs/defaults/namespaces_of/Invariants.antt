@@ -1,7 +1,7 @@
 use Rattle.std.proofs.Common.{◌≡◌, take, map}
-use Rattle.oci_json_model.specs.Plain.{plains}
+use Rattle.oci_model.specs.Plain.{plains}
 use Rattle.oci_linux.specs.Defaults.{new_namespace}
-use Rattle.oci_linux_records.specs.LinuxNamespace.{linux_namespace_plain}
+use Rattle.oci_linux.specs.LinuxNamespace.{linux_namespace_plain}
 use Rattle.oci_linux.proofs.defaults.namespaces_of.Given as goal
 
 abbrev pub invariant-loop-typ : goal.invariant-loop-typ

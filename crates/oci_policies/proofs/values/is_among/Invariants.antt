@@ -1,5 +1,5 @@
 use Rattle.std.proofs.Common.{◌≡◌, drop}
-use Rattle.oci_text_base.specs.Names.{is_listed}
+use Rattle.oci_base.specs.Names.{is_listed}
 use Rattle.oci_rules.specs.Tables.{texts_of}
 use Rattle.oci_policies.proofs.values.is_among.Given as goal
 

@@ -2,9 +2,9 @@
 use Rattle.std.proofs.Common.{sym, ◌∙◌, ap}
 use Rattle.std.specs.Prelude.{Some}
 use Rattle.std.proofs.lemmas.Str.Pattern.{split_parts, NoCharPasses-char}
-use Rattle.oci_text_base.specs.Classes.{until, after}
-use Rattle.oci_text_base.proofs.Lacks.{lacks_from}
-use Rattle.oci_text_base.proofs.Marks.{not_cut, until_is}
+use Rattle.oci_base.specs.Classes.{until, after}
+use Rattle.oci_base.proofs.Lacks.{lacks_from}
+use Rattle.oci_base.proofs.Marks.{not_cut, until_is}
 use Rattle.oci_reference.proofs.names.cut_at.Goals as goal
 
 pub returns-in-None-clause-before : goal.returns-in-None-clause-before

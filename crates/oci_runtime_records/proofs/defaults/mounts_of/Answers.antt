@@ -1,4 +1,4 @@
-use Rattle.oci_linux_records.proofs.Lists.{plains_next}
+use Rattle.oci_linux.proofs.Lists.{plains_next}
 use Rattle.oci_runtime_records.specs.DefaultMounts.{mount_of_row}
 use Rattle.oci_runtime_records.specs.Mount.{mount_plain}
 use Rattle.oci_runtime_records.proofs.defaults.mounts_of.Goals as goal

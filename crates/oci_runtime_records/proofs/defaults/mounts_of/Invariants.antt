@@ -1,5 +1,5 @@
 use Rattle.std.proofs.Common.{◌≡◌, take, map}
-use Rattle.oci_json_model.specs.Plain.{plains}
+use Rattle.oci_model.specs.Plain.{plains}
 use Rattle.oci_runtime_records.specs.DefaultMounts.{mount_of_row}
 use Rattle.oci_runtime_records.specs.Mount.{mount_plain}
 use Rattle.oci_runtime_records.proofs.defaults.mounts_of.Given as goal

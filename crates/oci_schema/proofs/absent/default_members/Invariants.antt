@@ -1,9 +1,9 @@
 use Rattle.std.proofs.Common.{drop, map}
 use Rattle.serde_json.specs.Data.{no_members}
 use Rattle.serde_json.specs.View.{members_view}
-use Rattle.oci_json_model.specs.Plain.{slots}
-use Rattle.oci_json_model.specs.Value.{with_rows}
-use Rattle.oci_schema_types.specs.Shapes.{default_slot, members_in}
+use Rattle.oci_model.specs.Plain.{slots}
+use Rattle.oci_model.specs.Value.{with_rows}
+use Rattle.oci_schema.specs.Shapes.{default_slot, members_in}
 use Rattle.oci_schema.proofs.Filled.{Filled}
 use Rattle.oci_schema.proofs.absent.default_members.Given as goal
 

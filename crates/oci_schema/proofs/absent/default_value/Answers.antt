@@ -2,7 +2,7 @@ use Rattle.std.proofs.Common.{ap, ◌∙◌}
 use Rattle.serde_json.specs.Data.{array}
 use Rattle.serde_json.specs.View.{items_view}
 use Rattle.serde_json.proofs.Views.{view-Array}
-use Rattle.oci_schema_types.specs.Shapes.{default_plain, schema_shape}
+use Rattle.oci_schema.specs.Shapes.{default_plain, schema_shape}
 use Rattle.oci_schema.proofs.DefaultValues.{variant_default, boolean_default, empty_default}
 use Rattle.oci_schema.proofs.absent.default_value.Goals as goal
 

@@ -1,6 +1,6 @@
 use Rattle.std.proofs.lemmas.Result.{IfErr-weaker}
 use Rattle.serde_json.specs.View.{view}
-use Rattle.oci_schema_types.specs.Shapes.{schema_shape}
+use Rattle.oci_schema.specs.Shapes.{schema_shape}
 use Rattle.oci_schema.proofs.Means.{normal_of, not_normalized}
 use Rattle.oci_schema.proofs.compact.normal_value_from_reader.Goals as goal
 

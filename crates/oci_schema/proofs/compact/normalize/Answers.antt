@@ -3,9 +3,9 @@ use Rattle.std.proofs.lemmas.Result.{err_from_is_err_and}
 use Rattle.std.specs.Io.KnownBytes.{Appends}
 use Rattle.serde_json.specs.View.{view}
 use Rattle.serde_json.specs.Written.{compact_text}
-use Rattle.oci_json_io.specs.Engines.{AppendsSome}
-use Rattle.oci_json_io.proofs.Texts.{none_in, read_back}
-use Rattle.oci_schema_types.specs.Shapes.{schema_shape}
+use Rattle.oci_json.specs.Engines.{AppendsSome}
+use Rattle.oci_json.proofs.Texts.{none_in, read_back}
+use Rattle.oci_schema.specs.Shapes.{schema_shape}
 use Rattle.oci_schema.proofs.Means.{write_failed}
 use Rattle.oci_schema.proofs.compact.normalize.Goals as goal
 

@@ -1,8 +1,8 @@
 use Rattle.std.proofs.Common.{ap, ◌∙◌, ◌+◌, drop, length, arith, option_map}
 use Rattle.std.proofs.lemmas.Result.{IfOk-from_err}
 use Rattle.serde_json.specs.View.{view, items_view, members_view}
-use Rattle.oci_json_model.specs.Sizes.{items_size, members_size}
-use Rattle.oci_schema_types.specs.Shapes.{part_shape}
+use Rattle.oci_model.specs.Sizes.{items_size, members_size}
+use Rattle.oci_schema.specs.Shapes.{part_shape}
 use Rattle.oci_schema.specs.Places.{under_name}
 use Rattle.oci_schema.specs.Violations.{violations}
 use Rattle.oci_schema.proofs.ListedParts.{item_more, entry_more, no_item_more, member_more, no_member_more}

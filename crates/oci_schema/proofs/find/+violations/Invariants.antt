@@ -1,7 +1,7 @@
 use Rattle.std.proofs.Common.{◌≡◌, ◌++◌, ◌+◌, ◌*◌, ◌≤◌, drop, map, option_map}
 use Rattle.serde_json.specs.View.{view, items_view, members_view}
-use Rattle.oci_json_model.specs.Sizes.{size, items_size, members_size, found_size}
-use Rattle.oci_schema_types.specs.Shapes.{part_shape, members_in}
+use Rattle.oci_model.specs.Sizes.{size, items_size, members_size, found_size}
+use Rattle.oci_schema.specs.Shapes.{part_shape, members_in}
 use Rattle.oci_schema.specs.Violations.{reported, violations, each_violations, each_member_violations, rows_violations}
 use Rattle.oci_schema.proofs.find.+violations.Given as goal
 

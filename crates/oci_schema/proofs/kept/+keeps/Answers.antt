@@ -1,10 +1,10 @@
 use Rattle.std.proofs.Common.{refl, ap, rules, arith}
 use borrow.Author.Tests.{tests}
-use Rattle.oci_schema_types.specs.Shapes.{members_in, part_shape, schema_shape}
+use Rattle.oci_schema.specs.Shapes.{members_in, part_shape, schema_shape}
 use Rattle.oci_schema.proofs.NormalMembers.{members_normal}
 use Rattle.oci_schema.proofs.NormalParts.{in_order, list_normal, map_normal}
 use Rattle.oci_schema.proofs.Steps.{items_left, normal_left, none_left_normal, well_left, well_later, entry_here, entry_later}
-use Rattle.oci_json_model.specs.Sizes.{items_size}
+use Rattle.oci_model.specs.Sizes.{items_size}
 use Rattle.serde_json.specs.View.{view}
 use Rattle.oci_schema.proofs.kept.+keeps.Goals as goal
 

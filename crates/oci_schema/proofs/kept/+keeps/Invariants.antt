@@ -1,8 +1,8 @@
 use Rattle.std.proofs.Common.{◌+◌, ◌*◌, ◌≤◌, drop}
 use Rattle.serde_json.specs.View.{view, items_view, members_view}
-use Rattle.oci_json_model.specs.Sizes.{size, items_size, members_size}
-use Rattle.oci_json_model.specs.WellFormed.{AreWellFormed}
-use Rattle.oci_schema_types.specs.Shapes.{part_shape, members_in}
+use Rattle.oci_model.specs.Sizes.{size, items_size, members_size}
+use Rattle.oci_model.specs.WellFormed.{AreWellFormed}
+use Rattle.oci_schema.specs.Shapes.{part_shape, members_in}
 use Rattle.oci_schema.specs.Normal.{AreNormal, HoldNormal, IsNormalEntry, AreNormalEntries}
 use Rattle.oci_schema.proofs.kept.+keeps.Given as goal
 

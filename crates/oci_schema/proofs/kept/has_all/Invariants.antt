@@ -1,8 +1,8 @@
 use Rattle.std.proofs.Common.{ℕ, drop}
 use Rattle.serde_json.specs.View.{members_view}
-use Rattle.oci_json_model.specs.Shape.{Shape}
+use Rattle.oci_model.specs.Shape.{Shape}
 use Rattle.oci_schema.specs.Normal.{HasAll}
-use Rattle.oci_schema_types.specs.Shapes.{members_in}
+use Rattle.oci_schema.specs.Shapes.{members_in}
 use Rattle.oci_schema.proofs.kept.has_all.Given as goal
 
 abbrev pub invariant-loop-member : goal.invariant-loop-member

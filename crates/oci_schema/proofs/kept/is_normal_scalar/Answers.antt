@@ -1,5 +1,5 @@
 use Rattle.std.proofs.Common.{ap, sym, ◌∙◌}
-use Rattle.oci_schema_types.specs.Shapes.{scalar_shape}
+use Rattle.oci_schema.specs.Shapes.{scalar_shape}
 use Rattle.oci_schema.proofs.NormalParts.{keys_normal, detail_normal}
 use Rattle.oci_schema.proofs.kept.is_normal_scalar.Goals as goal
 

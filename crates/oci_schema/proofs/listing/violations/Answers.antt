@@ -1,7 +1,7 @@
 use Rattle.std.proofs.Common.{[], ◌++◌, map, sym, ap, ◌∙◌, subst}
 use Rattle.std.specs.List.{Contains}
 use Rattle.serde_json.specs.View.{view}
-use Rattle.oci_schema_types.specs.Shapes.{schema_shape}
+use Rattle.oci_schema.specs.Shapes.{schema_shape}
 use Rattle.oci_schema.specs.Violations.{Report, reported, violations}
 use Rattle.oci_schema.proofs.Complete.{is_listed}
 use Rattle.oci_schema.proofs.Listed.{empty_is_meant}

@@ -1,8 +1,8 @@
 use Rattle.serde_json.specs.View.{view}
-use Rattle.oci_runtime_names.specs.Capability.{capability_table}
-use Rattle.oci_runtime_names.specs.CapabilitySets.{set_plain}
-use Rattle.oci_json_model.specs.Shape.{cap_set}
-use Rattle.oci_json_model.proofs.Lists.{exits}
+use Rattle.oci_text.specs.Capability.{capability_table}
+use Rattle.oci_text.specs.CapabilitySets.{set_plain}
+use Rattle.oci_model.specs.Shape.{cap_set}
+use Rattle.oci_model.proofs.Lists.{exits}
 use Rattle.oci_schema.proofs.Parts.{not_allowed, written_told}
 use Rattle.oci_schema.proofs.normal.normal_capabilities.Goals as goal
 

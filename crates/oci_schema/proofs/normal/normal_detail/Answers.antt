@@ -1,5 +1,5 @@
 use Rattle.serde_json.specs.View.{view}
-use Rattle.oci_json_model.proofs.Lists.{exits}
+use Rattle.oci_model.proofs.Lists.{exits}
 use Rattle.oci_schema.proofs.Parts.{not_accepted}
 use Rattle.oci_schema.proofs.normal.normal_detail.Goals as goal
 

@@ -1,7 +1,7 @@
 use Rattle.serde_json.specs.View.{view}
-use Rattle.oci_json_members.specs.Keys.{keys_plain}
-use Rattle.oci_json_model.specs.Shape.{key_set}
-use Rattle.oci_json_model.proofs.Lists.{exits}
+use Rattle.oci_model.specs.Keys.{keys_plain}
+use Rattle.oci_model.specs.Shape.{key_set}
+use Rattle.oci_model.proofs.Lists.{exits}
 use Rattle.oci_schema.proofs.Parts.{not_allowed, written_told}
 use Rattle.oci_schema.proofs.normal.normal_keys.Goals as goal
 

@@ -7,17 +7,17 @@ use Rattle.std.specs.Vec.Iter.{into_iter_items}
 use Rattle.serde_json.specs.Data.{array, object}
 use Rattle.serde_json.specs.View.{view, items_view, members_view}
 use Rattle.serde_json.proofs.Views.{Entry, view-Array, view-Object}
-use Rattle.oci_json_model.proofs.Lists.{exits}
+use Rattle.oci_model.proofs.Lists.{exits}
 use Rattle.oci_schema.specs.Allows.{each_allowed, each_member_allowed}
 use Rattle.oci_schema.specs.Normalized.{accepts, normalized, each_normalized, each_member_normalized}
-use Rattle.oci_schema_types.specs.Shapes.{presence_of, part_shape, schema_shape, members_in}
+use Rattle.oci_schema.specs.Shapes.{presence_of, part_shape, schema_shape, members_in}
 use Rattle.oci_schema.proofs.Accepted.{of_member}
 use Rattle.oci_schema.proofs.Exits.{handed_on}
 use Rattle.oci_schema.proofs.Given.{one_allowed, ends}
 use Rattle.oci_schema.proofs.GivenParts.{given_written, given_refused, none_written, none_refused}
 use Rattle.oci_schema.proofs.Parts.{none_left, items_more, items_all, members_more}
-use Rattle.oci_json_model.specs.Sizes.{items_size, members_size}
-use Rattle.oci_json_model.specs.Value.{value as json_of}
+use Rattle.oci_model.specs.Sizes.{items_size, members_size}
+use Rattle.oci_model.specs.Value.{value as json_of}
 use Rattle.oci_schema.proofs.Moved.{moved_more, moved_refused, moved_all}
 use Rattle.oci_schema.proofs.GivenSmaller.{given_smaller}
 use Rattle.oci_schema.proofs.Steps.{well_left}

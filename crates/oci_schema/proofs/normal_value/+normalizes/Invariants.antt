@@ -7,8 +7,8 @@ use Rattle.oci_schema.specs.Allows.{each_allowed, each_member_allowed}
 use Rattle.oci_schema.specs.Normalized.{accepts, normalized, each_normalized, each_member_normalized}
 use Rattle.oci_schema.proofs.Moved.{Moved}
 use Rattle.oci_schema.proofs.Parts.{joined}
-use Rattle.oci_schema_types.specs.Shapes.{part_shape, members_in}
-use Rattle.oci_json_model.specs.Sizes.{size, items_size, members_size, found_size}
+use Rattle.oci_schema.specs.Shapes.{part_shape, members_in}
+use Rattle.oci_model.specs.Sizes.{size, items_size, members_size, found_size}
 use Rattle.oci_schema.proofs.normal_value.+normalizes.Given as goal
 
 abbrev pub decreases-normal_members : goal.decreases-normal_members

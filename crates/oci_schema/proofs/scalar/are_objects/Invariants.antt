@@ -1,6 +1,6 @@
 use Rattle.std.proofs.Common.{◌≡◌}
 use Rattle.serde_json.specs.View.{members_view}
-use Rattle.oci_json_model.specs.Means.{is_object}
+use Rattle.oci_model.specs.Means.{is_object}
 use Rattle.oci_schema.specs.Allows.{each_member_allowed}
 use Rattle.oci_schema.proofs.scalar.are_objects.Given as goal
 

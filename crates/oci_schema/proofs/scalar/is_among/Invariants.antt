@@ -1,6 +1,6 @@
 use Rattle.std.proofs.Common.{◌≡◌, drop}
-use Rattle.oci_text_base.specs.Names.{is_listed}
-use Rattle.oci_schema_types.specs.Shapes.{names_of}
+use Rattle.oci_base.specs.Names.{is_listed}
+use Rattle.oci_schema.specs.Shapes.{names_of}
 use Rattle.oci_schema.proofs.scalar.is_among.Given as goal
 
 abbrev pub invariant-loop-name : goal.invariant-loop-name

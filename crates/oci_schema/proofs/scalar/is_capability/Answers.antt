@@ -1,5 +1,5 @@
-use Rattle.oci_json_model.specs.Variants.{listed}
-use Rattle.oci_runtime_names.specs.Capability.{capability_name, capability_table, all_capability, capability_back}
+use Rattle.oci_model.specs.Variants.{listed}
+use Rattle.oci_text.specs.Capability.{capability_name, capability_table, all_capability, capability_back}
 use Rattle.oci_schema.proofs.Texts.{capability_same}
 use Rattle.oci_schema.proofs.scalar.is_capability.Goals as goal
 

@@ -1,5 +1,5 @@
 use Rattle.serde_json.specs.View.{view}
-use Rattle.oci_schema_types.specs.Shapes.{schema_shape}
+use Rattle.oci_schema.specs.Shapes.{schema_shape}
 use Rattle.oci_schema.proofs.Accepted.{sound, answers_all, refuses_all}
 use Rattle.oci_schema.proofs.value.normalize_value.Goals as goal
 

@@ -2,8 +2,8 @@
 use Rattle.std.proofs.Common.{length, ap, lit<}
 use Rattle.std.specs.Prelude.{None, Some}
 use Rattle.std.proofs.lemmas.Str.Pattern.{split_after}
-use Rattle.oci_text_base.specs.Classes.{until, after, colon}
-use Rattle.oci_text_base.proofs.Lacks.{lacks_at}
+use Rattle.oci_base.specs.Classes.{until, after, colon}
+use Rattle.oci_base.proofs.Lacks.{lacks_at}
 use Rattle.oci_text.proofs.Algorithm.{no_colon}
 use Rattle.oci_text.proofs.digest.algorithm_len.Goals as goal
 

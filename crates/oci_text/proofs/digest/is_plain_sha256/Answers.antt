@@ -3,8 +3,8 @@ use Rattle.std.proofs.Common.{sym, ◌∙◌, ap, subst}
 use Rattle.std.proofs.lemmas.List.{take-append-drop}
 use Rattle.std.proofs.lemmas.Slice.Eq.{bytes_eq-Decides}
 use Rattle.std.specs.Prelude.{take, drop, codes, ◌++◌}
-use Rattle.oci_text_base.specs.Classes.{until, after, colon}
-use Rattle.oci_text_base.specs.Digest.{IsDigestText}
+use Rattle.oci_base.specs.Classes.{until, after, colon}
+use Rattle.oci_base.specs.Digest.{IsDigestText}
 use Rattle.oci_text.proofs.ShaDigests.{sha_text}
 use Rattle.oci_text.proofs.digest.is_plain_sha256.Goals as goal
 

@@ -3,8 +3,8 @@ use Rattle.std.proofs.Common.{◌≡◌, length}
 use denote.Text.{Utf8}
 use denote.Shadow.{shadow}
 use Rattle.std.specs.List.{slice_split}
-use Rattle.oci_text_base.specs.Classes.{is_joint}
-use Rattle.oci_text_base.specs.Digest.{component_refusal}
+use Rattle.oci_base.specs.Classes.{is_joint}
+use Rattle.oci_base.specs.Digest.{component_refusal}
 use Rattle.oci_text.proofs.fault.components_fault.Given as goal
 
 abbrev pub invariant-loop-end : goal.invariant-loop-end

@@ -3,8 +3,8 @@ use Rattle.std.proofs.Common.{sym, ◌∙◌, ap, lit<}
 use Rattle.std.specs.Prelude.{Some}
 use Rattle.std.specs.Option.{option_or}
 use Rattle.std.proofs.lemmas.Str.Pattern.{split_parts, NoCharPasses-char}
-use Rattle.oci_text_base.specs.Classes.{colon}
-use Rattle.oci_text_base.specs.Digest.{encoded_refusal}
+use Rattle.oci_base.specs.Classes.{colon}
+use Rattle.oci_base.specs.Digest.{encoded_refusal}
 use Rattle.oci_text.proofs.Components.{missing, by_cut}
 use Rattle.oci_text.proofs.fault.digest_fault.Goals as goal
 

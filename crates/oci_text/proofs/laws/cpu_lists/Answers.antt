@@ -1,4 +1,4 @@
-use Rattle.oci_text.proofs.CpuLists.{range_and_number, counts_down, open_range, no_text}
+use Rattle.oci_text.proofs.CpuExamples.{range_and_number, counts_down, open_range, no_text}
 use Rattle.oci_text.proofs.laws.cpu_lists.Goals as goal
 
 pub returns-clause-ranges : goal.returns-clause-ranges

@@ -1,5 +1,5 @@
 use Rattle.std.proofs.Common.{◌≡◌, [], ◌∷◌, ◌++◌, subst, refl}
-use Rattle.oci_json_io.specs.Engines.{AppendsSome}
+use Rattle.oci_json.specs.Engines.{AppendsSome}
 use Rattle.oci_doc_run.specs.Refusals.{line_of}
 use Rattle.oci_doc_run.proofs.Begun.{begun}
 use Rattle.oci_doc_run.proofs.refusal.Refusal.report.Goals as goal

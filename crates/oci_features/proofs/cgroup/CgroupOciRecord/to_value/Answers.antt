@@ -2,8 +2,8 @@
 -- What is written without an error, and why there is one.
 use Rattle.std.proofs.Common.{codes, ap, refl, sym, ◌∙◌}
 use Rattle.serde_json.specs.Data.{object}
-use Rattle.oci_json_model.specs.Value.{with_member}
-use Rattle.oci_json_model.proofs.Unfaulted.{before, refused, unfaulted, unfaulted_view}
+use Rattle.oci_model.specs.Value.{with_member}
+use Rattle.oci_model.proofs.Unfaulted.{before, refused, unfaulted, unfaulted_view}
 use Rattle.oci_features.proofs.cgroup.CgroupOciRecord.to_value.Goals as goal
 
 pub returns-clause-ok : goal.returns-clause-ok

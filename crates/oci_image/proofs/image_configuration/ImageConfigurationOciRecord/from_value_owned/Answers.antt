@@ -3,7 +3,7 @@
 use Rattle.std.proofs.Common.{refl}
 use Rattle.std.proofs.lemmas.Option.{MatchOption-at_some}
 use Rattle.serde_json.specs.View.{view}
-use Rattle.oci_json_model.proofs.Together.{answered}
+use Rattle.oci_model.proofs.Together.{answered}
 use Rattle.oci_image.proofs.image_configuration.ImageConfigurationOciRecord.from_value_owned.Goals as goal
 
 pub returns-clause-ok : goal.returns-clause-ok

@@ -2,7 +2,7 @@
 -- What is written without an error, and why there is one.
 use Rattle.std.proofs.Common.{codes, ap, refl, sym, ◌∙◌}
 use Rattle.serde_json.specs.Data.{object, put}
-use Rattle.oci_json_model.proofs.Unfaulted.{before, refused, unfaulted, unfaulted_view}
+use Rattle.oci_model.proofs.Unfaulted.{before, refused, unfaulted, unfaulted_view}
 use Rattle.oci_platforms.proofs.vm_image.VMImageOciRecord.to_value.Goals as goal
 
 pub returns-clause-ok : goal.returns-clause-ok

@@ -2,7 +2,7 @@
 use Rattle.std.proofs.Common.{refl, rules}
 use Rattle.std.proofs.lemmas.Option.{MatchOption-at_some}
 use Rattle.serde_json.specs.View.{view}
-use Rattle.oci_json_model.proofs.Together.{answered}
+use Rattle.oci_model.proofs.Together.{answered}
 use Rattle.oci_reference.proofs.reference.ReferenceOciRecord.from_value_owned.Goals as goal
 
 pub returns-clause-ok : goal.returns-clause-ok

@@ -1,7 +1,7 @@
 use Rattle.std.proofs.Common.{◌↔◌, map, IfOk, subst}
 use Rattle.std.specs.List.{Contains}
 use Rattle.serde_json.specs.View.{view}
-use Rattle.oci_json_model.specs.Shape.{Shape}
+use Rattle.oci_model.specs.Shape.{Shape}
 use Rattle.oci_schema.specs.Violations.{Report, reported}
 use Rattle.oci_schema.specs.Wants.{IsViolation}
 use Rattle.oci_spec.proofs.schema.typed.violations_as.Goals as goal

@@ -1,7 +1,7 @@
 -- A named one is read from its own text.
 use Rattle.std.proofs.Common.{◌≡◌, ap, ◌∙◌, subst}
 use Rattle.std.specs.Result.{IfOk}
-use Rattle.oci_text_base.specs.Names.{opened}
+use Rattle.oci_base.specs.Names.{opened}
 use Rattle.oci_text.specs.Arch.{arch_name, arches}
 use Rattle.oci_text.proofs.NamedArchitectures.{arch_back, arch_named}
 use Rattle.oci_text.proofs.arch.Arch.clone.Goals as goal

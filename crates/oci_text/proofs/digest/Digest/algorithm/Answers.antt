@@ -1,7 +1,7 @@
 -- Each reading is cut at the first colon.
 use Rattle.std.proofs.Common.{◌≡◌, rules}
-use Rattle.oci_text_base.specs.Classes.{until, colon}
-use Rattle.oci_text_base.specs.Names.{opened}
+use Rattle.oci_base.specs.Classes.{until, colon}
+use Rattle.oci_base.specs.Names.{opened}
 use Rattle.oci_text.specs.Algorithms.{algorithms, algorithm_name}
 use Rattle.oci_text.proofs.CutDigests.{of_algorithm}
 use Rattle.oci_text.proofs.digest.Digest.algorithm.Goals as goal

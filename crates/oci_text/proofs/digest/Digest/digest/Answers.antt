@@ -1,6 +1,6 @@
 -- Each reading is cut at the first colon.
 use Rattle.std.proofs.Common.{◌+◌, length, drop, ap, ◌∙◌, subst}
-use Rattle.oci_text_base.specs.Classes.{until, colon}
+use Rattle.oci_base.specs.Classes.{until, colon}
 use Rattle.oci_text.specs.CutDigests.{IsCutDigest}
 use Rattle.oci_text.proofs.CutDigests.{of_encoded, is_some_digest}
 use Rattle.oci_text.proofs.digest.Digest.digest.Goals as goal

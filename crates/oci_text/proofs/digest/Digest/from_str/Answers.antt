@@ -1,6 +1,6 @@
 -- A text without a fault is a digest.
 use Rattle.std.proofs.Common.{sym, subst}
-use Rattle.oci_text_base.specs.Refused.{Refuses}
+use Rattle.oci_base.specs.Refused.{Refuses}
 use Rattle.oci_text.specs.CutDigests.{IsCutDigest}
 use Rattle.oci_text.proofs.Refusals.{digest_text}
 use Rattle.oci_text.proofs.digest.Digest.from_str.Goals as goal

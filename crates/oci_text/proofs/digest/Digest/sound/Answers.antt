@@ -2,8 +2,8 @@
 use Rattle.std.proofs.Common.{◌≡◌, ◌∙◌, ap}
 use Rattle.std.proofs.Math.Seq.{take-append_seam}
 use Rattle.std.specs.Prelude.{List, ℕ, length, take, string_bytes, ◌++◌, ◌∷◌}
-use Rattle.oci_text_base.specs.Classes.{until, after, colon}
-use Rattle.oci_text_base.specs.Names.{opened}
+use Rattle.oci_base.specs.Classes.{until, after, colon}
+use Rattle.oci_base.specs.Names.{opened}
 use Rattle.oci_text.specs.Algorithms.{algorithms}
 use Rattle.oci_text.proofs.Components.{front_range}
 use Rattle.oci_text.proofs.digest.Digest.sound.Goals as goal

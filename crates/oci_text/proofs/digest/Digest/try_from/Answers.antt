@@ -1,8 +1,8 @@
 -- A text without a fault is a digest.
 use Rattle.std.proofs.Common.{string_bytes, Result, Ok, Err, ap, ◌∙◌, sym, subst}
 use Rattle.std.specs.Result.{IfOk, IfErr}
-use Rattle.oci_text_base.specs.Digest.{digest_refusal}
-use Rattle.oci_text_base.specs.Refused.{Refuses}
+use Rattle.oci_base.specs.Digest.{digest_refusal}
+use Rattle.oci_base.specs.Refused.{Refuses}
 use Rattle.oci_text.specs.CutDigests.{IsCutDigest}
 use Rattle.oci_text.proofs.CutDigests.{is_some_digest}
 use Rattle.oci_text.proofs.Refusals.{digest_text}

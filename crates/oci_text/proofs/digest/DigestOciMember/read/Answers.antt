@@ -2,7 +2,7 @@
 use Rattle.std.proofs.Common.{string_bytes, true≢false, ap, sym, ◌∙◌}
 use Rattle.std.specs.Prelude.{Some}
 use Rattle.serde_json.specs.View.{view}
-use Rattle.oci_json_model.proofs.Readers.{no_text, not_digest}
+use Rattle.oci_model.proofs.Readers.{no_text, not_digest}
 use Rattle.oci_text.proofs.CutDigests.{is_cut, is_some_digest, digest_means}
 use Rattle.oci_text.proofs.Memory.{at_exit, of_answer}
 use Rattle.oci_text.proofs.digest.DigestOciMember.read.Goals as goal

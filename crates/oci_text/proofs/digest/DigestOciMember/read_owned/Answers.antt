@@ -2,8 +2,8 @@
 use Rattle.std.proofs.Common.{string_bytes, true≢false, ap, sym, ◌∙◌, subst}
 use Rattle.std.specs.Prelude.{Some}
 use Rattle.serde_json.specs.View.{view}
-use Rattle.oci_json_model.proofs.Readers.{no_text, not_digest}
-use Rattle.oci_text_base.specs.Digest.{IsDigestText}
+use Rattle.oci_model.proofs.Readers.{no_text, not_digest}
+use Rattle.oci_base.specs.Digest.{IsDigestText}
 use Rattle.oci_text.proofs.CutDigests.{is_cut, digest_means}
 use Rattle.oci_text.proofs.Memory.{of_answer}
 use Rattle.oci_text.proofs.digest.DigestOciMember.read_owned.Goals as goal

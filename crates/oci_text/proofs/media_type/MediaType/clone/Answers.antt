@@ -1,7 +1,7 @@
 -- A named one is read from its own text.
 use Rattle.std.proofs.Common.{◌≡◌, ap, ◌∙◌, subst}
 use Rattle.std.specs.Result.{IfOk}
-use Rattle.oci_text_base.specs.Names.{opened}
+use Rattle.oci_base.specs.Names.{opened}
 use Rattle.oci_text.specs.MediaType.{media_type_name, media_types}
 use Rattle.oci_text.proofs.NamedMediaTypes.{media_type_back, media_type_named}
 use Rattle.oci_text.proofs.media_type.MediaType.clone.Goals as goal

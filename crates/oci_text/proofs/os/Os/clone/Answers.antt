@@ -1,7 +1,7 @@
 -- A named one is read from its own text.
 use Rattle.std.proofs.Common.{◌≡◌, ap, ◌∙◌, subst}
 use Rattle.std.specs.Result.{IfOk}
-use Rattle.oci_text_base.specs.Names.{opened}
+use Rattle.oci_base.specs.Names.{opened}
 use Rattle.oci_text.specs.Os.{os_name, oses}
 use Rattle.oci_text.proofs.NamedSystems.{os_back, os_named}
 use Rattle.oci_text.proofs.os.Os.clone.Goals as goal

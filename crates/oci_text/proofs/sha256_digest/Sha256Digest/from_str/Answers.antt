@@ -1,8 +1,8 @@
 -- The digits behind "sha256:" are those of a SHA-256, since the whole is a digest.
 use Rattle.std.proofs.Common.{◌++◌, ◌∙◌, ap, codes, refl, sym, subst}
 use Rattle.std.proofs.lemmas.Result.{IfOk-from_err}
-use Rattle.oci_text_base.specs.Digest.{IsSha, digest_refusal}
-use Rattle.oci_text_base.specs.Refused.{Refuses}
+use Rattle.oci_base.specs.Digest.{IsSha, digest_refusal}
+use Rattle.oci_base.specs.Refused.{Refuses}
 use Rattle.oci_text.specs.CutDigests.{IsCutDigest}
 use Rattle.oci_text.proofs.Memory.{at_exit, refuses}
 use Rattle.oci_text.proofs.Refusals.{digest_text}

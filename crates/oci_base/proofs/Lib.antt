@@ -1,0 +1,5 @@
+pub mod Lacks
+mod Lines
+pub mod Marks
+pub mod Runs
+mod Steps

@@ -1,0 +1,78 @@
+-- Bytes without a canonical form, and text that is none.
+use Rattle.std.specs.Prelude.{IfErr, IfSome}
+use Rattle.std.proofs.Common.{◌≡◌, ◌≢◌, Result, Ok, Err, ℕ, List, false, Option, Some, None, inl, inr, sym, ap, ◌∙◌, subst}
+use Rattle.serde_json.specs.Data.{Data}
+use Rattle.serde_json.specs.Read.{read}
+use Rattle.oci_model.specs.Plain.{Plain}
+use Rattle.oci_model.specs.Shape.{Shape}
+use Rattle.oci_model.specs.Means.{Means}
+use Rattle.oci_model.specs.Value.{value}
+use Rattle.oci_model.specs.Writable.{Writable}
+use Rattle.serde_json.specs.Written.{compact_text}
+use Rattle.oci_model.specs.Refused.{IsRefused}
+use Rattle.oci_json.specs.Engines.{IsNoJson, IsNotNormalized, MeansBytes}
+use Rattle.oci_json.proofs.OneMeaning.{one_meaning}
+use Rattle.oci_schema.proofs.Documents.{same_text}
+use Rattle.oci_schemas.specs.declared.kind.Kind.{Kind}
+use Rattle.oci_schemas.specs.Kinds.{shape_of}
+use Rattle.oci_base.specs.Refused.{IsJson, IsSchema}
+use Rattle.oci_base.specs.declared.error.OciSpecError.{OciSpecError}
+use Rattle.oci_base.specs.declared.error.OciSpecError.TheVariants as error
+use Rattle.oci_base.specs.declared.error.SerDeError.TheVariants as serde
+use Rattle.oci_findings.specs.Checks.{IsAsked}
+use Rattle.oci_commands.specs.declared.asked.Format.{Format}
+use Rattle.oci_commands.specs.Formats.{Formats, HasNoForm, IsNotCompact, IsSerDe, IsUnformatted, IsUnformattedAs}
+
+refuses : (s : Shape) (d : Data) → IsRefused s d → (p : Plain) → ¬ Means s d p
+unfolding IsRefused
+refuses s d h = h
+
+module _ (s : Shape) (bytes : List ℕ) where
+  of_no_json : IsNoJson bytes → (p : Plain) → MeansBytes s bytes p → ¬ Writable s p
+  of_no_json none p (d, reads, means) w = let no : read bytes ≡ None = none reads.0 in (let both : Some d ≡ None = sym reads.1 ∙ no in cc)
+
+  of_not_normalized : IsNotNormalized s bytes → (p : Plain) → MeansBytes s bytes p → ¬ Writable s p
+  of_not_normalized (inl (d, reads, refused)) p (e, other, means) w =
+      let same : d ≡ e = (let both : Some d ≡ Some e = sym reads.1 ∙ other.1 in cc) in
+      refuses s d refused p (subst (λ x. Means s x p) (sym same) means)
+  of_not_normalized (inr (q, (d, reads, means), not)) p (e, other, also) w =
+      let same : d ≡ e = (let both : Some d ≡ Some e = sym reads.1 ∙ other.1 in cc) in
+      not (subst (Writable s) (one_meaning s d p q (subst (λ x. Means s x p) (sym same) also) means) w)
+
+-- after an error of a document there is no canonical form
+pub no_form : (kind : Kind) (bytes : List ℕ) (e : OciSpecError) → (IsJson e → IsNoJson bytes) → (IsSchema e → IsNotNormalized (shape_of kind) bytes) → IsSerDe e → HasNoForm kind bytes
+no_form kind bytes (error.SerDe (serde.Json fault)) json schema h = of_no_json (shape_of kind) bytes (json tt)
+no_form kind bytes (error.SerDe (serde.Schema fault)) json schema h = of_not_normalized (shape_of kind) bytes (schema tt)
+no_form kind bytes (error.Other text) json schema h = absurd h
+no_form kind bytes (error.Io fault) json schema h = absurd h
+no_form kind bytes (error.Builder fault) json schema h = absurd h
+no_form kind bytes error.Memory json schema h = absurd h
+
+pub no_form_of : {A : Type 0} (r : Result A OciSpecError) (kind : Kind) (bytes : List ℕ) → IfErr r (λ e. IsJson e → IsNoJson bytes) → IfErr r (λ e. IsSchema e → IsNotNormalized (shape_of kind) bytes)
+    → IfErr r (λ e. IsSerDe e → HasNoForm kind bytes)
+no_form_of (Ok x) kind bytes json schema = tt
+no_form_of (Err e) kind bytes json schema = no_form kind bytes e json schema
+
+-- the bytes differ from the text of their document, so they are the text of none
+pub not_compact : (kind : Kind) (bytes text : List ℕ) → Formats (Some kind) false (Some bytes) (λ t. t ≡ text) → text ≢ bytes → IsNotCompact kind bytes
+not_compact kind bytes text (k, same, (p, means, is)) differs (l, also, (q, other, are)) =
+    let one : k ≡ l = sym same ∙ also in
+    differs (sym is ∙ same_text (shape_of k) bytes p q means (subst (λ x. MeansBytes (shape_of x) bytes q) (sym one) other)
+    ∙ ap (λ x. compact_text (value (shape_of x) q)) one ∙ are)
+
+unformatted_if : (asked : Option Kind) (a : Format) (kind : Kind) (bytes : List ℕ) → IsAsked asked kind → IsUnformattedAs kind a bytes → IfSome asked (λ k. IsUnformattedAs k a bytes)
+unformatted_if None a kind bytes fits h = tt
+unformatted_if (Some k) a kind bytes fits h = subst (λ x. IsUnformattedAs x a bytes) (sym fits) h
+
+-- what is not accepted as a document of the kind that was found is not, of the one that is asked for
+pub unformatted_asked : (a : Format) (kind : Kind) (bytes : List ℕ) → IsAsked a.kind kind → IsUnformattedAs kind a bytes → IsUnformatted a bytes
+unformatted_asked a kind bytes fits h = unformatted_if a.kind a kind bytes fits h
+
+listed_if : (asked : Option Kind) (a : Format) (bytes : List ℕ) (Clean : Type 0) → IfSome asked (λ k. (p : Plain) → MeansBytes (shape_of k) bytes p → Clean) → ¬ Clean
+    → IfSome asked (λ k. IsUnformattedAs k a bytes)
+listed_if None a bytes Clean all not = tt
+listed_if (Some k) a bytes Clean all not = inl (inl (λ p means w. not (all p means)))
+
+-- where something is listed that is not listed of a document
+pub unformatted_listed : (a : Format) (bytes : List ℕ) (Clean : Type 0) → IfSome a.kind (λ k. (p : Plain) → MeansBytes (shape_of k) bytes p → Clean) → ¬ Clean → IsUnformatted a bytes
+unformatted_listed a bytes Clean all not = listed_if a.kind a bytes Clean all not

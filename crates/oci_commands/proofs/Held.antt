@@ -1,0 +1,66 @@
+-- What holds of the bytes of a file, where they are known.
+use Rattle.std.proofs.Common.{◌≡◌, ◌⊎◌, inl, inr, ℕ, List, Bool, true, false, Option, Some, None, Result, Ok, Err, subst}
+use Rattle.std.specs.Prelude.{IfSome, OnOk}
+use Rattle.oci_model.specs.Shape.{Shape}
+use Rattle.oci_json.specs.Engines.{MeansBytes, WritesDocument}
+use Rattle.oci_model.specs.Plain.{Plain}
+use Rattle.oci_schema.specs.Normalizes.{WritesPretty}
+use Rattle.oci_schemas.specs.declared.kind.Kind.{Kind}
+use Rattle.oci_schemas.specs.Kinds.{shape_of}
+use Rattle.oci_doc_run.specs.Outputs.{WritesPinned}
+use Rattle.oci_findings.specs.Checks.{IsAsked}
+use Rattle.oci_commands.specs.Formats.{Formats}
+
+-- what holds of the bytes that were read
+pub held : (P : List ℕ → Type 0) (known : Option (List ℕ)) (bytes : List ℕ) → IfSome known (λ b. bytes ≡ b) → P bytes → IfSome known P
+held P None bytes is h = tt
+held P (Some b) bytes is h = subst P is h
+
+-- what is known of files that nothing changed
+pub moved : (new old : List ℕ → Option (List ℕ)) (P : List ℕ → Type 0) (name : List ℕ) → new ≡ old → IfSome (new name) P → IfSome (old name) P
+moved new old P name same h = subst (λ f. IfSome (f name) P) same h
+
+-- what holds in any case
+pub on_any : {A E : Type 0} (r : Result A E) {P : Type 0} → P → OnOk r P
+on_any (Ok x) h = h
+on_any (Err e) h = tt
+
+pub document_written : (s : Shape) (input : Option (List ℕ)) (W V : List ℕ → Type 0) → ((t : List ℕ) → W t → V t) → WritesDocument s input W → WritesDocument s input V
+document_written s input W V f h = let (p, means, wrote) = h in (p, means, f _ wrote)
+
+pub pretty_written : (s : Shape) (input : Option (List ℕ)) (W V : List ℕ → Type 0) → ((t : List ℕ) → W t → V t) → WritesPretty s input W → WritesPretty s input V
+pretty_written s input W V f h = let (p, means, rest) = h in let (text, is, wrote) = rest in (p, means, (text, is, f text wrote))
+
+-- the canonical form of the kind that was found is that of the kind that was asked for
+pub formats_asked : (asked : Option Kind) (kind : Kind) (pretty : Bool) (input : Option (List ℕ)) (W V : List ℕ → Type 0) → IsAsked asked kind → ((t : List ℕ) → W t → V t) → Formats (Some kind) pretty input W
+    → Formats asked pretty input V
+formats_asked asked kind false input W V fits f h = let (k, same, writes) = h in (k, subst (IsAsked asked) same fits, document_written (shape_of k) input W V f writes)
+formats_asked asked kind true input W V fits f h = let (k, same, writes) = h in (k, subst (IsAsked asked) same fits, pretty_written (shape_of k) input W V f writes)
+
+document_held : (s : Shape) (known : Option (List ℕ)) (bytes : List ℕ) (Writes : List ℕ → Type 0) → IfSome known (λ b. bytes ≡ b) → WritesDocument s (Some bytes) Writes → WritesDocument s known Writes
+document_held s None bytes Writes is h = let (p, means, wrote) = h in (p, tt, wrote)
+document_held s (Some b) bytes Writes is h = subst (λ x. WritesDocument s (Some x) Writes) is h
+
+pretty_held : (s : Shape) (known : Option (List ℕ)) (bytes : List ℕ) (Writes : List ℕ → Type 0) → IfSome known (λ b. bytes ≡ b) → WritesPretty s (Some bytes) Writes → WritesPretty s known Writes
+pretty_held s None bytes Writes is h = let (p, means, wrote) = h in (p, tt, wrote)
+pretty_held s (Some b) bytes Writes is h = subst (λ x. WritesPretty s (Some x) Writes) is h
+
+pub formats_held : (asked : Option Kind) (pretty : Bool) (known : Option (List ℕ)) (bytes : List ℕ) (Writes : List ℕ → Type 0) → IfSome known (λ b. bytes ≡ b)
+    → Formats asked pretty (Some bytes) Writes → Formats asked pretty known Writes
+formats_held asked false known bytes Writes is h = let (kind, fits, writes) = h in (kind, fits, document_held (shape_of kind) known bytes Writes is writes)
+formats_held asked true known bytes Writes is h = let (kind, fits, writes) = h in (kind, fits, pretty_held (shape_of kind) known bytes Writes is writes)
+
+pub pinned_held : (text : List ℕ) (known : Option (List ℕ)) (bytes : List ℕ) (Writes : List ℕ → Type 0) → IfSome known (λ b. bytes ≡ b) → WritesPinned text (Some bytes) Writes → WritesPinned text known Writes
+pinned_held text None bytes Writes is h = let (parts, d, accepted, means, wrote) = h in (parts, d, accepted, tt, wrote)
+pinned_held text (Some b) bytes Writes is h = subst (λ x. WritesPinned text (Some x) Writes) is h
+
+-- what is at fault in the bytes that were read, or elsewhere
+pub fault_held : (N : Type 0) (P : List ℕ → Type 0) (known : Option (List ℕ)) (bytes : List ℕ) → IfSome known (λ b. bytes ≡ b) → N ⊎ P bytes → N ⊎ IfSome known P
+fault_held N P known bytes is (inl none) = inl none
+fault_held N P known bytes is (inr h) = inr (held P known bytes is h)
+
+-- bytes in which something is wrong mean nothing
+pub none_meant : (Clean : Type 0) (kind : Option Kind) (bytes : List ℕ) → IfSome kind (λ k. (p : Plain) → MeansBytes (shape_of k) bytes p → Clean) → ¬ Clean
+    → IfSome kind (λ k. (p : Plain) → ¬ MeansBytes (shape_of k) bytes p)
+none_meant Clean None bytes all wrong = tt
+none_meant Clean (Some k) bytes all wrong = λ p means. wrong (all p means)

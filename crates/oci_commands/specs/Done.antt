@@ -1,0 +1,74 @@
+-- What a command has done, by its exit status.
+use Rattle.std.specs.Prelude.{◌≡◌, ◌⊎◌, ◌<◌, ℕ, List, length, true, false, Option, Some, None, IsSome, IfSome, ⊤}
+use Rattle.std.specs.List.{All, HoldsAt}
+use Rattle.std.specs.Borrow.{Bor}
+use Rattle.std.specs.Io.KnownBytes.{Appends}
+use Rattle.oci_doc_run.specs.Outputs.{WritesPinned}
+use Rattle.oci_schemas.specs.declared.kind.Kind.{Kind}
+use Rattle.oci_rules.specs.Rules.{Rule}
+use Rattle.oci_commands.specs.declared.asked.Asked.{Asked}
+use Rattle.oci_commands.specs.declared.asked.Asked.TheVariants.{Check, Format, Compare, Reference, Digest, FileDigests, Pin, Tree, Rules, Schema}
+use Rattle.oci_findings.specs.Checks.{IsRight, IsWrong}
+use Rattle.oci_commands.specs.Compared.{HoldSame, HoldUnequal}
+use Rattle.oci_commands.specs.Formats.{Formats, IsUnformatted, LosesNothing}
+use Rattle.oci_findings.specs.declared.asked.Style.{Style}
+use Rattle.oci_findings.specs.declared.asked.Style.TheVariants.{Text, Json, Sarif}
+use Rattle.oci_commands.specs.Refused.{IsNoReference, IsNoDigest, IsNoDescriptor, HasNone}
+use Rattle.oci_commands.specs.Texts.{IsReference, AreReferenceLines, AreDigestLines, IsFileLine, Joins}
+
+-- the exit statuses of a command: done, the input is wrong, something could not be read or written
+abbrev pub IsStatus : ℕ → Type 0
+IsStatus status = (status ≡ 0) ⊎ ((status ≡ 1) ⊎ (status ≡ 3))
+
+-- what is written of each item was appended
+abbrev pub AppendsEach : {A : Type 0} → (A → List ℕ → Type 0) → List A → Option (List ℕ) → Option (List ℕ) → Type 0
+AppendsEach Is items old new = (text : List ℕ) × Joins Is items text × Appends old new text
+
+-- each text is a reference, and its lines were written where they are lines
+abbrev pub WroteReferences : Style → List (Bor (List ℕ)) → Option (List ℕ) → Option (List ℕ) → Type 0
+WroteReferences Text texts old new = AppendsEach AreReferenceLines texts old new
+WroteReferences Json texts old new = All (λ t. IsReference t.now) texts
+WroteReferences Sarif texts old new = AppendsEach AreReferenceLines texts old new
+
+-- after status 0, where `books` are the rules of the specifications by kinds, `holds` are the bytes of files, and `old` and `new` is what was written before and after, where they are known
+abbrev pub IsDone : (Kind → List Rule) → (List ℕ → Option (List ℕ)) → Option (List ℕ) → Option (List ℕ) → Asked → Type 0
+-- nothing is wrong with any file
+IsDone books holds old new (Check a) = All (λ f. IfSome (holds f.now) (IsRight books a)) a.files.now
+-- the file is canonical, or its canonical form was written; into a file only if no unknown member is left out of it, or that was asked for
+IsDone books holds old new (Format a) =
+    (a.check ≡ true → IfSome (holds a.file.now) (λ bytes. Formats a.kind a.pretty (Some bytes) (λ text. text ≡ bytes)))
+    × (a.check ≡ false → a.output ≡ None → Formats a.kind a.pretty (holds a.file.now) (Appends old new))
+    × (a.check ≡ false → IsSome a.output → a.drop_unknown ≡ false → IfSome (holds a.file.now) (LosesNothing a.kind))
+-- the two files hold the same document
+IsDone books holds old new (Compare a) = HoldSame a.kind (holds a.before.now) (holds a.after.now)
+-- each text is a reference, or a digest, and its parts were written
+IsDone books holds old new (Reference style texts) = WroteReferences style texts.now old new
+IsDone books holds old new (Digest texts) = AppendsEach AreDigestLines texts.now old new
+-- the digests of the files were written
+IsDone books holds old new (FileDigests algorithm files) = AppendsEach (λ f. IsFileLine algorithm (holds f.now) f.now) files.now old new
+-- the reference with the digest of the descriptor was written
+IsDone books holds old new (Pin text file) = WritesPinned text.now (holds file.now) (Appends old new)
+IsDone books holds old new (Tree file) = ⊤
+IsDone books holds old new (Rules name) = ⊤
+IsDone books holds old new (Schema kind) = ⊤
+
+-- after status 1
+abbrev pub IsRejected : (Kind → List Rule) → (List ℕ → Option (List ℕ)) → Asked → Type 0
+-- something is wrong with one of the files
+IsRejected books holds (Check a) = (i : ℕ) × (i < length a.files.now) × HoldsAt (λ f. IfSome (holds f.now) (IsWrong books a)) a.files.now i
+-- the file has no canonical form, or is not that
+IsRejected books holds (Format a) = IfSome (holds a.file.now) (IsUnformatted a)
+-- one of the files holds no document of the kind, or the two hold other ones
+IsRejected books holds (Compare a) = HoldUnequal a.kind (holds a.before.now) (holds a.after.now)
+-- one of the texts is no reference, or no digest
+IsRejected books holds (Reference style texts) = HasNone IsNoReference texts.now
+IsRejected books holds (Digest texts) = HasNone IsNoDigest texts.now
+IsRejected books holds (FileDigests algorithm files) = ⊥
+-- the text is no reference, or the file holds no descriptor
+IsRejected books holds (Pin text file) = IsNoReference text.now ⊎ IfSome (holds file.now) IsNoDescriptor
+IsRejected books holds _ = ⊤
+
+-- the command writes neither output nor file
+abbrev pub IsSilent : Asked → Type 0
+IsSilent (Format a) = a.check ≡ true
+IsSilent _ = ⊥

@@ -1,0 +1,60 @@
+-- What `fmt` writes, and what it does not accept.
+use Rattle.std.specs.Prelude.{◌≡◌, ◌⊎◌, ⊤, ℕ, List, [], Bool, true, false, Option, Some, IsSome, IfSome}
+use Rattle.serde_json.specs.Data.{Data}
+use Rattle.oci_model.specs.Plain.{Plain}
+use Rattle.oci_model.specs.Writable.{Writable}
+use Rattle.oci_json.specs.Engines.{MeansBytes, ReadsAs, WritesDocument}
+use Rattle.oci_schema.specs.Normalizes.{WritesPretty}
+use Rattle.oci_schemas.specs.declared.kind.Kind.{Kind}
+use Rattle.oci_schemas.specs.Kinds.{shape_of}
+use Rattle.oci_findings.specs.Checks.{IsAsked}
+use Rattle.oci_schema.specs.Unknown.{unknown}
+use Rattle.oci_base.specs.declared.error.OciSpecError.{OciSpecError}
+use Rattle.oci_base.specs.declared.error.OciSpecError.TheVariants.{SerDe}
+use Rattle.oci_commands.specs.declared.asked.Format.{Format}
+
+-- the canonical text of the document in the input, compact or indented, is written
+abbrev pub Formats : Option Kind → Bool → Option (List ℕ) → (List ℕ → Type 0) → Type 0
+Formats asked false input Writes = (kind : Kind) × IsAsked asked kind × WritesDocument (shape_of kind) input Writes
+Formats asked true input Writes = (kind : Kind) × IsAsked asked kind × WritesPretty (shape_of kind) input Writes
+
+-- the bytes hold no document of the kind that has a canonical form
+abbrev pub HasNoForm : Kind → List ℕ → Type 0
+HasNoForm kind bytes = (p : Plain) → MeansBytes (shape_of kind) bytes p → ¬ Writable (shape_of kind) p
+
+-- what was read is no JSON, or no such document
+abbrev pub IsSerDe : OciSpecError → Type 0
+IsSerDe (SerDe e) = ⊤
+IsSerDe _ = ⊥
+
+-- they are not the compact text of such a document
+abbrev pub IsNotCompact : Kind → List ℕ → Type 0
+IsNotCompact kind bytes = ¬ Formats (Some kind) false (Some bytes) (λ text. text ≡ bytes)
+
+-- the schema of the kind lists all members of the value, or leaves some out
+abbrev pub AllListed : Kind → Data → Type 0
+AllListed kind d = unknown (shape_of kind) [] d ≡ []
+
+-- all members of the document in the bytes, of the kind that is asked for, or of some kind where none is, are in its canonical form
+abbrev pub LosesNothing : Option Kind → List ℕ → Type 0
+LosesNothing asked bytes = (kind : Kind) × (d : Data) × IsAsked asked kind × ReadsAs bytes d × AllListed kind d
+
+-- a file was to be written, and members were to be left out of it unasked
+pub record WouldLose (kind : Kind) (a : Format) (bytes : List ℕ) : Type 0 where
+  pub file : IsSome a.output
+  pub unasked : a.drop_unknown ≡ false
+  pub value : Data
+  pub reads : ReadsAs bytes value
+  pub lost : ¬ AllListed kind value
+
+-- they hold none, or were to be its canonical form and are not; of indented text nothing more is said
+abbrev pub IsMisformed : Kind → Format → List ℕ → Type 0
+IsMisformed kind a bytes = HasNoForm kind bytes ⊎ ((a.check ≡ true) × (a.pretty ≡ false → IsNotCompact kind bytes))
+
+-- or members would be lost
+abbrev pub IsUnformattedAs : Kind → Format → List ℕ → Type 0
+IsUnformattedAs kind a bytes = IsMisformed kind a bytes ⊎ WouldLose kind a bytes
+
+-- where a kind is asked for
+abbrev pub IsUnformatted : Format → List ℕ → Type 0
+IsUnformatted a bytes = IfSome a.kind (λ kind. IsUnformattedAs kind a bytes)

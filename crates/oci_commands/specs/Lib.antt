@@ -1,0 +1,7 @@
+pub mod Compared
+pub mod Done
+pub mod Formats
+pub mod Refused
+pub mod Texts
+pub mod Writes
+pub use Rattle.oci_layout.specs.Sound

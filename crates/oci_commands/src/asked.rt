@@ -1,0 +1,74 @@
+//! Commands as values.
+use oci_content::Algorithm;
+pub use oci_findings::{Check, Style, Unknown};
+use oci_schemas::Kind;
+
+/// What `fmt` is asked.
+#[derive(Clone, Copy)]
+pub struct Format<'a> {
+    /// The kind of the document, or none where it is to be found out.
+    pub kind: Option<Kind>,
+    /// Whether the text is indented.
+    pub pretty: bool,
+    /// Whether the file is compared with its canonical form, and nothing is written.
+    pub check: bool,
+    /// Whether nothing is said of the members that are left out.
+    pub quiet: bool,
+    /// Whether the digests before and after are said.
+    pub verbose: bool,
+    /// Whether members that the schema does not list are left out of a file that is written; else no file is written if there are any.
+    pub drop_unknown: bool,
+    /// The file to write, or none for standard output.
+    pub output: Option<&'a str>,
+    /// The file to read.
+    pub file: &'a str,
+}
+
+/// What `diff` is asked.
+#[derive(Clone, Copy)]
+pub struct Compare<'a> {
+    /// The kind of both documents, or none where it is to be found out.
+    pub kind: Option<Kind>,
+    /// How differences are written.
+    pub style: Style,
+    /// Whether differences are not written at all.
+    pub quiet: bool,
+    /// The file before.
+    pub before: &'a str,
+    /// The file after.
+    pub after: &'a str,
+}
+
+/// What `tree` is asked.
+#[derive(Clone, Copy)]
+pub struct Tree<'a> {
+    /// The document.
+    pub file: &'a str,
+    /// The image layout in which its contents are, if they are looked for.
+    pub layout: Option<&'a str>,
+}
+
+/// A command with what it is asked.
+#[derive(Clone, Copy)]
+pub enum Asked<'a> {
+    /// `check`: what is wrong with documents.
+    Check(Check<'a>),
+    /// `fmt`: the canonical form of a document.
+    Format(Format<'a>),
+    /// `diff`: what differs between the canonical forms of two documents.
+    Compare(Compare<'a>),
+    /// `ref`: the parts of references.
+    Reference(Style, &'a [&'a str]),
+    /// `digest --parse`: the parts of digests.
+    Digest(&'a [&'a str]),
+    /// `digest`: the digests of files.
+    FileDigests(Algorithm, &'a [&'a str]),
+    /// `pin`: a reference with the digest of a descriptor.
+    Pin(&'a str, &'a str),
+    /// `tree`: a document as a tree.
+    Tree(Tree<'a>),
+    /// `rules`: the rules of all kinds of documents, or those of a kind, or a rule, by its name.
+    Rules(Option<&'a str>),
+    /// `schema`: the members of a kind of documents.
+    Schema(Kind),
+}

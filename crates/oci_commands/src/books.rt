@@ -1,0 +1,184 @@
+//! The books of rules, for people.
+use oci_findings::render::word_of;
+use oci_findings::{KINDS, RuleBooks, title_of};
+use oci_rules::{Platform, Platforms, Rule, Step};
+use oci_schemas::Kind;
+use std::alloc::{AllocError, Global};
+
+/// How many platforms there are.
+const PLATFORMS: usize = 6;
+
+/// The rules of a kind of documents: a line for each, with its name, level and section, and what it wants.
+pub fn rules_of_kind<B: RuleBooks>(
+    books: &B,
+    kind: Kind,
+    alloc: Global,
+) -> Result<String, AllocError> {
+    let mut text = String::from_str(alloc, title_of(kind))?;
+    text.push_str("\n")?;
+    let mut told = Vec::new(alloc);
+    for book in books.books_of(kind, alloc)? {
+        push_new_rules(&mut text, &mut told, book, alloc)?;
+    }
+    Ok(text)
+}
+
+/// Adds the rules of a book whose names are new.
+fn push_new_rules<'a>(
+    text: &mut String,
+    told: &mut Vec<&'a str>,
+    book: &[Rule<'a>],
+    alloc: Global,
+) -> Result<(), AllocError> {
+    for rule in book {
+        if !told.contains(&rule.name) {
+            told.push(rule.name)?;
+            push_rule(text, rule, alloc)?;
+        }
+    }
+    Ok(())
+}
+
+/// The rules of all kinds.
+pub fn all_rules<B: RuleBooks>(books: &B, alloc: Global) -> Result<String, AllocError> {
+    let mut text = String::new(alloc);
+    for kind in &KINDS {
+        push_rules(&mut text, books, *kind, alloc)?;
+    }
+    Ok(text)
+}
+
+/// Adds the rules of a kind, behind an empty line unless they are the first.
+fn push_rules<B: RuleBooks>(
+    text: &mut String,
+    books: &B,
+    kind: Kind,
+    alloc: Global,
+) -> Result<(), AllocError> {
+    let rules = rules_of_kind(books, kind, alloc)?;
+    if !text.is_empty() {
+        text.push_str("\n")?;
+    }
+    text.push_str(rules.as_str())
+}
+
+fn push_rule(text: &mut String, rule: &Rule<'_>, alloc: Global) -> Result<(), AllocError> {
+    let (name, wanted) = (rule.name, rule.wanted);
+    let (level, section) = (word_of(rule.level), rule.section);
+    let row = format!(in alloc; "  {name} [{level}: {section}]: {wanted}\n")?;
+    text.push_str(row.as_str())
+}
+
+/// The rules of a name, each with the places at which it is asked; none if there is no such rule.
+pub fn rules_of_name<B: RuleBooks>(
+    books: &B,
+    name: &str,
+    alloc: Global,
+) -> Result<Option<String>, AllocError> {
+    let mut text = String::new(alloc);
+    for kind in &KINDS {
+        add_of_kind(books, name, *kind, &mut text, alloc)?;
+    }
+    Ok(if text.is_empty() { None } else { Some(text) })
+}
+
+fn add_of_kind<B: RuleBooks>(
+    books: &B,
+    name: &str,
+    kind: Kind,
+    text: &mut String,
+    alloc: Global,
+) -> Result<(), AllocError> {
+    let mut last = String::new(alloc);
+    for book in books.books_of(kind, alloc)? {
+        for rule in book {
+            if rule.name == name {
+                add_place(rule, kind, &mut last, text, alloc)?;
+            }
+        }
+    }
+    Ok(())
+}
+
+/// Adds the place of a rule, unless it is the last one again. Before the first, the kind and the rule are written.
+fn add_place(
+    rule: &Rule<'_>,
+    kind: Kind,
+    last: &mut String,
+    text: &mut String,
+    alloc: Global,
+) -> Result<(), AllocError> {
+    if last.is_empty() {
+        push_head(text, rule, kind, alloc)?;
+    }
+    let line = place_line(rule, alloc)?;
+    if line != *last {
+        text.push_str(line.as_str())?;
+        *last = line;
+    }
+    Ok(())
+}
+
+fn push_head(
+    text: &mut String,
+    rule: &Rule<'_>,
+    kind: Kind,
+    alloc: Global,
+) -> Result<(), AllocError> {
+    text.push_str(title_of(kind))?;
+    text.push_str("\n")?;
+    push_rule(text, rule, alloc)
+}
+
+/// The line of a rule's place, and of the platforms that it is for, unless it is for all of them.
+fn place_line(rule: &Rule<'_>, alloc: Global) -> Result<String, AllocError> {
+    let mut line = String::from_str(alloc, "    at /")?;
+    push_place(&mut line, rule.place)?;
+    match rule.platforms {
+        Platforms::These(platforms) if platforms.len() < PLATFORMS => {
+            push_platforms(&mut line, platforms)?;
+        }
+        _ => {}
+    }
+    line.push_str("\n")?;
+    Ok(line)
+}
+
+fn push_platforms(line: &mut String, platforms: &[Platform]) -> Result<(), AllocError> {
+    let mut mark = " on ";
+    for platform in platforms {
+        line.push_str(mark)?;
+        line.push_str(platform_word(*platform))?;
+        mark = ", ";
+    }
+    Ok(())
+}
+
+/// Adds a place: `*` is each item of an array, `{}` each member of an object, and `{name}` the name of each.
+fn push_place(line: &mut String, place: &[Step<'_>]) -> Result<(), AllocError> {
+    let mut mark = "";
+    for step in place {
+        let word = match step {
+            Step::Member(name) => *name,
+            Step::EachItem => "*",
+            Step::EachMember => "{}",
+            Step::EachName => "{name}",
+            Step::When(_) => continue,
+        };
+        line.push_str(mark)?;
+        line.push_str(word)?;
+        mark = "/";
+    }
+    Ok(())
+}
+
+fn platform_word(platform: Platform) -> &'static str {
+    match platform {
+        Platform::Linux => "linux",
+        Platform::Windows => "windows",
+        Platform::Solaris => "solaris",
+        Platform::Vm => "vm",
+        Platform::Zos => "zos",
+        Platform::FreeBsd => "freebsd",
+    }
+}

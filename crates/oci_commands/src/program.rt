@@ -1,0 +1,85 @@
+//! A command's whole work.
+ghost use Rattle.std.specs.Prelude.{◌≡◌, IfOk};
+ghost use Rattle.std.specs.Io.KnownBytes.{Keeps};
+ghost use Rattle.oci_commands.specs.Done.{IsStatus, IsDone, IsRejected, IsSilent};
+
+use crate::asked::Asked;
+use crate::canonical::format;
+use crate::check::check;
+use crate::compare::compare;
+use crate::contents::file_digests;
+use crate::outline::tree;
+use crate::shown::{rules, schema};
+use crate::store::Store;
+use crate::texts::{complain, complain_of, digests, pin, references};
+use oci_base::{OciSpecError, Result};
+use oci_findings::RuleBooks;
+use std::alloc::Global;
+use std::io;
+use std::io::Write;
+
+/// Runs a command, and returns the exit status: 0 if it was done and nothing is wrong, 1 if something is wrong with the input, and 3 if
+/// a file could not be read or written, or out of memory. A failed write to standard error changes nothing.
+pub fn run<S: Store, B: RuleBooks, W: Write, E: Write>(
+    books: &B,
+    asked: &Asked<'_>,
+    alloc: Global,
+    store: &mut S,
+    writer: &mut W,
+    errors: &mut E,
+) -> u8
+    ensures status { IsStatus result }
+    ensures done { result ≡ 0 → IsDone (B.rules books.now) (S.holds store.old) (W.contents writer.old) (W.contents writer.new) asked.now }
+    ensures wrong { result ≡ 1 → IsRejected (B.rules books.now) (S.holds store.old) asked.now }
+    ensures silent { IsSilent asked.now → Keeps (W.contents writer.old) (W.contents writer.new) × (S.holds store.new ≡ S.holds store.old) }
+{
+    match perform(books, asked, alloc, store, writer, errors) {
+        Ok(status) => status,
+        Err(error) => {
+            report(&error, alloc, errors);
+            3
+        }
+    }
+}
+
+fn perform<S: Store, B: RuleBooks, W: Write, E: Write>(
+    books: &B,
+    asked: &Asked<'_>,
+    alloc: Global,
+    store: &mut S,
+    writer: &mut W,
+    errors: &mut E,
+) -> Result<u8>
+    ensures status { IfOk result IsStatus }
+    ensures done { IfOk result (λ s. s ≡ 0 → IsDone (B.rules books.now) (S.holds store.old) (W.contents writer.old) (W.contents writer.new) asked.now) }
+    ensures wrong { IfOk result (λ s. s ≡ 1 → IsRejected (B.rules books.now) (S.holds store.old) asked.now) }
+    ensures silent { IsSilent asked.now → Keeps (W.contents writer.old) (W.contents writer.new) × (S.holds store.new ≡ S.holds store.old) }
+{
+    match asked {
+        Asked::Check(asked) => check(books, asked, alloc, store, writer, errors),
+        Asked::Format(asked) => format(asked, alloc, store, writer, errors),
+        Asked::Compare(asked) => compare(asked, alloc, store, writer, errors),
+        Asked::Reference(style, texts) => references(*style, texts, alloc, writer, errors),
+        Asked::Digest(texts) => digests(texts, alloc, writer, errors),
+        Asked::FileDigests(algorithm, files) => {
+            file_digests(*algorithm, files, alloc, store, writer, errors)
+        }
+        Asked::Pin(text, file) => pin(text, file, alloc, store, writer, errors),
+        Asked::Tree(asked) => tree(asked, alloc, store, writer, errors),
+        Asked::Rules(name) => rules(books, *name, alloc, writer, errors),
+        Asked::Schema(kind) => {
+            schema(*kind, alloc, writer)?;
+            Ok(0)
+        }
+    }
+}
+
+/// Says why a command failed. Nothing is said of a reader that has gone away, as `head` does.
+fn report<E: Write>(error: &OciSpecError, alloc: Global, errors: &mut E) {
+    match error {
+        OciSpecError::Memory => complain("ciderglen: out of memory\n", errors),
+        OciSpecError::Io(fault) if fault.kind() == io::ErrorKind::BrokenPipe => {}
+        OciSpecError::Io(fault) => complain_of("cannot write", fault, alloc, errors),
+        _ => complain_of("failed", error, alloc, errors),
+    }
+}

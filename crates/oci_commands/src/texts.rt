@@ -1,0 +1,334 @@
+//! The commands on references and digests, and what is said on standard error.
+ghost use Rattle.std.specs.Prelude.{◌≡◌, ◌⊎◌, true, false, [], Some, IfOk, IfSome, string_bytes};
+ghost use Rattle.std.specs.List.{All};
+ghost use Rattle.std.specs.Io.KnownBytes.{Appends};
+ghost use Rattle.oci_json.specs.Engines.{MeansBytes};
+ghost use Rattle.oci_model.specs.Plain.{Plain};
+ghost use Rattle.oci_schemas.specs.Kinds.{shape_of};
+ghost use Rattle.oci_base.specs.Escaped.{IsLine};
+ghost use Rattle.oci_doc_run.specs.Commands.{asked as asked_of, pin};
+ghost use Rattle.oci_doc_run.specs.Outputs.{Writes, WritesPinned};
+ghost use Rattle.oci_commands.specs.Done.{IsStatus, AppendsEach, WroteReferences};
+ghost use Rattle.oci_commands.specs.Refused.{IsAtFault, IsFault, IsNoReference, IsNoDigest, IsNoDescriptor, HasNone};
+ghost use Rattle.oci_commands.specs.Texts.{IsReference, AreReferenceLines, AreDigestLines};
+
+use crate::asked::Style;
+use crate::store::Store;
+use json::Writer;
+use oci_base::{OciSpecError, Result, line_of};
+use oci_doc_run::{Command, Refusal};
+use oci_findings::Report;
+use oci_findings::inspect::inspect;
+use oci_findings::render::{lines_of, text_member};
+use oci_json::write_text;
+use oci_reference::{ParseError, Reference};
+use oci_schemas::Kind;
+use std::alloc::{AllocError, Global};
+use std::io::Write;
+use std::{fmt, io};
+
+/// Writes a line on standard error, as far as that can be.
+pub fn complain<E: Write>(line: &str, errors: &mut E) {
+    let _ = write_text(line.as_bytes(), errors);
+}
+
+/// Says what is wrong with a name on standard error, as far as that can be.
+pub fn complain_of<D: fmt::Display, E: Write>(
+    name: &str,
+    fault: &D,
+    alloc: Global,
+    errors: &mut E,
+) {
+    if let Ok(line) = line_about(name, fault, alloc) {
+        complain(line.as_str(), errors);
+    }
+}
+
+/// The line that says what is wrong with a name.
+fn line_about<D: fmt::Display>(
+    name: &str,
+    fault: &D,
+    alloc: Global,
+) -> std::result::Result<String, AllocError>
+    ensures { IfOk result (λ t. IsLine (string_bytes t)) }
+{
+    let text = format!(in alloc; "ciderglen: {name}: {fault}")?;
+    line_of(text.as_str(), alloc)
+}
+
+/// Says what is wrong with a file on standard error.
+pub fn report_findings<E: Write>(
+    name: &str,
+    found: &Report<'_>,
+    alloc: Global,
+    errors: &mut E,
+) -> Result<()> {
+    let lines = lines_of(name, found, alloc)?;
+    complain(lines.as_str(), errors);
+    Ok(())
+}
+
+/// Whether something is wrong with the bytes of a file, which is said on standard error.
+pub(crate) fn is_wrong<E: Write>(
+    kind: Option<Kind>,
+    name: &str,
+    bytes: &[u8],
+    alloc: Global,
+    errors: &mut E,
+) -> Result<bool>
+    ensures { IfOk result (λ b. b ≡ true → IfSome kind (λ k. (p : Plain) → ¬ MeansBytes (shape_of k) bytes.now p)) }
+{
+    let found = inspect(kind, name, bytes, alloc)?;
+    if found.errors.is_empty() {
+        return Ok(false);
+    }
+    report_findings(name, &found, alloc, errors)?;
+    Ok(true)
+}
+
+/// Writes the parts of each reference. Returns 0 if each text is a reference, and 1 if one is none, which a line on standard error
+/// says; the others are written all the same. Fails if they cannot be written, or if out of memory.
+pub fn references<W: Write, E: Write>(
+    style: Style,
+    texts: &[&str],
+    alloc: Global,
+    writer: &mut W,
+    errors: &mut E,
+) -> Result<u8>
+    ensures status { IfOk result IsStatus }
+    ensures right { IfOk result (λ s. s ≡ 0 → WroteReferences style texts.now (W.contents writer.old) (W.contents writer.new)) }
+    ensures wrong { IfOk result (λ s. s ≡ 1 → HasNone IsNoReference texts.now) }
+{
+    match style {
+        Style::Json => reference_objects(texts, alloc, writer, errors),
+        Style::Text | Style::Sarif => reference_lines(texts, alloc, writer, errors),
+    }
+}
+
+fn reference_lines<W: Write, E: Write>(
+    texts: &[&str],
+    alloc: Global,
+    writer: &mut W,
+    errors: &mut E,
+) -> Result<u8>
+    ensures status { IfOk result IsStatus }
+    ensures right { IfOk result (λ s. s ≡ 0 → AppendsEach AreReferenceLines texts.now (W.contents writer.old) (W.contents writer.new)) }
+    ensures wrong { IfOk result (λ s. s ≡ 1 → HasNone IsNoReference texts.now) }
+{
+    let mut wrong = false;
+    for text in texts {
+        if !perform(Command::Reference(text), text, alloc, writer, errors)? {
+            wrong = true;
+        }
+    }
+    Ok(if wrong { 1 } else { 0 })
+}
+
+fn reference_objects<W: Write, E: Write>(
+    texts: &[&str],
+    alloc: Global,
+    writer: &mut W,
+    errors: &mut E,
+) -> Result<u8>
+    ensures status { IfOk result IsStatus }
+    ensures right { IfOk result (λ s. s ≡ 0 → All (λ t. IsReference t.now) texts.now) }
+    ensures wrong { IfOk result (λ s. s ≡ 1 → HasNone IsNoReference texts.now) }
+{
+    let mut wrong = false;
+    for text in texts {
+        if !reference_as_json(text, alloc, writer, errors)? {
+            wrong = true;
+        }
+    }
+    Ok(if wrong { 1 } else { 0 })
+}
+
+fn reference_as_json<W: Write, E: Write>(
+    text: &str,
+    alloc: Global,
+    writer: &mut W,
+    errors: &mut E,
+) -> Result<bool>
+    ensures right { IfOk result (λ b. b ≡ true → IsReference text.now) }
+    ensures wrong { IfOk result (λ b. b ≡ false → IsNoReference text.now) }
+{
+    match Reference::from_str(alloc, text) {
+        Ok(reference) => {
+            let line = reference_object(text, &reference, alloc)?;
+            write_text(line.as_slice(), writer)?;
+            Ok(true)
+        }
+        Err(error) => refused(Refusal::Reference(error), text, alloc, errors),
+    }
+}
+
+/// Writes what a command on a text alone writes, and returns whether that was done. If the text was refused, a line on standard error
+/// says why.
+#[tactic(auto, using(crate::proofs::Faults::at_fault))]
+fn perform<W: Write, E: Write>(
+    command: Command<'_>,
+    text: &str,
+    alloc: Global,
+    writer: &mut W,
+    errors: &mut E,
+) -> Result<bool>
+    ensures right { IfOk result (λ b. b ≡ true → Writes (asked_of command.entry) (Some []) (Appends (W.contents writer.old) (W.contents writer.new))) }
+    ensures wrong { IfOk result (λ b. b ≡ false → IsAtFault (asked_of command.entry) (Some [])) }
+{
+    let mut lines = Vec::new(alloc);
+    match command.perform(alloc, &mut io::empty(), &mut lines) {
+        Ok(()) => {
+            write_text(lines.as_slice(), writer)?;
+            Ok(true)
+        }
+        Err(refusal) => refused(refusal, text, alloc, errors),
+    }
+}
+
+/// Says why a text was refused; fails if out of memory, or if something could not be written.
+fn refused<E: Write>(refusal: Refusal, text: &str, alloc: Global, errors: &mut E) -> Result<bool>
+    ensures { IfOk result (λ b. (b ≡ false) × IsFault refusal) }
+{
+    match refusal {
+        Refusal::Memory | Refusal::Reference(ParseError::Memory) => Err(OciSpecError::Memory),
+        Refusal::Io => Err(OciSpecError::Io(io::Error::from(io::ErrorKind::Other))),
+        Refusal::Reference(error) => {
+            complain_of(text, &error, alloc, errors);
+            Ok(false)
+        }
+        Refusal::Other(reason) => {
+            complain_of(text, &reason, alloc, errors);
+            Ok(false)
+        }
+        Refusal::Json | Refusal::Schema | Refusal::Builder => Ok(false),
+    }
+}
+
+/// The object of a reference's parts.
+fn reference_object(text: &str, reference: &Reference, alloc: Global) -> Result<Vec<u8>> {
+    let whole = reference.whole()?;
+    Ok(object_line(text, reference, whole.as_str(), alloc)?)
+}
+
+fn object_line(
+    text: &str,
+    reference: &Reference,
+    whole: &str,
+    alloc: Global,
+) -> std::result::Result<Vec<u8>, AllocError> {
+    let mut out = Writer::new(Vec::new(alloc));
+    put_reference(&mut out, text, reference, whole)?;
+    let mut line = out.into_inner();
+    line.push(b'\n')?;
+    Ok(line)
+}
+
+fn put_reference(
+    out: &mut Writer,
+    text: &str,
+    reference: &Reference,
+    whole: &str,
+) -> std::result::Result<(), AllocError> {
+    out.begin_object()?;
+    text_member(out, "input", text)?;
+    put_parts(out, reference)?;
+    text_member(out, "whole", whole)?;
+    text_member(out, "resolve", reference.resolve_registry())?;
+    out.end_object()
+}
+
+fn put_parts(out: &mut Writer, reference: &Reference) -> std::result::Result<(), AllocError> {
+    text_member(out, "registry", reference.registry())?;
+    text_member(out, "repository", reference.repository())?;
+    member_if(out, "tag", reference.tag())?;
+    member_if(out, "digest", reference.digest())
+}
+
+fn member_if(
+    out: &mut Writer,
+    name: &str,
+    value: Option<&str>,
+) -> std::result::Result<(), AllocError> {
+    match value {
+        Some(value) => text_member(out, name, value),
+        None => Ok(()),
+    }
+}
+
+/// Writes the parts of each digest, as `references` does.
+pub fn digests<W: Write, E: Write>(
+    texts: &[&str],
+    alloc: Global,
+    writer: &mut W,
+    errors: &mut E,
+) -> Result<u8>
+    ensures status { IfOk result IsStatus }
+    ensures right { IfOk result (λ s. s ≡ 0 → AppendsEach AreDigestLines texts.now (W.contents writer.old) (W.contents writer.new)) }
+    ensures wrong { IfOk result (λ s. s ≡ 1 → HasNone IsNoDigest texts.now) }
+{
+    let mut wrong = false;
+    for text in texts {
+        if !perform(Command::Digest(text), text, alloc, writer, errors)? {
+            wrong = true;
+        }
+    }
+    Ok(if wrong { 1 } else { 0 })
+}
+
+/// Writes the reference with the digest of the descriptor in a file. Returns 0 if that was done, 1 if the text is no reference or the
+/// file holds no descriptor, and 3 if the file could not be read; a line on standard error says why.
+#[tactic(auto, using(crate::proofs::Held::pinned_held))]
+pub fn pin<S: Store, W: Write, E: Write>(
+    text: &str,
+    file: &str,
+    alloc: Global,
+    store: &mut S,
+    writer: &mut W,
+    errors: &mut E,
+) -> Result<u8>
+    ensures status { IfOk result IsStatus }
+    ensures right { IfOk result (λ s. s ≡ 0 → WritesPinned text.now (S.holds store.old file.now) (Appends (W.contents writer.old) (W.contents writer.new))) }
+    ensures wrong { IfOk result (λ s. s ≡ 1 → IsNoReference text.now ⊎ IfSome (S.holds store.old file.now) IsNoDescriptor) }
+{
+    match store.read(alloc, file) {
+        Ok(bytes) => {
+            let done = pin_bytes(text, file, bytes.as_slice(), alloc, writer, errors)?;
+            if done {
+                return Ok(0);
+            }
+            Ok(1)
+        }
+        Err(fault) => {
+            complain_of(file, &fault, alloc, errors);
+            Ok(3)
+        }
+    }
+}
+
+#[tactic(auto, using(crate::proofs::Faults::at_fault))]
+fn pin_bytes<W: Write, E: Write>(
+    text: &str,
+    file: &str,
+    bytes: &[u8],
+    alloc: Global,
+    writer: &mut W,
+    errors: &mut E,
+) -> Result<bool>
+    ensures right { IfOk result (λ b. b ≡ true → WritesPinned text.now (Some bytes.now) (Appends (W.contents writer.old) (W.contents writer.new))) }
+    ensures wrong { IfOk result (λ b. b ≡ false → IsAtFault (pin text.now) (Some bytes.now)) }
+{
+    let (mut input, mut line) = (bytes, Vec::new(alloc));
+    match Command::Pin(text).perform(alloc, &mut input, &mut line) {
+        Ok(()) => {
+            write_text(line.as_slice(), writer)?;
+            Ok(true)
+        }
+        Err(refusal) => {
+            if matches!(refusal, Refusal::Json | Refusal::Schema) {
+                let found = inspect(Some(Kind::Descriptor), file, bytes, alloc)?;
+                report_findings(file, &found, alloc, errors)?;
+            }
+            refused(refusal, text, alloc, errors)
+        }
+    }
+}

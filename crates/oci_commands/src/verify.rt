@@ -1,0 +1,13 @@
+//! Verifying an image layout as `ciderglen verify` does: a walk over all that its index reaches, whose findings are written as they are
+//! found, and an exit status (image specification, "Image Layout").
+
+pub mod marker;
+pub mod options;
+pub mod program;
+pub mod progress;
+pub mod tell;
+pub mod unreached;
+
+pub use options::Options;
+pub use program::run;
+pub use progress::Watch;

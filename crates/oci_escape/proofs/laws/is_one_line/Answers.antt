@@ -1,5 +1,0 @@
-use Rattle.oci_escape.proofs.Lines.{escaped_is_one_line}
-use Rattle.oci_escape.proofs.laws.is_one_line.Goals as goal
-
-pub returns : goal.returns
-returns c = escaped_is_one_line

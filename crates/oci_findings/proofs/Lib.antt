@@ -1,0 +1,6 @@
+pub mod Allowed
+pub mod Counted
+pub mod Each
+pub mod Marks
+pub mod Told
+mod Unlisted

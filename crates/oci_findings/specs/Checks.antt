@@ -1,0 +1,101 @@
+-- Which documents pass.
+use Rattle.std.specs.Prelude.{◌≡◌, ◌++◌, ◌&&◌, ℕ, List, [], map, Bool, true, false, Option, Some, None, IfSome, ⊤}
+use Rattle.std.specs.List.{filter}
+use Rattle.serde_json.specs.Data.{Data}
+use Rattle.serde_json.specs.View.{view}
+use Rattle.oci_model.specs.Plain.{Plain}
+use Rattle.oci_model.specs.Means.{Means}
+use Rattle.oci_json.specs.Engines.{IsNoJson, MeansBytes, ReadsAs}
+use Rattle.oci_schemas.specs.declared.kind.Kind.{Kind}
+use Rattle.oci_schemas.specs.Kinds.{shape_of}
+use Rattle.oci_schema.specs.Unknown.{Report, unknown}
+use Rattle.oci_rules.specs.Breaks.{Told}
+use Rattle.oci_rules.specs.Documents.{platform_in}
+use Rattle.oci_rules.specs.Listed.{all_broken}
+use Rattle.oci_rules.specs.Rules as rules
+use Rattle.oci_rules.specs.Rules.{Level, must, stated, should, host}
+use Rattle.oci_rules.specs.Tables.{level_of, platform_of, rule_of}
+use Rattle.oci_rules.specs.declared.rule.Platform.{Platform}
+use Rattle.oci_findings.specs.declared.asked.Check.{Check}
+use Rattle.oci_findings.specs.declared.asked.Unknown.{Unknown}
+use Rattle.oci_findings.specs.declared.asked.Unknown.TheVariants.{Deny, Warn, Allow}
+use Rattle.oci_findings.specs.declared.inspect.Reading.{Reading}
+use Rattle.oci_findings.specs.declared.inspect.Reading.TheVariants as reading
+
+-- the bytes are a document of this kind
+abbrev pub IsOfKind : Kind → List ℕ → Type 0
+IsOfKind kind bytes = (p : Plain) × MeansBytes (shape_of kind) bytes p
+
+-- the bytes are a document of the kind that is asked for, or of some kind where none is
+abbrev pub IsAllowed : Option Kind → List ℕ → Type 0
+IsAllowed (Some kind) bytes = IsOfKind kind bytes
+IsAllowed None bytes = (kind : Kind) × IsOfKind kind bytes
+
+-- the kind is the one that is asked for, or none is
+abbrev pub IsAsked : Option Kind → Kind → Type 0
+IsAsked (Some asked) kind = asked ≡ kind
+IsAsked None kind = ⊤
+
+-- what bytes hold: a value of the kind that is asked for; or a fault, which is that they are no JSON where a kind is asked for
+abbrev pub IsReading : Option Kind → List ℕ → Reading → Type 0
+IsReading asked bytes (reading.Value kind value) = IsAsked asked kind × ReadsAs bytes (view value)
+IsReading asked bytes (reading.Fault fault) = IfSome asked (λ k. IsNoJson bytes)
+
+-- ---- what `check` asks
+
+-- a level (second) is no weaker than the one that is asked for (first)
+abbrev pub counts : Level → Level → Bool
+counts must must = true
+counts stated must = true
+counts stated stated = true
+counts should must = true
+counts should stated = true
+counts should should = true
+counts host level = true
+counts asked level = false
+
+-- a document that breaks a rule of this level is wrong; of the other levels it is warned
+abbrev pub binds : Level → Bool
+binds must = true
+binds stated = true
+binds should = false
+binds host = false
+
+-- what breaks a rule of the level (second) makes the document wrong, where the levels from the first on count
+abbrev pub is_error : Level → Level → Bool
+is_error asked level = counts asked level && binds level
+
+abbrev pub rules_if : Bool → List rules.Rule → List rules.Rule
+rules_if true rs = rs
+rules_if false rs = []
+
+-- the rules of the specifications for the kind, where they are asked for, and those of the policy
+abbrev pub asked_rules : (Kind → List rules.Rule) → Check → Kind → List rules.Rule
+asked_rules books a kind = rules_if a.rules (books kind) ++ map rule_of a.policy.now
+
+-- the platform that is asked for, or the one that the document says
+abbrev pub platform_asked : Option Platform → Data → rules.Platform
+platform_asked (Some platform) d = platform_of platform
+platform_asked None d = platform_in d
+
+-- what breaks the rules that bind, of the levels that count
+abbrev pub counted : (Kind → List rules.Rule) → Check → Kind → Data → List Told
+counted books a kind d = filter (λ x. is_error (level_of a.level) x.0.level) (all_broken (asked_rules books a kind) (platform_asked a.platform d) d)
+
+-- the members that the schema does not list, where they are wrong
+abbrev pub denied : Unknown → Kind → Data → List Report
+denied Deny kind d = unknown (shape_of kind) [] d
+denied Warn kind d = []
+denied Allow kind d = []
+
+-- a value is a document of the kind, no rule is broken that binds and counts, and no member is denied
+abbrev pub IsRightValue : (Kind → List rules.Rule) → Check → Kind → Data → Type 0
+IsRightValue books a kind d = ((p : Plain) × Means (shape_of kind) d p) × ((counted books a kind d ≡ []) × (denied a.unknown kind d ≡ []))
+
+-- the bytes are such a value, of the kind that is asked for, or of some kind where none is
+abbrev pub IsRight : (Kind → List rules.Rule) → Check → List ℕ → Type 0
+IsRight books a bytes = (kind : Kind) × (d : Data) × IsAsked a.kind kind × ReadsAs bytes d × IsRightValue books a kind d
+
+-- they are not; nothing is said where no kind is asked for
+abbrev pub IsWrong : (Kind → List rules.Rule) → Check → List ℕ → Type 0
+IsWrong books a bytes = IfSome a.kind (λ kind. IsRight books a bytes → ⊥)

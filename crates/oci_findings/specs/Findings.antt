@@ -1,0 +1,57 @@
+-- What is said of what is wrong with a document.
+use Rattle.std.specs.Prelude.{ℕ, List, [], ◌++◌, codes, string_bytes, String, Option, Some, None}
+use Rattle.std.specs.declared.alloc.Global.{Global}
+use Rattle.oci_rules.specs.Breaks.{Told}
+use Rattle.oci_rules.specs.Tables.{rule_of}
+use Rattle.oci_schema.specs.Violations.{Report, Expectation, expectation_of, reported}
+use Rattle.oci_schema.specs.declared.violation.Violation.{Violation}
+use Rattle.oci_findings.specs.declared.finding.Cause.{Cause}
+use Rattle.oci_findings.specs.declared.finding.Cause.TheVariants.{Json, Kind, Schema, Rule, Unknown, Repeated}
+use Rattle.oci_findings.specs.declared.finding.Finding.{Finding}
+use Rattle.oci_findings.specs.Wording.{expected_words}
+
+abbrev pub found_words : Option (String Global) → List ℕ
+found_words None = []
+found_words (Some text) = codes ", found " ++ string_bytes text
+
+-- what is wrong, in a sentence
+abbrev pub message_words : Cause → List ℕ
+message_words (Json said place) = codes "not JSON: " ++ string_bytes said
+message_words (Kind said) = string_bytes said
+message_words (Schema expected found) = expected_words expected ++ found_words found
+message_words (Rule rule found) = (codes "expected " ++ rule.now.wanted.now) ++ found_words found
+message_words (Unknown None) = codes "unknown member"
+message_words (Unknown (Some meant)) = codes "unknown member; the schema has " ++ meant.now
+message_words Repeated = codes "an earlier member has the same name; the last one counts"
+
+-- the name of the rule
+abbrev pub rule_name : Cause → List ℕ
+rule_name (Json said place) = codes "json"
+rule_name (Kind said) = codes "kind"
+rule_name (Schema expected found) = codes "schema"
+rule_name (Rule rule found) = rule.now.name.now
+rule_name (Unknown meant) = codes "unknown"
+rule_name Repeated = codes "repeated"
+
+-- what a finding says of the schema
+abbrev pub expectation_in : Cause → Option Expectation
+expectation_in (Schema expected found) = Some (expectation_of expected)
+expectation_in cause = None
+
+-- a place, and what is expected there, if the schema is what is violated
+abbrev pub told : Finding → List ℕ × Option Expectation
+told f = (string_bytes f.pointer, expectation_in f.cause)
+
+abbrev pub as_told : Report → List ℕ × Option Expectation
+as_told r = (r.0, Some r.1)
+
+abbrev pub told_of : Violation → List ℕ × Option Expectation
+told_of v = as_told (reported v)
+
+-- the rule that a finding says is broken, and where
+abbrev pub breach_in : List ℕ → Cause → Option Told
+breach_in at (Rule rule found) = Some (rule_of rule.now, at)
+breach_in at cause = None
+
+abbrev pub breach : Finding → Option Told
+breach f = breach_in (string_bytes f.pointer) f.cause

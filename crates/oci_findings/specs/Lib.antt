@@ -1,0 +1,4 @@
+pub mod Checks
+pub mod Findings
+pub mod Kinds
+pub mod Wording

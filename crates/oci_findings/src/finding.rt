@@ -1,0 +1,133 @@
+//! What is wrong with a document.
+ghost use Rattle.std.specs.Prelude.{◌≡◌, ◌++◌, codes, IfOk, OnOk, string_bytes};
+ghost use Rattle.oci_findings.specs.Findings.{found_words, message_words, rule_name};
+ghost use Rattle.oci_findings.specs.Wording.{expected_words};
+ghost use Rattle.oci_findings.specs.declared.finding.Cause.TheVariants.{Unknown};
+
+use crate::place::Place;
+use crate::wording::push_expected;
+use oci_rules::Rule;
+use oci_schema::Expected;
+use std::alloc::{AllocError, Global};
+
+/// Why a finding was made.
+#[derive(Drop)]
+pub enum Cause<'a> {
+    /// The bytes are not JSON from a place on, and this is what the reader says.
+    Json(String, Place),
+    /// The kind of the document is not known, or it is of another kind than asked for.
+    Kind(String),
+    /// The schema expects something else at a place, where this value is, if there is one.
+    Schema(Expected, Option<String>),
+    /// A rule is broken at a place, where this value is, if there is one.
+    Rule(&'a Rule<'a>, Option<String>),
+    /// The schema does not list the member; the name that may be meant, if one is near.
+    Unknown(Option<&'static str>),
+    /// An earlier member of the same object has the same name.
+    Repeated,
+}
+
+/// Something that is wrong with a document, or a warning.
+#[derive(Drop)]
+pub struct Finding<'a> {
+    /// Where it is in the document, as a JSON pointer (RFC 6901).
+    pub pointer: String,
+    /// What it is.
+    pub cause: Cause<'a>,
+    /// Whether it is a warning alone.
+    pub is_warning: bool,
+}
+
+impl<'a> Finding<'a> {
+    /// The name of the rule that is broken: `json`, `kind`, `schema`, `unknown` or `repeated`, or that of a rule of a specification or
+    /// policy.
+    pub fn rule(&self) -> &'a str
+        ensures { result.now ≡ rule_name self.now.cause }
+    {
+        match &self.cause {
+            Cause::Json(_, _) => "json",
+            Cause::Kind(_) => "kind",
+            Cause::Schema(_, _) => "schema",
+            Cause::Rule(rule, _) => rule.name,
+            Cause::Unknown(_) => "unknown",
+            Cause::Repeated => "repeated",
+        }
+    }
+
+    /// What is wrong, in a sentence.
+    pub fn message(&self, alloc: Global) -> Result<String, AllocError>
+        ensures { IfOk result (λ t. string_bytes t ≡ message_words self.now.cause) }
+    {
+        match &self.cause {
+            Cause::Json(told, _) => joined("not JSON: ", told.as_str(), alloc),
+            Cause::Kind(told) => String::from_str(alloc, told.as_str()),
+            Cause::Schema(expected, found) => schema_message(expected, found, alloc),
+            Cause::Rule(rule, found) => rule_message(rule.wanted, found, alloc),
+            Cause::Unknown(meant) => unknown_message(*meant, alloc),
+            Cause::Repeated => String::from_str(
+                alloc,
+                "an earlier member has the same name; the last one counts",
+            ),
+        }
+    }
+}
+
+/// One text behind another.
+fn joined(first: &str, second: &str, alloc: Global) -> Result<String, AllocError>
+    ensures { IfOk result (λ t. string_bytes t ≡ first.now ++ second.now) }
+{
+    let mut text = String::from_str(alloc, first)?;
+    text.push_str(second)?;
+    Ok(text)
+}
+
+/// What is expected, and what was found.
+fn schema_message(
+    expected: &Expected,
+    found: &Option<String>,
+    alloc: Global,
+) -> Result<String, AllocError>
+    ensures { IfOk result (λ t. string_bytes t ≡ expected_words expected.now ++ found_words found.now) }
+{
+    let mut text = String::new(alloc);
+    push_expected(&mut text, expected, alloc)?;
+    with_found(text, found)
+}
+
+/// What is wanted, and what was found.
+fn rule_message(wanted: &str, found: &Option<String>, alloc: Global) -> Result<String, AllocError>
+    ensures { IfOk result (λ t. string_bytes t ≡ (codes "expected " ++ wanted.now) ++ found_words found.now) }
+{
+    let text = joined("expected ", wanted, alloc)?;
+    with_found(text, found)
+}
+
+/// A text, and behind it what was found.
+fn with_found(mut text: String, found: &Option<String>) -> Result<String, AllocError>
+    ensures { IfOk result (λ t. string_bytes t ≡ string_bytes text ++ found_words found.now) }
+{
+    match found {
+        Some(found) => {
+            push_found(&mut text, found.as_str())?;
+            Ok(text)
+        }
+        None => Ok(text),
+    }
+}
+
+fn push_found(text: &mut String, found: &str) -> Result<(), AllocError>
+    ensures { OnOk result (string_bytes text.new ≡ string_bytes text.old ++ (codes ", found " ++ found.now)) }
+{
+    text.push_str(", found ")?;
+    text.push_str(found)
+}
+
+/// That a member is unknown, and which may be meant.
+fn unknown_message(meant: Option<&'static str>, alloc: Global) -> Result<String, AllocError>
+    ensures { IfOk result (λ t. string_bytes t ≡ message_words (Unknown meant.entry)) }
+{
+    match meant {
+        Some(name) => joined("unknown member; the schema has ", name, alloc),
+        None => String::from_str(alloc, "unknown member"),
+    }
+}

@@ -1,6 +1,0 @@
-//! Content descriptors.
-#![tactic(auto)]
-
-pub mod descriptor;
-
-pub use descriptor::{Descriptor, DescriptorBuilder};

@@ -1,3 +1,0 @@
-pub mod KeySets
-pub mod NotEmpty
-pub mod Sorting

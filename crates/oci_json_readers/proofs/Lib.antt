@@ -1,4 +1,0 @@
-pub mod Erasing
-pub mod FreeMaps
-pub mod Presences
-pub mod RefusedDetails

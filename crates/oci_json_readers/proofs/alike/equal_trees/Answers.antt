@@ -1,5 +1,0 @@
-use Rattle.oci_json_readers.specs.SameTrees.{told}
-use Rattle.oci_json_readers.proofs.alike.equal_trees.Goals as goal
-
-pub returns : goal.returns
-returns c = told c.same.result _ _ c.same.ensures

@@ -1,3 +1,0 @@
-pub mod Reported
-pub mod Twice
-pub mod Unknown

@@ -1,6 +1,0 @@
--- The law is `reading_once`.
-use Rattle.oci_reference_scan.proofs.Readings.{reading_once}
-use Rattle.oci_reference_scan.proofs.laws.one_reading.Goals as goal
-
-pub returns : goal.returns
-returns c = reading_once

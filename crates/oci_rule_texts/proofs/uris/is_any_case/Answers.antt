@@ -1,7 +1,0 @@
--- Both tests decide the same.
-use Rattle.std.proofs.lemmas.Bool.Decides.{same_from_decides}
-use Rattle.std.proofs.lemmas.Slice.Eq.{bytes_eq-Decides}
-use Rattle.oci_rule_texts.proofs.uris.is_any_case.Goals as goal
-
-pub returns : goal.returns
-returns c = same_from_decides _ _ c.eq_ignore_ascii_case.ensures.test (bytes_eq-Decides _ _)

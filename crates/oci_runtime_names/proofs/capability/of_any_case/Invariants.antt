@@ -1,8 +1,0 @@
-use Rattle.std.proofs.Common.{◌≡◌, map, take, false}
-use Rattle.oci_text_base.specs.Capabilities.{ascii_upper}
-use Rattle.oci_text_base.specs.Names.{is_listed}
-use Rattle.oci_runtime_names.specs.Capability.{capability_name}
-use Rattle.oci_runtime_names.proofs.capability.of_any_case.Given as goal
-
-abbrev pub invariant-loop-capability : goal.invariant-loop-capability
-invariant-loop-capability l = is_listed (map capability_name (take l.capability-index l.all)) (map ascii_upper l.text) ≡ false

@@ -1,0 +1,11 @@
+use Rattle.oci_schema.proofs.Documents.{memory_no_json, memory_no_schema, memory_kind}
+use Rattle.oci_schema.proofs.bytes.pretty.normalize_pretty_bytes.Goals as goal
+
+pub returns-clause-json : goal.returns-clause-json
+returns-clause-json g c = memory_no_json c.append.result _ c.append.ensures.kind
+
+pub returns-clause-schema : goal.returns-clause-schema
+returns-clause-schema g c = memory_no_schema c.append.result _ c.append.ensures.kind
+
+pub returns-clause-kind : goal.returns-clause-kind
+returns-clause-kind g c = memory_kind c.append.result c.append.ensures.kind

@@ -1,0 +1,20 @@
+//! A JSON document by a schema straight from its bytes: whether it is valid, and its normal form, without a value in between where
+//! the schema allows that.
+
+mod absent;
+mod by_value;
+mod calls;
+mod capabilities;
+mod fields;
+mod lane;
+pub mod laws;
+mod object;
+mod pretty;
+mod scalar;
+mod streams;
+mod walk;
+
+pub use calls::{is_valid_bytes, normalize_bytes, violations_in_bytes};
+pub use lane::Workspace;
+pub use pretty::normalize_pretty_bytes;
+pub use streams::normalize;

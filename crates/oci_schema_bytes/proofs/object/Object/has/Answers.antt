@@ -1,6 +1,0 @@
-use Rattle.std.proofs.Common.{sym, ◌∙◌}
-use Rattle.oci_schema_bytes.proofs.Slots.{none_of}
-use Rattle.oci_schema_bytes.proofs.object.Object.has.Goals as goal
-
-pub returns : goal.returns
-returns c = λ t d b. none_of c.find.result _ _ (sym c.is_some.ensures ∙ t) c.find.ensures d b

@@ -1,4 +1,0 @@
-pub mod Fields
-pub mod Objects
-pub mod Texts
-pub mod Walks

@@ -1,3 +1,0 @@
-pub mod Lacks
-pub mod Marks
-pub mod Runs

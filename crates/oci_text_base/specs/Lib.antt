@@ -1,6 +1,0 @@
-pub mod Capabilities
-pub mod Classes
-pub mod CpuList
-pub mod Digest
-pub mod Names
-pub mod Refused

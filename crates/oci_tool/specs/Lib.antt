@@ -1,5 +1,0 @@
-pub mod Compared
-pub mod Done
-pub mod Formats
-pub mod Refused
-pub mod Texts

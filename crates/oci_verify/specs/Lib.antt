@@ -1,2 +1,0 @@
-pub mod Writes
-pub use Rattle.oci_layout.specs.Sound
