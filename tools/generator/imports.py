@@ -3,35 +3,29 @@ from generator.records import snake
 from generator.text import called_in, used, uses
 
 JOINS = [f"try_join{n}" for n in range(2, 6)]
-# functions of `oci_model`: those that are called with types, and the others
-KIND_CALLS = ["copy_optional_as", "write_optional_as"]
-MEMBER_CALLS = ["write_nullable", "write_unless_empty"]
-# functions of `oci_model` that are called with types, and its types
-READER_CALLS = ["optional_as_owned"] + [f"read{n}" for n in range(1, 6)]
+# functions and types of `oci_model`: those that are called with types, by name alone, and the others
+TYPED_CALLS = ["copy_optional_as", "write_optional_as", "optional_as_owned"] + [f"read{n}" for n in range(1, 6)]
 READERS = ["As", "Defaulted", "Nullable", "Optional", "Required", "UnlessEmpty"]
-# functions of `oci_model`
-MODEL_CALLS = ["copy_optional", "optional", "optional_either", "required", "write_optional", "write_required", "optional_owned",
-               "required_owned", "optional_either_owned"]
+CALLS = ["copy_optional", "optional", "optional_either", "required", "write_optional", "write_required", "optional_owned",
+         "required_owned", "optional_either_owned"]
 TAKES = ["taken"] + [f"taken_{n}" for n in range(5, 11)]
 # kinds of members that are in another crate than `oci_model`
-KIND_CRATES = {"Caps": "oci_text", "CpuTexts": "oci_text", "Detail": "oci_model", "FreeValues": "oci_model"}
+KIND_CRATES = {"Caps": "oci_text", "CpuTexts": "oci_text"}
 
 
 def model_calls(body):
-    """What a body takes from `oci_model`."""
-    return ["OciMember"] * (".copy(alloc)" in body) + called_in(MODEL_CALLS, body) + used(["ObjectWriter"] + JOINS + TAKES, body)
+    """What a body takes from `oci_model` to read, write and copy members."""
+    return ["OciMember"] * (".copy(alloc)" in body) + called_in(CALLS, body) + used(["ObjectWriter"] + JOINS + TAKES, body)
 
 
 def imports(r, body, schema):
     """The imports of a file of the record's, whose code names what it takes from the crates below."""
     held = " ".join(m.type.rust for m in r.members)
-    crates = {"oci_model": schema, "oci_base": used(["OciSpecError", "Result", "UninitializedFieldError"], body)}
-    crates["oci_model"] = used(KIND_CALLS, body) + called_in(MEMBER_CALLS, body)
-    crates["oci_model"] = used(READER_CALLS + READERS, body) + called_in(["equal_optional_values"], body)
-    crates["oci_text"] = used(["Digest"], body) + used(["Arch", "ErrorCode", "MediaType", "Os"], held)
-    crates["oci_text"] = used(["Capability"], held)
+    crates = {"oci_base": used(["OciSpecError", "Result", "UninitializedFieldError"], body)}
+    crates["oci_model"] = [*schema] + used(TYPED_CALLS + READERS, body) + called_in(["equal_optional_values", "write_nullable", "write_unless_empty"], body)
+    crates["oci_text"] = used(["Digest"], body) + used(["Arch", "ErrorCode", "MediaType", "Os"], held) + used(["Capability"], held)
     for kind in used(sorted({m.type.kind for m in r.members if m.type.kind}), body):
-        crates.setdefault(KIND_CRATES.get(kind, "oci_model"), []).append(kind)
+        crates[KIND_CRATES.get(kind, "oci_model")].append(kind)
     local = []
     parts = [(name, r.book.names[name]) for name in r.enums()] + r.parts()
     for name, crate in parts:

@@ -19,8 +19,7 @@ def head(n):
     if n.refusal or parsed:
         out += f"ghost use Rattle.{n.crate}.specs.declared.{w}.{name}.{{{name}}};\n"
     out += f"ghost use Rattle.{n.crate}.specs.{name}.{{{', '.join(words)}}};\n\n"
-    out += "use oci_model::OciDefault;\n" * ("absent" in marks)
-    model = ["ClosedName", "OciMember"] + ["named"] * two + ["parse_name"] * bool(parsed or n.refusal and not n.shows()) + ["read_name", "write_name"]
+    model = ["ClosedName"] + ["OciDefault"] * ("absent" in marks) + ["OciMember"] + ["named"] * two + ["parse_name"] * bool(parsed or n.refusal and not n.shows()) + ["read_name", "write_name"]
     out += f"use oci_model::{{{', '.join(model)}}};\n"
     out += "use oci_base::" + ("{OciSpecError, Result};\n" if n.refusal else "{Result, UnknownName};\n" if parsed else "Result;\n")
     out += "use serde_json::Value;\nuse std::alloc::" + ("{AllocError, Global}" if n.refusal else "Global") + ";\n"

@@ -41,12 +41,19 @@ def files(r):
     return {os.path.normpath(f"crates/{r.book.crate}/{path}"): text for path, text in out.items()}
 
 
-def crate_files(book, root):
-    """The files of all records of a book, and the list of its crate's specifications."""
-    out = {path: text for r in book.records for path, text in files(r).items()}
-    specs = f"crates/{book.crate}/specs"
-    out[f"{specs}/Lib.antt"] = module_list(root, specs, out)
-    return marked(out, TOOL, book.source())
+def book_files(book):
+    """The files of all records of a book."""
+    return marked({path: text for r in book.records for path, text in files(r).items()}, TOOL, book.source())
+
+
+def spec_lists(books, root, generated):
+    """The lists of the specifications of the crates that the books are of."""
+    out = {}
+    for crate in sorted({it.crate for it in books}):
+        specs, sources = f"crates/{crate}/specs", [it.source() for it in books if it.crate == crate]
+        source = sources[0] if len(sources) == 1 else "tools/records"
+        out.update(marked({f"{specs}/Lib.antt": module_list(root, specs, generated)}, TOOL, source))
+    return out
 
 
 def shape_files(books, root):
@@ -64,5 +71,5 @@ def all_files(books, root):
     """All files of all books, by their paths in the repository at `root`."""
     out = shape_files(books, root)
     for book in books:
-        out.update(crate_files(book, root))
-    return out
+        out.update(book_files(book))
+    return out | spec_lists(books, root, out)

@@ -3,6 +3,8 @@ it stands for the record's shape in `oci_shapes`."""
 import os
 import re
 
+from generator.output import module_list
+
 TYPES = "oci_schema"
 SHAPES = "oci_shapes"
 CRATE = "oci_schemas"
@@ -235,7 +237,8 @@ macro_rules! member {{
     }};
 }}
 
-{"".join(f"pub mod {m};{chr(10)}" for m in sorted(self.modules() + ['parts', 'table']))}
+{"".join(f"pub mod {m};{chr(10)}" for m in sorted(self.modules() + ['kind', 'parts', 'table']))}
+pub use kind::Kind;
 pub use table::{{OciRecords, oci_records, record_at}};
 """
 
@@ -277,12 +280,13 @@ impl HasSchema for {name} {{
 
     def files(self):
         out = {"src/lib.rt": self.lib_source(), "src/parts.rt": self.parts(), "src/table.rt": self.table_source(),
-               "specs/Lib.antt": f"-- {header('tools/records')}\npub mod Table\n", "specs/Table.antt": self.table_spec(),
-               "proofs/Lib.antt": "", "proofs/table/record_at/Answers.antt": self.answer()}
+               "specs/Table.antt": self.table_spec(), "proofs/table/record_at/Answers.antt": self.answer()}
         crates = {self.module(b): b.crate for b in self.books}
         for module in self.modules():
             out[f"src/{module}.rt"] = self.book_source(module, crates.get(module, "oci_reference"))
         out = {f"crates/{CRATE}/{path}": text for path, text in out.items()}
+        specs = f"crates/{CRATE}/specs"
+        out[f"{specs}/Lib.antt"] = f"-- {header('tools/records')}\n" + module_list(os.path.dirname(self.crates), specs, out)
         for part in ("distribution", "image", "linux", "runtime"):
             out[f"crates/oci_spec/src/schema/{part}.rt"] = self.impls(part)
         return out

@@ -4,7 +4,6 @@ ghost use Rattle.std.specs.Prelude.{◌≡◌, IfOk, IfErr};
 
 pub mod builder;
 
-use crate::LinuxRdma;
 use crate::linux_block_io::LinuxBlockIo;
 use crate::linux_cpu::LinuxCpu;
 use crate::linux_device_cgroup::LinuxDeviceCgroup;
@@ -12,6 +11,7 @@ use crate::linux_hugepage_limit::LinuxHugepageLimit;
 use crate::linux_memory::LinuxMemory;
 use crate::linux_network::LinuxNetwork;
 use crate::linux_pids::LinuxPids;
+use crate::linux_rdma::LinuxRdma;
 pub use builder::LinuxResourcesBuilder;
 use oci_base::{OciSpecError, Result};
 use oci_model::{

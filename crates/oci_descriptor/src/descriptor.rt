@@ -5,7 +5,7 @@ ghost use Rattle.std.specs.Prelude.{◌≡◌, IfOk, IfErr};
 pub mod builder;
 mod own;
 
-use crate::Platform;
+use crate::platform::Platform;
 pub use builder::DescriptorBuilder;
 use oci_base::{OciSpecError, Result};
 use oci_model::{

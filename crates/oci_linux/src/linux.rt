@@ -10,10 +10,15 @@ use crate::defaults::{
     get_default_maskedpaths, get_default_namespaces, get_default_readonly_paths,
     resources_without_rules,
 };
-use crate::{
-    LinuxDevice, LinuxIdMapping, LinuxIntelRdt, LinuxMemoryPolicy, LinuxNamespace, LinuxNetDevice,
-    LinuxPersonality, LinuxSeccomp, LinuxTimeOffset,
-};
+use crate::linux_device::LinuxDevice;
+use crate::linux_id_mapping::LinuxIdMapping;
+use crate::linux_intel_rdt::LinuxIntelRdt;
+use crate::linux_memory_policy::LinuxMemoryPolicy;
+use crate::linux_namespace::LinuxNamespace;
+use crate::linux_net_device::LinuxNetDevice;
+use crate::linux_personality::LinuxPersonality;
+use crate::linux_seccomp::LinuxSeccomp;
+use crate::linux_time_offset::LinuxTimeOffset;
 pub use builder::LinuxBuilder;
 use oci_base::{OciSpecError, Result};
 use oci_cgroups::LinuxResources;

@@ -3,7 +3,8 @@
 use Rattle.std.specs.Prelude.{[], ◌∷◌}
 use Rattle.oci_model.specs.Plain.{Plain, document, slots, filled}
 use Rattle.oci_model.specs.Types.{perhaps}
-use Rattle.oci_text.specs.CapabilitySets.{set_plain, default_set}
+use Rattle.oci_text.specs.CapabilitySets.{set_plain}
+use Rattle.oci_text.specs.CapabilitySets.{default_set}
 use Rattle.oci_process.specs.declared.linux_capabilities.LinuxCapabilities.{LinuxCapabilities}
 
 -- the content of a document

@@ -31,6 +31,7 @@ pub mod reference;
 pub mod runtime_records;
 pub mod runtime_spec;
 pub mod table;
+pub mod windows;
 
 pub use kind::Kind;
 pub use table::{OciRecords, oci_records, record_at};

@@ -35,10 +35,8 @@ use crate::linux_records::{
 };
 use crate::platforms::{
     solaris_anet_record, solaris_capped_cpu_record, solaris_capped_memory_record, solaris_record,
-    vm_hypervisor_record, vm_image_record, vm_kernel_record, vm_record,
-    windows_cpu_resources_record, windows_device_record, windows_hyper_v_record,
-    windows_memory_resources_record, windows_network_record, windows_record,
-    windows_resources_record, windows_storage_resources_record, zos_namespace_record, zos_record,
+    vm_hypervisor_record, vm_image_record, vm_kernel_record, vm_record, zos_namespace_record,
+    zos_record,
 };
 use crate::process::{
     console_box_record, exec_cpu_affinity_record, linux_capabilities_record,
@@ -50,6 +48,11 @@ use crate::runtime_records::{
     state_record,
 };
 use crate::runtime_spec::spec_record;
+use crate::windows::{
+    windows_cpu_resources_record, windows_device_record, windows_hyper_v_record,
+    windows_memory_resources_record, windows_network_record, windows_record,
+    windows_resources_record, windows_storage_resources_record,
+};
 use oci_schema::{Record, Records};
 
 static NO_RECORD: Record = Record {

@@ -2,7 +2,6 @@
 //! The builder of `LinuxResources`.
 ghost use Rattle.std.specs.Prelude.{◌≡◌, IfOk, IfErr};
 
-use crate::LinuxRdma;
 use crate::linux_block_io::LinuxBlockIo;
 use crate::linux_cpu::LinuxCpu;
 use crate::linux_device_cgroup::LinuxDeviceCgroup;
@@ -10,6 +9,7 @@ use crate::linux_hugepage_limit::LinuxHugepageLimit;
 use crate::linux_memory::LinuxMemory;
 use crate::linux_network::LinuxNetwork;
 use crate::linux_pids::LinuxPids;
+use crate::linux_rdma::LinuxRdma;
 use crate::linux_resources::LinuxResources;
 use oci_base::{OciSpecError, Result};
 use std::alloc::Global;

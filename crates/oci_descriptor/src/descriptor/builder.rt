@@ -2,8 +2,8 @@
 //! The builder of `Descriptor`.
 ghost use Rattle.std.specs.Prelude.{◌≡◌, IfOk, IfErr};
 
-use crate::Platform;
 use crate::descriptor::Descriptor;
+use crate::platform::Platform;
 use oci_base::{Result, UninitializedFieldError};
 use oci_text::{Digest, MediaType};
 use std::alloc::Global;

@@ -7,10 +7,15 @@ use crate::defaults::{
     resources_without_rules,
 };
 use crate::linux::Linux;
-use crate::{
-    LinuxDevice, LinuxIdMapping, LinuxIntelRdt, LinuxMemoryPolicy, LinuxNamespace, LinuxNetDevice,
-    LinuxPersonality, LinuxSeccomp, LinuxTimeOffset,
-};
+use crate::linux_device::LinuxDevice;
+use crate::linux_id_mapping::LinuxIdMapping;
+use crate::linux_intel_rdt::LinuxIntelRdt;
+use crate::linux_memory_policy::LinuxMemoryPolicy;
+use crate::linux_namespace::LinuxNamespace;
+use crate::linux_net_device::LinuxNetDevice;
+use crate::linux_personality::LinuxPersonality;
+use crate::linux_seccomp::LinuxSeccomp;
+use crate::linux_time_offset::LinuxTimeOffset;
 use oci_base::{OciSpecError, Result};
 use oci_cgroups::LinuxResources;
 use oci_model::try_join4;

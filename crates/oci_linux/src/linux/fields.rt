@@ -3,10 +3,15 @@
 ghost use Rattle.std.specs.Prelude.{◌≡◌};
 
 use super::Linux;
-use crate::{
-    LinuxDevice, LinuxIdMapping, LinuxIntelRdt, LinuxMemoryPolicy, LinuxNamespace, LinuxNetDevice,
-    LinuxPersonality, LinuxSeccomp, LinuxTimeOffset,
-};
+use crate::linux_device::LinuxDevice;
+use crate::linux_id_mapping::LinuxIdMapping;
+use crate::linux_intel_rdt::LinuxIntelRdt;
+use crate::linux_memory_policy::LinuxMemoryPolicy;
+use crate::linux_namespace::LinuxNamespace;
+use crate::linux_net_device::LinuxNetDevice;
+use crate::linux_personality::LinuxPersonality;
+use crate::linux_seccomp::LinuxSeccomp;
+use crate::linux_time_offset::LinuxTimeOffset;
 use oci_cgroups::LinuxResources;
 use std::collections::BTreeMap;
 

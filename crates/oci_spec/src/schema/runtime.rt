@@ -22,9 +22,7 @@ use oci_schemas::features::{
 };
 use oci_schemas::platforms::{
     solaris, solaris_anet, solaris_capped_cpu, solaris_capped_memory, vm, vm_hypervisor, vm_image,
-    vm_kernel, windows, windows_cpu_resources, windows_device, windows_hyper_v,
-    windows_memory_resources, windows_network, windows_resources, windows_storage_resources, zos,
-    zos_namespace,
+    vm_kernel, zos, zos_namespace,
 };
 use oci_schemas::process::{
     console_box, exec_cpu_affinity, linux_capabilities, linux_io_priority, posix_rlimit, process,
@@ -32,6 +30,10 @@ use oci_schemas::process::{
 };
 use oci_schemas::runtime_records::{container_process_state, hook, hooks, mount, root, state};
 use oci_schemas::runtime_spec::spec;
+use oci_schemas::windows::{
+    windows, windows_cpu_resources, windows_device, windows_hyper_v, windows_memory_resources,
+    windows_network, windows_resources, windows_storage_resources,
+};
 use oci_schemas::{OciRecords, oci_records};
 
 impl HasSchema for Apparmor {
