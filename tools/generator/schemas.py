@@ -238,7 +238,7 @@ macro_rules! member {{
 }}
 
 {"".join(f"pub mod {m};{chr(10)}" for m in sorted(self.modules() + ['kind', 'parts', 'table']))}
-pub use kind::Kind;
+pub use kind::{{KINDS, Kind}};
 pub use table::{{OciRecords, oci_records, record_at}};
 """
 

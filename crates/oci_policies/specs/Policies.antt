@@ -2,33 +2,16 @@
 use Rattle.std.specs.Prelude.{ℕ, List, [], ◌∷◌, ◌++◌, map, codes, bytes_eq, Option, Some, None, option_map, option_and_then, if◌then◌else◌, ◌≡◌}
 use Rattle.toml.specs.Data.{Data, Items, no_items, item, Members, as_str, as_array, as_table}
 use Rattle.toml.specs.Parse.{parse_document}
-use Rattle.oci_rules.specs.Rules.{Level, must, stated, should, host, Platform, linux, windows, solaris, vm, zos, freebsd, Place, Test, Rule}
+use Rattle.oci_rules.specs.Rules.{Level, Platform, Place, Test, Rule}
 use Rattle.oci_rules.specs.Platforms.{every}
+use Rattle.oci_rules.specs.Words.{level_named, platform_named}
 use Rattle.oci_policies.specs.Conditions.{condition_in}
 use Rattle.oci_policies.specs.Places.{Step, if_so, along, steps_of, steps_in}
 use Rattle.oci_policies.specs.Tests.{test_named}
 use Rattle.oci_policies.specs.Values.{both, list_in, under, under_or, has_only, sole_other}
 
-abbrev pub level_named : List ℕ → Option Level
-level_named t =
-    if bytes_eq t (codes "must") then Some must
-    else (if bytes_eq t (codes "stated") then Some stated
-    else (if bytes_eq t (codes "should") then Some should
-    else (if bytes_eq t (codes "host") then Some host
-    else None)))
-
 abbrev pub level_in : Data → Option Level
 level_in d = option_and_then level_named (as_str d)
-
-abbrev pub platform_named : List ℕ → Option Platform
-platform_named t =
-    if bytes_eq t (codes "linux") then Some linux
-    else (if bytes_eq t (codes "windows") then Some windows
-    else (if bytes_eq t (codes "solaris") then Some solaris
-    else (if bytes_eq t (codes "vm") then Some vm
-    else (if bytes_eq t (codes "zos") then Some zos
-    else (if bytes_eq t (codes "freebsd") then Some freebsd
-    else None)))))
 
 abbrev pub platform_in : Data → Option Platform
 platform_in d = option_and_then platform_named (as_str d)

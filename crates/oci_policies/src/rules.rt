@@ -42,26 +42,18 @@ fn rule_names() -> &'static [&'static str]
 fn level(table: &Table) -> Result<Level, Fault>
     ensures { Reads level_of result (under_in policies.level_in (codes "level") (table_view table.now)) }
 {
-    match text("level", under(table, "level")?)? {
-        "must" => Ok(Level::Must),
-        "stated" => Ok(Level::Stated),
-        "should" => Ok(Level::Should),
-        "host" => Ok(Level::Host),
-        _ => Err(expected("level", "`must`, `stated`, `should` or `host`")),
+    match Level::from_word(text("level", under(table, "level")?)?) {
+        Some(level) => Ok(level),
+        None => Err(expected("level", "`must`, `stated`, `should` or `host`")),
     }
 }
 
 fn platform(value: &Value) -> Result<Platform, Fault>
     ensures { Reads platform_of result (policies.platform_in (view value.now)) }
 {
-    match text("platforms", value)? {
-        "linux" => Ok(Platform::Linux),
-        "windows" => Ok(Platform::Windows),
-        "solaris" => Ok(Platform::Solaris),
-        "vm" => Ok(Platform::Vm),
-        "zos" => Ok(Platform::Zos),
-        "freebsd" => Ok(Platform::FreeBsd),
-        _ => Err(expected(
+    match Platform::from_word(text("platforms", value)?) {
+        Some(platform) => Ok(platform),
+        None => Err(expected(
             "platforms",
             "`linux`, `windows`, `solaris`, `vm`, `zos` or `freebsd`",
         )),

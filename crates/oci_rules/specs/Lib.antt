@@ -7,3 +7,4 @@ pub mod Platforms
 pub mod Rules
 pub mod Tables
 pub mod Tests
+pub mod Words

@@ -10,6 +10,7 @@ mod parts;
 mod passes;
 pub mod rule;
 mod show;
+mod words;
 
 pub use document::{broken_in, platform_of_document};
 pub use find::broken;

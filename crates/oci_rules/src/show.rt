@@ -5,12 +5,7 @@ use std::fmt;
 
 impl fmt::Display for Level {
     fn fmt<W: fmt::Write>(&self, f: &mut fmt::Formatter<W>) -> fmt::Result {
-        f.write_str(match self {
-            Level::Must => "must",
-            Level::Stated => "stated",
-            Level::Should => "should",
-            Level::Host => "host",
-        })
+        f.write_str(self.word())
     }
 }
 

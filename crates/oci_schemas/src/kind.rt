@@ -1,5 +1,5 @@
 //! The kinds of documents.
-ghost use Rattle.std.specs.Prelude.{◌≡◌};
+ghost use Rattle.std.specs.Prelude.{◌≡◌, Some};
 ghost use Rattle.oci_model.specs.WellFormed.{WellFormed};
 ghost use Rattle.oci_schema.specs.Shapes.{schema_shape, shape_at};
 ghost use Rattle.oci_schemas.specs.Table.{shapes};
@@ -48,6 +48,24 @@ pub enum Kind {
     Features,
 }
 
+/// All kinds, in their order.
+pub static KINDS: [Kind; 14] = [
+    Kind::Manifest,
+    Kind::Index,
+    Kind::Config,
+    Kind::Artifact,
+    Kind::Layout,
+    Kind::Descriptor,
+    Kind::Error,
+    Kind::Repositories,
+    Kind::Tags,
+    Kind::Reference,
+    Kind::Spec,
+    Kind::State,
+    Kind::ProcessState,
+    Kind::Features,
+];
+
 impl Kind {
     /// The kind that a word names, if there is one.
     pub fn from_word(word: &str) -> Option<Kind>
@@ -69,6 +87,48 @@ impl Kind {
             "process-state" => Some(Kind::ProcessState),
             "features" => Some(Kind::Features),
             _ => None,
+        }
+    }
+
+    /// The word for the kind.
+    pub fn word(self) -> &'static str
+        ensures { kind_of result.now ≡ Some self }
+    {
+        match self {
+            Kind::Manifest => "manifest",
+            Kind::Index => "index",
+            Kind::Config => "config",
+            Kind::Artifact => "artifact",
+            Kind::Layout => "layout",
+            Kind::Descriptor => "descriptor",
+            Kind::Error => "error",
+            Kind::Repositories => "repositories",
+            Kind::Tags => "tags",
+            Kind::Reference => "reference",
+            Kind::Spec => "spec",
+            Kind::State => "state",
+            Kind::ProcessState => "process-state",
+            Kind::Features => "features",
+        }
+    }
+
+    /// What a document of the kind is called, with its article.
+    pub fn title(self) -> &'static str {
+        match self {
+            Kind::Manifest => "an image manifest",
+            Kind::Index => "an image index",
+            Kind::Config => "an image configuration",
+            Kind::Artifact => "an artifact manifest",
+            Kind::Layout => "an oci-layout file",
+            Kind::Descriptor => "a content descriptor",
+            Kind::Error => "a registry's error reply",
+            Kind::Repositories => "a list of repositories",
+            Kind::Tags => "a list of tags",
+            Kind::Reference => "an image reference in its parts",
+            Kind::Spec => "a runtime configuration",
+            Kind::State => "the state of a container",
+            Kind::ProcessState => "the state of a container process",
+            Kind::Features => "the features of a runtime",
         }
     }
 

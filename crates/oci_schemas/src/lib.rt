@@ -33,5 +33,5 @@ pub mod runtime_spec;
 pub mod table;
 pub mod windows;
 
-pub use kind::Kind;
+pub use kind::{KINDS, Kind};
 pub use table::{OciRecords, oci_records, record_at};
