@@ -1,4 +1,4 @@
-/* Written by tools/header from crates/oci_ffi; do not edit.
+/* Written by tools/gen header from crates/oci_ffi; do not edit.
  *
  * Ciderglen: canonical form and validation of the JSON documents of the Open Container Initiative, image references and
  * digests. Copyright of the Ciderglen authors, Apache-2.0.

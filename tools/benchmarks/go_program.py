@@ -1,5 +1,4 @@
 """Builds the Go programs. Debian's Go packages are for a GOPATH."""
-import os
 import shutil
 
 from benchmarks.measuring import OUT, SOURCES, TOP, called

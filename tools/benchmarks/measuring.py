@@ -10,7 +10,8 @@ import subprocess
 import sys
 import tempfile
 
-TOP = os.path.dirname(os.path.dirname(os.path.dirname(os.path.realpath(__file__))))
+from repository import TOP
+
 OUT = f"{TOP}/out/bench"
 SOURCES = f"{TOP}/tools/benchmarks"
 

@@ -1,17 +1,9 @@
-"""The page with the tables. A table stands between a line `<!-- table: NAME -->` and a line `<!-- end -->`."""
-from benchmarks.measuring import TOP
+"""The page with the tables."""
+from repository import with_table, write as write_file
 
-PAGE = f"{TOP}/docs/BENCHMARKS.md"
+PAGE = "docs/BENCHMARKS.md"
 
 
 def write(name, lines):
     """Puts a table into the page."""
-    with open(PAGE, encoding="utf-8") as file:
-        text = file.read()
-    mark, end = f"<!-- table: {name} -->\n", "\n<!-- end -->"
-    before, begin, rest = text.partition(mark)
-    _, finish, after = rest.partition(end)
-    if not begin or not finish:
-        raise SystemExit(f"{PAGE} has no lines {mark.strip()} and {end.strip()}")
-    with open(PAGE, "w", encoding="utf-8") as file:
-        file.write("\n".join([before + mark, *lines, ""]) + end + after)
+    write_file(PAGE, with_table(PAGE, name, "\n".join(["", *lines, "", ""])))

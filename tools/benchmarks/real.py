@@ -6,7 +6,7 @@ import tempfile
 
 from benchmarks.measuring import OUT, Missing, said, seconds
 from benchmarks.tables import laid_out, number, ratio
-from peers import written
+from comparisons import written
 
 WANTED = 30
 SMALL = 500

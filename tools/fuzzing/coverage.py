@@ -11,9 +11,10 @@ import shutil
 import subprocess
 import sys
 
-TOP = os.path.dirname(os.path.dirname(os.path.dirname(os.path.realpath(__file__))))
+from repository import TOP, folder_of
+
 OUT = f"{TOP}/out/fuzz"
-CRATE = f"{TOP}/crates/oci_ffi"
+CRATE = folder_of("oci_ffi")
 ARCHIVE = "out/liboci_ffi.a"
 TARGET = f"{TOP}/bindings/c/tests/fuzz.c"
 COUNTERS = "-fsanitize-coverage=inline-8bit-counters,pc-table,trace-cmp"

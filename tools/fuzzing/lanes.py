@@ -4,27 +4,19 @@ The program `oci_tests`, with `bench lanes`, takes both ways on each document th
 """
 import multiprocessing
 import os
-import shutil
 import subprocess
-import sys
 import time
 
-TOP = os.path.dirname(os.path.dirname(os.path.dirname(os.path.realpath(__file__))))
-CRATE = f"{TOP}/crates/oci_tests"
+import golden
+from fuzzing.building import built_twice
+
 BATCH = 500
 LINES = {b"same accepted": True, b"same rejected": False}
 
 
 def build(folder):
-    """Builds the program as LLVM builds it, and as Rattle's own compiler does."""
-    built = []
-    for name, flags in (("llvm", []), ("rattle", ["--backend", "rattle"])):
-        # (with no document it compares nothing, and says so with status 0)
-        made = subprocess.run(["rt", "run", *flags, "--", "bench", "lanes"], cwd=CRATE, stdin=subprocess.DEVNULL, capture_output=True, text=True, check=False)
-        if made.returncode:
-            sys.exit(f"rt run {' '.join(flags)}: {made.stdout}{made.stderr}")
-        built.append(shutil.copy(f"{CRATE}/out/oci_tests", f"{folder}/oci_tests_{name}"))
-    return built
+    """Builds the program by both compilers. With no document it compares nothing, and says so with status 0."""
+    return built_twice(golden.NAME, ["bench", "lanes"], os.devnull, folder)
 
 
 def answers(program, documents):

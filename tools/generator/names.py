@@ -26,4 +26,4 @@ def crate_files(path, root):
         at = f"crates/{crate}/{folder}"
         if folder == "specs" or any(os.path.dirname(it) == at for it in out):
             out[f"{at}/Lib.antt"] = module_list(root, at, out)
-    return marked(out, "gen_names", "tools/names/" + os.path.basename(path))
+    return marked(out, "names", "tools/names/" + os.path.basename(path))

@@ -11,7 +11,7 @@ from generator.source import source
 from generator.specs import builder_spec, spec
 from generator.text import marked
 
-TOOL = "gen_records"
+TOOL = "records"
 
 
 def files(r):

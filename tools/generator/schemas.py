@@ -8,7 +8,7 @@ from generator.output import module_list
 TYPES = "oci_schema"
 SHAPES = "oci_shapes"
 CRATE = "oci_schemas"
-TOOL = "tools/gen_records"
+TOOL = "tools/gen records"
 
 BOUNDS = {"u16": (0, 0xffff), "u32": (0, 0xffff_ffff), "u64": (0, 0xffff_ffff_ffff_ffff), "usize": (0, 0xffff_ffff_ffff_ffff),
           "i32": (-0x8000_0000, 0x7fff_ffff), "i64": (-0x8000_0000_0000_0000, 0x7fff_ffff_ffff_ffff)}

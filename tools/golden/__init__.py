@@ -1,10 +1,10 @@
 """The program of the golden and robustness tests: where its data is, and what it prints of each of its parts."""
-import os
 import re
 
-TOP = os.path.dirname(os.path.dirname(os.path.dirname(os.path.realpath(__file__))))
+import repository
+
 NAME = "oci_tests"
-CRATE = f"{TOP}/crates/{NAME}"
+CRATE = repository.folder_of(NAME)
 DATA = f"{CRATE}/data"
 STDOUT = f"{CRATE}/stdout"
 
@@ -18,8 +18,7 @@ def part_of(text, part):
 
 
 def read():
-    with open(STDOUT, encoding="utf-8") as file:
-        return file.read()
+    return repository.read(STDOUT)
 
 
 def expected(part):

@@ -1,1 +1,1 @@
-"""What tools/api and tools/coverage read of the sources, and the pages that tools/api writes."""
+"""What `tools/gen api` and `tools/gen coverage` read of the sources, and the pages that `tools/gen api` writes."""

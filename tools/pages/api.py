@@ -25,7 +25,7 @@ SHARED = {
 }
 INTRODUCTION = """# API
 
-Written by `tools/api` from the sources; `tools/api --check` compares. The facade `oci_spec` comes first, module by module, then
+Written by `tools/gen api` from the sources; `tools/gen api --check` compares. The facade `oci_spec` comes first, module by module, then
 the crates `oci_json`, `oci_text`, `oci_reference` and `oci_pin`, with what the facade does not have. The words of the
 contracts are defined in the crates' `specs/`; `rt lemma WORD` prints a definition.
 

@@ -2,7 +2,7 @@
 
 In the prose `<!-- records: NAME.. -->` gives way to the sections of these records, in this order, `<!-- note: NAME --> TEXT` is
 added to the section of its record, and `<!-- enums -->` gives way to the table of enums. A record that only the prose or only a
-description has is reported. tools/gen_records and tools/gen_names say what a description holds; what the page does not need of
+description has is reported. `tools/gen records` and `tools/gen names` say what a description holds; what the page does not need of
 it is passed over. The accessors are those of the sources.
 """
 import glob

@@ -7,8 +7,10 @@ import functools
 import os
 import re
 
-TOP = os.path.dirname(os.path.dirname(os.path.dirname(os.path.abspath(__file__))))
-WORDS = r"(?:pub(?:\(\w+\))? )?(?:const (?=fn))?(fn|struct|enum|trait|const|static|type|mod|macro_rules!)(?= )"
+import repository
+
+TOP = repository.TOP
+WORDS = r"(?:pub(?:\(\w+\))? )?(?:const (?=fn))?(?:extern \"C\" )?(fn|struct|enum|trait|const|static|type|mod|macro_rules!)(?= )"
 
 
 def paragraphs(lines):
@@ -131,8 +133,7 @@ class Crate:
         self.name, self.modules, self.about, self.tests = name, {}, {}, tests
         folder = os.path.join(TOP, "crates", name, "src")
         root = next(it for it in ("lib.rt", "main.rt") if os.path.exists(f"{folder}/{it}"))
-        # (a test crate is a part of a program)
-        self.is_program = root == "main.rt" or name.startswith("oci_test_")
+        self.is_program = repository.crates()[name].is_run()
         self.read(folder, (), f"{folder}/{root}")
 
     def read(self, folder, module, path):

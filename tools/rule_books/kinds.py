@@ -1,5 +1,4 @@
 """The books of each kind of documents, in a crate above those of the books; that each place stands in its documents' shape."""
-from generator.records import snake
 from rule_books.tree import pascal
 
 CRATE = "oci_rule_books"

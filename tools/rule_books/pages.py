@@ -11,7 +11,7 @@ TITLES = {
 }
 HEAD = """# Rules
 
-Written by `tools/gen_rules` from `tools/rules`; `tools/gen_rules --check` compares.
+Written by `tools/gen rules` from `tools/rules`; `tools/gen rules --check` compares.
 
 What the specifications ask of a document beyond the types of its members, as far as the document alone shows it. A rule is listed where a
 part breaks it, with the part's JSON Pointer; a part of another type breaks none, since the schema rejects it.

@@ -27,7 +27,7 @@ import golden
 PROGRAM = "crates/oci_tests"
 # the files of rows that are written by hand, in the order of the program
 BY_HAND = ("restricted-container", "published-image", "each-test", "refused", "unknown", "twice")
-MARK = "# Written by tools/gen_rules from tools/rules/rows; do not edit.\n"
+MARK = "# Written by tools/gen rules from tools/rules/rows; do not edit.\n"
 
 
 def patched(value, change):

@@ -3,7 +3,7 @@
 //!
 //! `rules/KIND.rows` has the rows of a kind of documents, with an empty line between them. A row is three lines: the platform, or `-` for
 //! the document's own; the document; and what is listed, in order: `RULE POINTER` with two blanks between entries, or `-`. What begins
-//! with `#` is a remark. `tools/gen_rules` writes them from `tools/rules/rows`. `rules/texts.rows` has a text in each row: the grammar,
+//! with `#` is a remark. `tools/gen rules` writes them from `tools/rules/rows`. `rules/texts.rows` has a text in each row: the grammar,
 //! whether the text is of it, the text as JSON, and where it is from, by tabs.
 //!
 //! `rules/POLICY.rows` has the rows of the policy in `rules/POLICY.toml`: a remark, a document, and what is listed. `rules/refused.rows` has

@@ -2,7 +2,7 @@
 //! the records is compiled once for all of them. Each part prints how many rows or cases it had, and each that is not as it has to be.
 //!
 //! With no argument it runs all parts, each behind a line `== PART`; with an argument that part alone. With `list` it lists what breaks
-//! rules in the documents of standard input, for `tools/peers_rules`; with `bench` and more words it makes a call so often as is asked,
+//! rules in the documents of standard input, for `tools/peers rules`; with `bench` and more words it makes a call so often as is asked,
 //! for `tools/bench`. Before any proof: `rt try $(cd data && find * -type f -printf
 //! "--data %p=data/%p ")`.
 #![tactic(auto)]

@@ -1,6 +1,6 @@
 //! Golden tables: compares each text, number and constant with the original crate's source and the kernel's headers.
 //!
-//! `tables/` has what `tools/upstream_tables` takes from these: `ENUM.rows`, a row `KIND VARIANT TEXT` each; `constants.rows`, a row
+//! `tables/` has what `tools/gen tables` takes from these: `ENUM.rows`, a row `KIND VARIANT TEXT` each; `constants.rows`, a row
 //! `NAME VALUE` each. What begins with `#` is a remark and no row. `tables/kernel.values` is written by hand, and the tool makes the rows
 //! `header` and `kernel` from it. It prints how many rows of each kind it compared, and each row that is another one here. The tool
 //! writes these lines of the program's `stdout` too: the differences in them are those that `tables/differences` lists, each with its
