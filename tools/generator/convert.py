@@ -51,8 +51,6 @@ def law_imports(r, same, well):
     for rust, _ in OPEN_NAMES.values():
         if rust in r.words():
             out += imported(f"oci_text.specs.{rust}", [f"{snake(rust)}_name"], True)
-    if "ErrorCode" in r.words():
-        out += imported("oci_text.specs.ErrorCode", ["error_code_same"], True)
     if any(m.type.kind == "Keys" for m in r.members):
         out += imported("oci_model.specs.Keys", ["same_keys"], True)
     if any(m.type.kind == "Caps" for m in r.members):

@@ -23,7 +23,7 @@ def imports(r, body, schema):
     held = " ".join(m.type.rust for m in r.members)
     crates = {"oci_base": used(["OciSpecError", "Result", "UninitializedFieldError"], body)}
     crates["oci_model"] = [*schema] + used(TYPED_CALLS + READERS, body) + called_in(["equal_optional_values", "write_nullable", "write_unless_empty"], body)
-    crates["oci_text"] = used(["Digest"], body) + used(["Arch", "ErrorCode", "MediaType", "Os"], held) + used(["Capability"], held)
+    crates["oci_text"] = used(["Digest"], body) + used(["Arch", "MediaType", "Os"], held) + used(["Capability"], held)
     for kind in used(sorted({m.type.kind for m in r.members if m.type.kind}), body):
         crates[KIND_CRATES.get(kind, "oci_model")].append(kind)
     local = []

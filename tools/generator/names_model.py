@@ -1,10 +1,10 @@
-"""The model of closed names."""
+"""The model of enums, closed and extensible."""
 from generator.text import snake
 
 
 class Variant:
     def __init__(self, line):
-        words, self.what = line.split(" | ", 1)
+        words, _, self.what = line.partition(" | ")
         words = words.split()
         self.default = "*" in words
         self.name, self.text, *number = [w for w in words if w != "*"]
@@ -13,9 +13,10 @@ class Variant:
 
 
 class Name:
-    def __init__(self, name, crate):
-        self.name, self.word, self.crate = name, snake(name), crate
+    def __init__(self, name, crate, is_open=False):
+        self.name, self.word, self.crate, self.is_open = name, snake(name), crate, is_open
         self.title, self.about, self.variants, self.marks, self.number, self.refusal = "", [], [], set(), None, None
+        self.noun, self.table, self.by_hand, self.public = "", "", [], {}
 
     def default(self):
         return next((v for v in self.variants if v.default), None)
@@ -34,8 +35,13 @@ class Name:
             self.title = rest
         elif word == "about":
             self.about.append(rest)
-        elif word == "number":
-            self.number = rest
+        elif word in ("number", "noun", "table"):
+            setattr(self, word, rest)
+        elif word == "by_hand":
+            self.by_hand = rest.split()
+        elif word == "public":
+            part, *items = rest.split()
+            self.public[part] = items
         elif word == "try_from":
             self.refusal = rest.split(" | ")
         elif word == "shown":
@@ -48,7 +54,7 @@ class Name:
 
 
 def read(path):
-    """The crate that a file describes, and its closed names."""
+    """The crate that a file describes, and its enums."""
     crate, names = "", []
     for line in open(path, encoding="utf-8"):
         word, _, rest = line.strip().partition(" ")
@@ -56,8 +62,8 @@ def read(path):
             continue
         if word == "crate":
             crate = rest
-        elif word == "name":
-            names.append(Name(rest, crate))
+        elif word in ("name", "open"):
+            names.append(Name(rest, crate, word == "open"))
         else:
             names[-1].described(word, rest)
     return crate, names

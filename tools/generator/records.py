@@ -61,7 +61,7 @@ class Type:
             self.kind, fields = KINDS[text]
             self.set(*fields)
             self.eq = "free_eq" if text == "Free" else self.eq
-        elif text in OPEN_NAMES or text == "ErrorCode" or text in book.names:
+        elif text in OPEN_NAMES or text in book.names:
             self.set_name(text)
         else:
             word = snake(text)
@@ -88,9 +88,6 @@ class Type:
             word = snake(rust)
             self.set(rust, f"(λ m. name_plain ({word}_name m))", f"(same_named {word}_name)", f"(open_name {tables})", "", rust)
             self.words.add(rust)
-        elif text == "ErrorCode":
-            self.set("ErrorCode", "(variant_plain error_code_name)", "(same_variants error_code_same)", "(named error_codes)", "", "ErrorCode")
-            self.words.add("ErrorCode")
         else:
             word = snake(text)
             self.set(text, f"(variant_plain {word}_name)", f"(same_variants {word}_same)", f"(named {word}_table)", f"{word}.the_row", text)

@@ -63,7 +63,7 @@ class Table:
         if text in CONSTS:
             return CONSTS[text]
         const = self.const(text)
-        crate = book.names.get(text) or {"ErrorCode": "oci_text"}.get(text)
+        crate = book.names.get(text)
         if crate:
             self.enums[const] = (text, self.texts(crate, text))
         return const

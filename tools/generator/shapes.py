@@ -29,7 +29,6 @@ def name_imports(r, rows):
     out = ""
     for rust, tables in OPEN_NAMES.values():
         out += imported(f"oci_text.specs.{rust}", [tables] * (rust in r.words()))
-    out += imported("oci_text.specs.ErrorCode", ["error_codes"] * ("ErrorCode" in r.words()))
     if re.search(r"\bplain\.", rows):
         out += "use Rattle.oci_model.specs.Plain as plain\n"
     if "document" in rows:

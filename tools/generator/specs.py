@@ -75,7 +75,6 @@ def plain_imports(r, plain, default):
     out = ""
     for rust, _ in OPEN_NAMES.values():
         out += imported(f"oci_text.specs.{rust}", [f"{snake(rust)}_name"] * (rust in r.words()))
-    out += imported("oci_text.specs.ErrorCode", ["error_code_name"] * ("ErrorCode" in r.words()))
     if re.search(r"\bplain\.", plain + default):
         out += "use Rattle.oci_model.specs.Plain as plain\n"
     bare = re.sub(r"\bplain\.\w+", "", default)

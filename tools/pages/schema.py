@@ -69,7 +69,7 @@ def enums():
     for path in sorted(glob.glob(f"{sources.TOP}/tools/names/*.names")):
         for line in open(path, encoding="utf-8"):
             word, _, rest = line.strip().partition(" ")
-            if word == "name":
+            if word in ("name", "open"):
                 name = rest
                 found[name] = ([], None)
             elif word == "v":

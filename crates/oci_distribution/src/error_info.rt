@@ -4,8 +4,8 @@ ghost use Rattle.std.specs.Prelude.{◌≡◌, IfOk, IfErr};
 
 use oci_base::{OciSpecError, Result, UninitializedFieldError};
 use oci_model::{
-    As, Detail, ObjectWriter, OciMember, OciRecord, Optional, Required, copy_optional,
-    copy_optional_as, read3, try_join3, write_optional, write_optional_as, write_required,
+    As, Detail, ObjectWriter, OciRecord, Optional, Required, copy_optional, copy_optional_as,
+    read3, try_join2, write_optional, write_optional_as, write_required,
 };
 use oci_text::ErrorCode;
 use serde_json::Value;
@@ -94,13 +94,12 @@ impl OciRecord for ErrorInfo {
     }
 
     fn duplicate(&self, alloc: Global) -> Result<ErrorInfo> {
-        let (code, message, detail) = try_join3(
-            self.code.copy(alloc),
+        let (message, detail) = try_join2(
             copy_optional(&self.message, alloc),
             copy_optional_as::<Detail, String>(&self.detail, alloc),
         )?;
         Ok(ErrorInfo {
-            code,
+            code: self.code,
             message,
             detail,
         })

@@ -29,19 +29,19 @@ pub fn cpu_lists()
 {}
 
 /// A named media type is read from its own text.
-#[tactic(auto, using(crate::proofs::NamedMediaTypes::media_type_back))]
+#[tactic(auto, using(crate::proofs::NamedMediaType::media_type_back))]
 pub fn media_type_back()
     ensures { (m : MediaType) → is_other (media_type_name m) ≡ false → opened media_types (name_text (media_type_name m)) ≡ media_type_name m }
 {}
 
 /// A named operating system is read from its own text.
-#[tactic(auto, using(crate::proofs::NamedSystems::os_back))]
+#[tactic(auto, using(crate::proofs::NamedOs::os_back))]
 pub fn os_back()
     ensures { (m : Os) → is_other (os_name m) ≡ false → opened oses (name_text (os_name m)) ≡ os_name m }
 {}
 
 /// A named architecture is read from its own text.
-#[tactic(auto, using(crate::proofs::NamedArchitectures::arch_back))]
+#[tactic(auto, using(crate::proofs::NamedArch::arch_back))]
 pub fn arch_back()
     ensures { (m : Arch) → is_other (arch_name m) ≡ false → opened arches (name_text (arch_name m)) ≡ arch_name m }
 {}

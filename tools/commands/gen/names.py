@@ -1,12 +1,12 @@
-"""Closed names (enums): their sources, specifications and proofs in crates/, from tools/names/*.names.
+"""Enums, closed and extensible: their sources, specifications and proofs in crates/, from tools/names/*.names.
 
-It writes all files of all closed names that are not up to date. With --check it prints each file that differs, is missing, or is no
+It writes all files of all enums that are not up to date. With --check it prints each file that differs, is missing, or is no
 longer generated.
 
-A file of tools/names describes the closed names of one crate, a line each:
+A file of tools/names describes the enums of one crate, a line each:
 
-  crate NAME                    the crate of the names
-  name NAME                     an enum begins
+  crate NAME                    the crate of the enums
+  name NAME                     a closed enum begins
   title TEXT                    what its file is about, with the section of the public specification
   about TEXT                    what the enum is, a line of its documentation each
   from_str                      it has `from_str`, by its JSON strings
@@ -19,6 +19,13 @@ A file of tools/names describes the closed names of one crate, a line each:
   hashed                        it has Hash
   absent                        its default is the value of an absent member
   v VARIANT TEXT [NUMBER] [*] | WHAT    a variant: its JSON string, its number, a star if it is the default, and what it is
+
+  open NAME                     an extensible enum begins, which keeps any other text as `Other`
+  title, about, v               as above; a variant without number, and maybe without what it is
+  noun WORDS                    what its documentation calls a value
+  table WORD                    the list of its texts in specifications
+  by_hand PART..                files of its own that are written by hand, NAME/PART.rt
+  public PART ITEM..            items of such a file that the enum's file re-exports
 """
 import glob
 import os
@@ -28,7 +35,5 @@ from repository import TOP
 
 
 def run(options):
-    files = {}
-    for path in sorted(glob.glob(os.path.join(TOP, "tools/names/*.names"))):
-        files.update(names.crate_files(path, TOP))
-    return output.run("names", TOP, files, options.check)
+    paths = sorted(glob.glob(os.path.join(TOP, "tools/names/*.names")))
+    return output.run("names", TOP, names.all_files(paths, TOP), options.check)

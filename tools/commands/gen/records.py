@@ -37,7 +37,7 @@ A file of tools/records describes the records of one crate, a line each:
                                 an alias behind a bar; its type; its accessors (g by reference, c by copy, m mutable, s setter); what it is
 
 Types: T string, B boolean, u16 u32 u64 usize i32 i64, [x] list, {x} map, Keys, Detail, Caps, Cpu, Free (an object of any values; its
-record's equality is no derived one, since such values have none), Digest, Media, Os, Arch, ErrorCode, closed names, and records.
+record's equality is no derived one, since such values have none), Digest, Media, Os, Arch, closed names, and records.
 """
 import os
 

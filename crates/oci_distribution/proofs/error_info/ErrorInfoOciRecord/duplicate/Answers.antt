@@ -2,13 +2,13 @@
 -- What each member of a copy is.
 use Rattle.std.proofs.Common.{ap, ap₂, refl}
 use Rattle.oci_model.proofs.Together.{answered}
-use Rattle.oci_model.specs.Plain.{document, filled, slot}
+use Rattle.oci_model.specs.Plain.{document, slot}
 use Rattle.oci_distribution.proofs.error_info.ErrorInfoOciRecord.duplicate.Goals as goal
 
 pub returns-clause-ok : goal.returns-clause-ok
 returns-clause-ok c =
     ap document (
-    ap₂ slot (ap filled (answered _ _ _ c.in_ok-code.ensures.ok.0 c.copy.ensures.ok)) (
-    ap₂ slot (answered _ _ _ c.in_ok-code.ensures.ok.1 c.copy_optional.ensures.ok) (
-    ap₂ slot (answered _ _ _ c.in_ok-code.ensures.ok.2 c.copy_optional_as.ensures.ok) (
+    ap₂ slot refl (
+    ap₂ slot (answered _ _ _ c.in_ok-message.ensures.ok.0 c.copy_optional.ensures.ok) (
+    ap₂ slot (answered _ _ _ c.in_ok-message.ensures.ok.1 c.copy_optional_as.ensures.ok) (
     refl))))
