@@ -1,4 +1,4 @@
-"""Generates the sources, specifications and proofs of records and of closed names.
+"""Generates the sources, specifications and proofs of records and of enums.
 
   records.py    the model: Book, Record, Member, Type, read from tools/records/*.records
   text.py       what all parts share: lists of imports, tuples of at most five, the first line of a generated file
@@ -11,7 +11,9 @@
   schemas.py    the schemas of all records, and the impls of `HasSchema`
   imports.py    the imports of source files
   records_files.py  all of these files, by their paths
-  names_model.py   the model of closed names, read from tools/names/*.names
-  name_source.py, name_specs.py, names.py  a closed name's type; its texts, and lemmas about them; all their files
+  names_model.py   the model of enums, read from tools/names/*.names; names.py: all their files
+  name_source.py, name_specs.py  a closed enum's type; its texts, and lemmas about them
+  open_source.py, open_specs.py  an extensible enum's type; its texts, and the proofs of what is read and copied
+  integers.py   the integer types as members
   output.py     writes files, or compares them with the checkout
 """

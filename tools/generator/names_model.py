@@ -54,16 +54,18 @@ class Name:
 
 
 def read(path):
-    """The crate that a file describes, and its enums."""
-    crate, names = "", []
+    """The crate that a file describes, its enums, and its integer types."""
+    crate, names, integers = "", [], []
     for line in open(path, encoding="utf-8"):
         word, _, rest = line.strip().partition(" ")
         if not word or word.startswith("#"):
             continue
         if word == "crate":
             crate = rest
+        elif word == "integers":
+            integers = rest.split()
         elif word in ("name", "open"):
             names.append(Name(rest, crate, word == "open"))
         else:
             names[-1].described(word, rest)
-    return crate, names
+    return crate, names, integers

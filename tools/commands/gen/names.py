@@ -1,6 +1,6 @@
-"""Enums, closed and extensible: their sources, specifications and proofs in crates/, from tools/names/*.names.
+"""Enums, closed and extensible, and the integers as members: their sources, specifications and proofs in crates/, from tools/names/*.names.
 
-It writes all files of all enums that are not up to date. With --check it prints each file that differs, is missing, or is no
+It writes all of their files that are not up to date. With --check it prints each file that differs, is missing, or is no
 longer generated.
 
 A file of tools/names describes the enums of one crate, a line each:
@@ -26,6 +26,8 @@ A file of tools/names describes the enums of one crate, a line each:
   table WORD                    the list of its texts in specifications
   by_hand PART..                files of its own that are written by hand, NAME/PART.rt
   public PART ITEM..            items of such a file that the enum's file re-exports
+
+  integers TYPE..               integer types as members, in src/number.rt
 """
 import glob
 import os
