@@ -47,10 +47,21 @@ def array(items):
     return f"&[{', '.join(items)}]"
 
 
+# what a rule's line in a book's file is
+MACRO = """/// A rule: its name, level, section and what is wanted; its platforms; its place; its test.
+macro_rules! rule {
+    ($name:literal, $level:ident, $section:literal, $wanted:literal, $platforms:expr, [$($step:expr),*], $test:expr) => {
+        Rule { name: $name, level: Level::$level, section: $section, wanted: $wanted, platforms: $platforms, place: &[$($step),*], test: $test }
+    };
+}
+"""
+
+
 def rule(line, code):
     it = line.description
-    return (f"    Rule {{ name: {code.text(it.name)}, level: Level::{LEVELS[it.level]}, section: {code.text(it.section)}, wanted: {code.text(it.wanted)}, "
-            f"platforms: {platforms(it.platforms)}, place: {code.listing([code.shown(tree.step(s)) for s in line.steps])}, test: {code.shown(tree.test(line.test))} }},\n")
+    steps = ", ".join(code.shown(tree.step(s)) for s in line.steps)
+    return (f"    rule! {{ {code.text(it.name)}, {LEVELS[it.level]}, {code.text(it.section)}, {code.text(it.wanted)}, {platforms(it.platforms)},\n"
+            f"        [{steps}],\n        {code.shown(tree.test(line.test))} }},\n")
 
 
 def parts(group, model):
@@ -66,7 +77,7 @@ def imports(rules, group, model):
     crate = model.crate[group.file]
     words = set(re.findall(r"\w+", re.sub(r'"[^"]*"', "", rules)))
     shared = [it for it in ("POSIX", *(it.upper() for it in model.lists_of(crate))) if it in words]
-    types = sorted(it for it in ("Rule", "Platform", "Platforms", *TYPES) if it in words)
+    types = sorted({"Rule", "Level", *(it for it in ("Platform", "Platforms", *TYPES) if it in words)})
     out = "ghost use Rattle.std.specs.Prelude.{◌≡◌, map};\nghost use Rattle.std.specs.List.{flat_map};\nghost use Rattle.oci_rules.specs.Tables.{rule_of};\n"
     out += f"ghost use Rattle.{crate}.specs.{pascal(group.file)} as defined;\n\n"
     out += f"use crate::lists::{{{', '.join(sorted(shared))}}};\n" if shared else ""
@@ -111,7 +122,7 @@ def books(model):
 def root(model, crate):
     """The root file of a crate of books."""
     words = sorted(it.word for it in books(model) if model.crate[it.file] == crate)
-    out = f"//! {ABOUT[crate]}\n#![tactic(auto)]\n\n" + "".join(f"mod {it};\n" for it in sorted([*words, "lists"]))
+    out = f"//! {ABOUT[crate]}\n#![tactic(auto)]\n\n{MACRO}\n" + "".join(f"mod {it};\n" for it in sorted([*words, "lists"]))
     return out + "\n" + "".join(f"pub use {it}::{it}_rules;\n" for it in words)
 
 

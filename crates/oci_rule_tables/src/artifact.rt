@@ -10,63 +10,27 @@ use oci_grammars::Grammar;
 use oci_rules::{Level, Platforms, Rule, Step, Test};
 
 static RULES_1: [Rule<'static>; 3] = [
-    Rule {
-        name: "artifact-media-type",
-        level: Level::Must,
-        section: "image artifact.md#artifact-manifest-property-descriptions",
-        wanted: "application/vnd.oci.artifact.manifest.v1+json",
-        platforms: Platforms::Every,
-        place: &[Step::Member("mediaType")],
-        test: Test::OneOf(&["application/vnd.oci.artifact.manifest.v1+json"]),
-    },
-    Rule {
-        name: "artifact-type",
-        level: Level::Must,
-        section: "image artifact.md#artifact-manifest-property-descriptions",
-        wanted: "a media type (RFC 6838, section 4.2)",
-        platforms: Platforms::Every,
-        place: &[Step::Member("artifactType")],
-        test: Test::Text(Grammar::MediaType),
-    },
-    Rule {
-        name: "artifact-subject-type",
-        level: Level::Stated,
-        section: "image artifact.md#artifact-manifest-property-descriptions",
-        wanted: "the media type of a manifest or index",
-        platforms: Platforms::Every,
-        place: &[Step::Member("subject"), Step::Member("mediaType")],
-        test: Test::OneOf(SUBJECT_TYPES),
-    },
+    rule! { "artifact-media-type", Must, "image artifact.md#artifact-manifest-property-descriptions", "application/vnd.oci.artifact.manifest.v1+json", Platforms::Every,
+        [Step::Member("mediaType")],
+        Test::OneOf(&["application/vnd.oci.artifact.manifest.v1+json"]) },
+    rule! { "artifact-type", Must, "image artifact.md#artifact-manifest-property-descriptions", "a media type (RFC 6838, section 4.2)", Platforms::Every,
+        [Step::Member("artifactType")],
+        Test::Text(Grammar::MediaType) },
+    rule! { "artifact-subject-type", Stated, "image artifact.md#artifact-manifest-property-descriptions", "the media type of a manifest or index", Platforms::Every,
+        [Step::Member("subject"), Step::Member("mediaType")],
+        Test::OneOf(SUBJECT_TYPES) },
 ];
 
 static RULES_2: [Rule<'static>; 3] = [
-    Rule {
-        name: "artifact-not-other",
-        level: Level::Host,
-        section: "common practice",
-        wanted: "no member of another kind of manifest",
-        platforms: Platforms::Every,
-        place: &[],
-        test: Test::Absent("layers"),
-    },
-    Rule {
-        name: "artifact-not-other",
-        level: Level::Host,
-        section: "common practice",
-        wanted: "no member of another kind of manifest",
-        platforms: Platforms::Every,
-        place: &[],
-        test: Test::Absent("manifests"),
-    },
-    Rule {
-        name: "artifact-not-other",
-        level: Level::Host,
-        section: "common practice",
-        wanted: "no member of another kind of manifest",
-        platforms: Platforms::Every,
-        place: &[],
-        test: Test::Absent("config"),
-    },
+    rule! { "artifact-not-other", Host, "common practice", "no member of another kind of manifest", Platforms::Every,
+        [],
+        Test::Absent("layers") },
+    rule! { "artifact-not-other", Host, "common practice", "no member of another kind of manifest", Platforms::Every,
+        [],
+        Test::Absent("manifests") },
+    rule! { "artifact-not-other", Host, "common practice", "no member of another kind of manifest", Platforms::Every,
+        [],
+        Test::Absent("config") },
 ];
 
 /// Returns the book of artifact, a few rules in each slice.

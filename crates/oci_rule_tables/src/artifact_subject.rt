@@ -9,141 +9,46 @@ use oci_grammars::Grammar;
 use oci_rules::{Check, Condition, Level, Origin, Platforms, Rule, Step, Test};
 
 static RULES_1: [Rule<'static>; 3] = [
-    Rule {
-        name: "descriptor-media-type",
-        level: Level::Must,
-        section: "image descriptor.md#properties",
-        wanted: "a media type (RFC 6838, section 4.2)",
-        platforms: Platforms::Every,
-        place: &[Step::Member("subject"), Step::Member("mediaType")],
-        test: Test::Text(Grammar::MediaType),
-    },
-    Rule {
-        name: "descriptor-artifact-type",
-        level: Level::Must,
-        section: "image descriptor.md#properties",
-        wanted: "a media type (RFC 6838, section 4.2)",
-        platforms: Platforms::Every,
-        place: &[Step::Member("subject"), Step::Member("artifactType")],
-        test: Test::Text(Grammar::MediaType),
-    },
-    Rule {
-        name: "descriptor-size-limit",
-        level: Level::Must,
-        section: "image descriptor.md#properties",
-        wanted: "an integer from 0 to 9223372036854775807",
-        platforms: Platforms::Every,
-        place: &[Step::Member("subject"), Step::Member("size")],
-        test: Test::Within(0, 9223372036854775807),
-    },
+    rule! { "descriptor-media-type", Must, "image descriptor.md#properties", "a media type (RFC 6838, section 4.2)", Platforms::Every,
+        [Step::Member("subject"), Step::Member("mediaType")],
+        Test::Text(Grammar::MediaType) },
+    rule! { "descriptor-artifact-type", Must, "image descriptor.md#properties", "a media type (RFC 6838, section 4.2)", Platforms::Every,
+        [Step::Member("subject"), Step::Member("artifactType")],
+        Test::Text(Grammar::MediaType) },
+    rule! { "descriptor-size-limit", Must, "image descriptor.md#properties", "an integer from 0 to 9223372036854775807", Platforms::Every,
+        [Step::Member("subject"), Step::Member("size")],
+        Test::Within(0, 9223372036854775807) },
 ];
 
 static RULES_2: [Rule<'static>; 3] = [
-    Rule {
-        name: "descriptor-url",
-        level: Level::Must,
-        section: "image descriptor.md#properties",
-        wanted: "a URI (RFC 3986)",
-        platforms: Platforms::Every,
-        place: &[
-            Step::Member("subject"),
-            Step::Member("urls"),
-            Step::EachItem,
-        ],
-        test: Test::Text(Grammar::Uri),
-    },
-    Rule {
-        name: "descriptor-url-scheme",
-        level: Level::Should,
-        section: "image descriptor.md#properties",
-        wanted: "a URI with the scheme http or https",
-        platforms: Platforms::Every,
-        place: &[
-            Step::Member("subject"),
-            Step::Member("urls"),
-            Step::EachItem,
-        ],
-        test: Test::Text(Grammar::HttpUri),
-    },
-    Rule {
-        name: "descriptor-data-base64",
-        level: Level::Must,
-        section: "image descriptor.md#properties",
-        wanted: "base64 (RFC 4648, section 4)",
-        platforms: Platforms::Every,
-        place: &[Step::Member("subject"), Step::Member("data")],
-        test: Test::Text(Grammar::Base64),
-    },
+    rule! { "descriptor-url", Must, "image descriptor.md#properties", "a URI (RFC 3986)", Platforms::Every,
+        [Step::Member("subject"), Step::Member("urls"), Step::EachItem],
+        Test::Text(Grammar::Uri) },
+    rule! { "descriptor-url-scheme", Should, "image descriptor.md#properties", "a URI with the scheme http or https", Platforms::Every,
+        [Step::Member("subject"), Step::Member("urls"), Step::EachItem],
+        Test::Text(Grammar::HttpUri) },
+    rule! { "descriptor-data-base64", Must, "image descriptor.md#properties", "base64 (RFC 4648, section 4)", Platforms::Every,
+        [Step::Member("subject"), Step::Member("data")],
+        Test::Text(Grammar::Base64) },
 ];
 
 static RULES_3: [Rule<'static>; 3] = [
-    Rule {
-        name: "descriptor-digest-algorithm",
-        level: Level::Should,
-        section: "image descriptor.md#digests",
-        wanted: "a digest by SHA-256",
-        platforms: Platforms::Every,
-        place: &[Step::Member("subject"), Step::Member("digest")],
-        test: Test::Begins("sha256:"),
-    },
-    Rule {
-        name: "descriptor-empty",
-        level: Level::Stated,
-        section: "image manifest.md#guidance-for-an-empty-descriptor",
-        wanted: "the digest, size and data of {}",
-        platforms: Platforms::Every,
-        place: &[
-            Step::Member("subject"),
-            Step::When(Condition {
-                origin: Origin::Part,
-                way: &["mediaType"],
-                holds: true,
-                check: Check::OneOf(&["application/vnd.oci.empty.v1+json"]),
-            }),
-            Step::Member("digest"),
-        ],
-        test: Test::OneOf(&[
-            "sha256:44136fa355b3678a1146ad16f7e8649e94fb4fc21fe77e8310c060f61caaff8a",
-        ]),
-    },
-    Rule {
-        name: "descriptor-empty",
-        level: Level::Stated,
-        section: "image manifest.md#guidance-for-an-empty-descriptor",
-        wanted: "the digest, size and data of {}",
-        platforms: Platforms::Every,
-        place: &[
-            Step::Member("subject"),
-            Step::When(Condition {
-                origin: Origin::Part,
-                way: &["mediaType"],
-                holds: true,
-                check: Check::OneOf(&["application/vnd.oci.empty.v1+json"]),
-            }),
-            Step::Member("size"),
-        ],
-        test: Test::Within(2, 2),
-    },
+    rule! { "descriptor-digest-algorithm", Should, "image descriptor.md#digests", "a digest by SHA-256", Platforms::Every,
+        [Step::Member("subject"), Step::Member("digest")],
+        Test::Begins("sha256:") },
+    rule! { "descriptor-empty", Stated, "image manifest.md#guidance-for-an-empty-descriptor", "the digest, size and data of {}", Platforms::Every,
+        [Step::Member("subject"), Step::When(Condition { origin: Origin::Part, way: &["mediaType"], holds: true, check: Check::OneOf(&["application/vnd.oci.empty.v1+json"]) }), Step::Member("digest")],
+        Test::OneOf(&["sha256:44136fa355b3678a1146ad16f7e8649e94fb4fc21fe77e8310c060f61caaff8a"]) },
+    rule! { "descriptor-empty", Stated, "image manifest.md#guidance-for-an-empty-descriptor", "the digest, size and data of {}", Platforms::Every,
+        [Step::Member("subject"), Step::When(Condition { origin: Origin::Part, way: &["mediaType"], holds: true, check: Check::OneOf(&["application/vnd.oci.empty.v1+json"]) }), Step::Member("size")],
+        Test::Within(2, 2) },
 ];
 
-static RULES_4: [Rule<'static>; 1] = [Rule {
-    name: "descriptor-empty",
-    level: Level::Stated,
-    section: "image manifest.md#guidance-for-an-empty-descriptor",
-    wanted: "the digest, size and data of {}",
-    platforms: Platforms::Every,
-    place: &[
-        Step::Member("subject"),
-        Step::When(Condition {
-            origin: Origin::Part,
-            way: &["mediaType"],
-            holds: true,
-            check: Check::OneOf(&["application/vnd.oci.empty.v1+json"]),
-        }),
-        Step::Member("data"),
-    ],
-    test: Test::OneOf(&["e30="]),
-}];
+static RULES_4: [Rule<'static>; 1] = [
+    rule! { "descriptor-empty", Stated, "image manifest.md#guidance-for-an-empty-descriptor", "the digest, size and data of {}", Platforms::Every,
+        [Step::Member("subject"), Step::When(Condition { origin: Origin::Part, way: &["mediaType"], holds: true, check: Check::OneOf(&["application/vnd.oci.empty.v1+json"]) }), Step::Member("data")],
+        Test::OneOf(&["e30="]) },
+];
 
 /// Returns the book of artifact subject, a few rules in each slice.
 pub fn artifact_subject_rules() -> [&'static [Rule<'static>]; 4]

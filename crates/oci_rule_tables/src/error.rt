@@ -7,15 +7,11 @@ ghost use Rattle.oci_rule_tables.specs.Others as defined;
 
 use oci_rules::{Level, Platforms, Rule, Step, Test};
 
-static RULES: [Rule<'static>; 1] = [Rule {
-    name: "error-some",
-    level: Level::Stated,
-    section: "distribution spec.md#error-codes",
-    wanted: "at least one error",
-    platforms: Platforms::Every,
-    place: &[Step::Member("errors")],
-    test: Test::NotEmpty,
-}];
+static RULES: [Rule<'static>; 1] = [
+    rule! { "error-some", Stated, "distribution spec.md#error-codes", "at least one error", Platforms::Every,
+        [Step::Member("errors")],
+        Test::NotEmpty },
+];
 
 /// Returns the book of error, a few rules in each slice.
 pub fn error_rules() -> [&'static [Rule<'static>]; 1]

@@ -7,15 +7,11 @@ ghost use Rattle.oci_rule_tables.specs.Others as defined;
 
 use oci_rules::{Level, Platforms, Rule, Step, Test};
 
-static RULES: [Rule<'static>; 1] = [Rule {
-    name: "layout-version",
-    level: Level::Stated,
-    section: "image image-layout.md#oci-layout-file",
-    wanted: "1.0.0",
-    platforms: Platforms::Every,
-    place: &[Step::Member("imageLayoutVersion")],
-    test: Test::OneOf(&["1.0.0"]),
-}];
+static RULES: [Rule<'static>; 1] = [
+    rule! { "layout-version", Stated, "image image-layout.md#oci-layout-file", "1.0.0", Platforms::Every,
+        [Step::Member("imageLayoutVersion")],
+        Test::OneOf(&["1.0.0"]) },
+];
 
 /// Returns the book of layout, a few rules in each slice.
 pub fn layout_rules() -> [&'static [Rule<'static>]; 1]

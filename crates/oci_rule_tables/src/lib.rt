@@ -2,6 +2,13 @@
 //! The books of rules: of image and distribution documents, and of containers' configurations, states and features.
 #![tactic(auto)]
 
+/// A rule: its name, level, section and what is wanted; its platforms; its place; its test.
+macro_rules! rule {
+    ($name:literal, $level:ident, $section:literal, $wanted:literal, $platforms:expr, [$($step:expr),*], $test:expr) => {
+        Rule { name: $name, level: Level::$level, section: $section, wanted: $wanted, platforms: $platforms, place: &[$($step),*], test: $test }
+    };
+}
+
 mod artifact;
 mod artifact_annotations;
 mod artifact_blobs;

@@ -9,112 +9,27 @@ use crate::lists::IPC_SYSCTLS;
 use oci_rules::{Check, Condition, Level, Origin, Platforms, Rule, Step, Test};
 
 static RULES_1: [Rule<'static>; 3] = [
-    Rule {
-        name: "sysctl-network",
-        level: Level::Host,
-        section: "runtime config-linux.md#sysctl",
-        wanted: "no parameter of the network without a network namespace of its own",
-        platforms: Platforms::Every,
-        place: &[
-            Step::When(Condition {
-                origin: Origin::Document,
-                way: &["linux", "namespaces"],
-                holds: false,
-                check: Check::ListsItem("type", &["network"], &[], &["path"]),
-            }),
-            Step::Member("linux"),
-            Step::Member("sysctl"),
-            Step::EachName,
-        ],
-        test: Test::Reserved("net.", &[]),
-    },
-    Rule {
-        name: "sysctl-network",
-        level: Level::Host,
-        section: "runtime config-linux.md#sysctl",
-        wanted: "no parameter of the network without a network namespace of its own",
-        platforms: Platforms::Every,
-        place: &[
-            Step::When(Condition {
-                origin: Origin::Document,
-                way: &["linux", "namespaces"],
-                holds: false,
-                check: Check::ListsItem("type", &["network"], &[], &["path"]),
-            }),
-            Step::Member("linux"),
-            Step::Member("sysctl"),
-            Step::EachName,
-        ],
-        test: Test::Reserved("net/", &[]),
-    },
-    Rule {
-        name: "sysctl-ipc",
-        level: Level::Host,
-        section: "runtime config-linux.md#sysctl",
-        wanted: "no parameter of IPC without an IPC namespace of its own",
-        platforms: Platforms::Every,
-        place: &[
-            Step::When(Condition {
-                origin: Origin::Document,
-                way: &["linux", "namespaces"],
-                holds: false,
-                check: Check::ListsItem("type", &["ipc"], &[], &["path"]),
-            }),
-            Step::Member("linux"),
-            Step::Member("sysctl"),
-            Step::EachName,
-        ],
-        test: Test::Reserved("fs.mqueue.", &[]),
-    },
+    rule! { "sysctl-network", Host, "runtime config-linux.md#sysctl", "no parameter of the network without a network namespace of its own", Platforms::Every,
+        [Step::When(Condition { origin: Origin::Document, way: &["linux", "namespaces"], holds: false, check: Check::ListsItem("type", &["network"], &[], &["path"]) }), Step::Member("linux"), Step::Member("sysctl"), Step::EachName],
+        Test::Reserved("net.", &[]) },
+    rule! { "sysctl-network", Host, "runtime config-linux.md#sysctl", "no parameter of the network without a network namespace of its own", Platforms::Every,
+        [Step::When(Condition { origin: Origin::Document, way: &["linux", "namespaces"], holds: false, check: Check::ListsItem("type", &["network"], &[], &["path"]) }), Step::Member("linux"), Step::Member("sysctl"), Step::EachName],
+        Test::Reserved("net/", &[]) },
+    rule! { "sysctl-ipc", Host, "runtime config-linux.md#sysctl", "no parameter of IPC without an IPC namespace of its own", Platforms::Every,
+        [Step::When(Condition { origin: Origin::Document, way: &["linux", "namespaces"], holds: false, check: Check::ListsItem("type", &["ipc"], &[], &["path"]) }), Step::Member("linux"), Step::Member("sysctl"), Step::EachName],
+        Test::Reserved("fs.mqueue.", &[]) },
 ];
 
 static RULES_2: [Rule<'static>; 3] = [
-    Rule {
-        name: "sysctl-ipc",
-        level: Level::Host,
-        section: "runtime config-linux.md#sysctl",
-        wanted: "no parameter of IPC without an IPC namespace of its own",
-        platforms: Platforms::Every,
-        place: &[
-            Step::When(Condition {
-                origin: Origin::Document,
-                way: &["linux", "namespaces"],
-                holds: false,
-                check: Check::ListsItem("type", &["ipc"], &[], &["path"]),
-            }),
-            Step::Member("linux"),
-            Step::Member("sysctl"),
-            Step::EachName,
-        ],
-        test: Test::NoneOf(IPC_SYSCTLS),
-    },
-    Rule {
-        name: "sysctl-domainname",
-        level: Level::Host,
-        section: "runtime config-linux.md#sysctl",
-        wanted: "no name of a domain without a UTS namespace of its own",
-        platforms: Platforms::Every,
-        place: &[
-            Step::When(Condition {
-                origin: Origin::Document,
-                way: &["linux", "namespaces"],
-                holds: false,
-                check: Check::ListsItem("type", &["uts"], &[], &["path"]),
-            }),
-            Step::Member("linux"),
-            Step::Member("sysctl"),
-        ],
-        test: Test::Absent("kernel.domainname"),
-    },
-    Rule {
-        name: "sysctl-hostname",
-        level: Level::Host,
-        section: "runtime config-linux.md#sysctl",
-        wanted: "the member hostname instead of this parameter",
-        platforms: Platforms::Every,
-        place: &[Step::Member("linux"), Step::Member("sysctl")],
-        test: Test::Absent("kernel.hostname"),
-    },
+    rule! { "sysctl-ipc", Host, "runtime config-linux.md#sysctl", "no parameter of IPC without an IPC namespace of its own", Platforms::Every,
+        [Step::When(Condition { origin: Origin::Document, way: &["linux", "namespaces"], holds: false, check: Check::ListsItem("type", &["ipc"], &[], &["path"]) }), Step::Member("linux"), Step::Member("sysctl"), Step::EachName],
+        Test::NoneOf(IPC_SYSCTLS) },
+    rule! { "sysctl-domainname", Host, "runtime config-linux.md#sysctl", "no name of a domain without a UTS namespace of its own", Platforms::Every,
+        [Step::When(Condition { origin: Origin::Document, way: &["linux", "namespaces"], holds: false, check: Check::ListsItem("type", &["uts"], &[], &["path"]) }), Step::Member("linux"), Step::Member("sysctl")],
+        Test::Absent("kernel.domainname") },
+    rule! { "sysctl-hostname", Host, "runtime config-linux.md#sysctl", "the member hostname instead of this parameter", Platforms::Every,
+        [Step::Member("linux"), Step::Member("sysctl")],
+        Test::Absent("kernel.hostname") },
 ];
 
 /// Returns the book of linux sysctl, a few rules in each slice.

@@ -9,63 +9,27 @@ use oci_grammars::Grammar;
 use oci_rules::{Level, Platforms, Rule, Step, Test};
 
 static RULES_1: [Rule<'static>; 3] = [
-    Rule {
-        name: "reference-registry",
-        level: Level::Must,
-        section: "distribution spec.md#pulling-manifests",
-        wanted: "a domain, with a port or nothing behind it",
-        platforms: Platforms::Every,
-        place: &[Step::Member("registry")],
-        test: Test::Text(Grammar::Domain),
-    },
-    Rule {
-        name: "reference-registry",
-        level: Level::Must,
-        section: "distribution spec.md#pulling-manifests",
-        wanted: "a domain, with a port or nothing behind it",
-        platforms: Platforms::Every,
-        place: &[Step::Member("mirror_registry")],
-        test: Test::Text(Grammar::Domain),
-    },
-    Rule {
-        name: "reference-repository",
-        level: Level::Must,
-        section: "distribution spec.md#pulling-manifests",
-        wanted: "the name of a repository",
-        platforms: Platforms::Every,
-        place: &[Step::Member("repository")],
-        test: Test::Text(Grammar::Repository),
-    },
+    rule! { "reference-registry", Must, "distribution spec.md#pulling-manifests", "a domain, with a port or nothing behind it", Platforms::Every,
+        [Step::Member("registry")],
+        Test::Text(Grammar::Domain) },
+    rule! { "reference-registry", Must, "distribution spec.md#pulling-manifests", "a domain, with a port or nothing behind it", Platforms::Every,
+        [Step::Member("mirror_registry")],
+        Test::Text(Grammar::Domain) },
+    rule! { "reference-repository", Must, "distribution spec.md#pulling-manifests", "the name of a repository", Platforms::Every,
+        [Step::Member("repository")],
+        Test::Text(Grammar::Repository) },
 ];
 
 static RULES_2: [Rule<'static>; 3] = [
-    Rule {
-        name: "reference-tag",
-        level: Level::Must,
-        section: "distribution spec.md#pulling-manifests",
-        wanted: "a tag",
-        platforms: Platforms::Every,
-        place: &[Step::Member("tag")],
-        test: Test::Text(Grammar::Tag),
-    },
-    Rule {
-        name: "reference-digest",
-        level: Level::Must,
-        section: "distribution spec.md#pulling-manifests",
-        wanted: "a digest",
-        platforms: Platforms::Every,
-        place: &[Step::Member("digest")],
-        test: Test::Text(Grammar::Digest),
-    },
-    Rule {
-        name: "reference-some",
-        level: Level::Stated,
-        section: "distribution spec.md#pulling-manifests",
-        wanted: "a tag or a digest",
-        platforms: Platforms::Every,
-        place: &[],
-        test: Test::Either(&["tag", "digest"]),
-    },
+    rule! { "reference-tag", Must, "distribution spec.md#pulling-manifests", "a tag", Platforms::Every,
+        [Step::Member("tag")],
+        Test::Text(Grammar::Tag) },
+    rule! { "reference-digest", Must, "distribution spec.md#pulling-manifests", "a digest", Platforms::Every,
+        [Step::Member("digest")],
+        Test::Text(Grammar::Digest) },
+    rule! { "reference-some", Stated, "distribution spec.md#pulling-manifests", "a tag or a digest", Platforms::Every,
+        [],
+        Test::Either(&["tag", "digest"]) },
 ];
 
 /// Returns the book of reference, a few rules in each slice.

@@ -9,24 +9,12 @@ use oci_grammars::Grammar;
 use oci_rules::{Key, Level, Platforms, Rule, Step, Test};
 
 static RULES: [Rule<'static>; 2] = [
-    Rule {
-        name: "repositories-name",
-        level: Level::Must,
-        section: "registry api.md#overview",
-        wanted: "the name of a repository",
-        platforms: Platforms::Every,
-        place: &[Step::Member("repositories"), Step::EachItem],
-        test: Test::Text(Grammar::Repository),
-    },
-    Rule {
-        name: "repositories-once",
-        level: Level::Host,
-        section: "common practice",
-        wanted: "each repository once",
-        platforms: Platforms::Every,
-        place: &[Step::Member("repositories")],
-        test: Test::Distinct(Key::Itself),
-    },
+    rule! { "repositories-name", Must, "registry api.md#overview", "the name of a repository", Platforms::Every,
+        [Step::Member("repositories"), Step::EachItem],
+        Test::Text(Grammar::Repository) },
+    rule! { "repositories-once", Host, "common practice", "each repository once", Platforms::Every,
+        [Step::Member("repositories")],
+        Test::Distinct(Key::Itself) },
 ];
 
 /// Returns the book of repositories, a few rules in each slice.

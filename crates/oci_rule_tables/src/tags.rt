@@ -9,33 +9,15 @@ use oci_grammars::Grammar;
 use oci_rules::{Key, Level, Platforms, Rule, Step, Test};
 
 static RULES: [Rule<'static>; 3] = [
-    Rule {
-        name: "tags-name",
-        level: Level::Must,
-        section: "distribution spec.md#listing-tags",
-        wanted: "the name of a repository",
-        platforms: Platforms::Every,
-        place: &[Step::Member("name")],
-        test: Test::Text(Grammar::Repository),
-    },
-    Rule {
-        name: "tags-tag",
-        level: Level::Must,
-        section: "distribution spec.md#listing-tags",
-        wanted: "a tag",
-        platforms: Platforms::Every,
-        place: &[Step::Member("tags"), Step::EachItem],
-        test: Test::Text(Grammar::Tag),
-    },
-    Rule {
-        name: "tags-once",
-        level: Level::Host,
-        section: "common practice",
-        wanted: "each tag once",
-        platforms: Platforms::Every,
-        place: &[Step::Member("tags")],
-        test: Test::Distinct(Key::Itself),
-    },
+    rule! { "tags-name", Must, "distribution spec.md#listing-tags", "the name of a repository", Platforms::Every,
+        [Step::Member("name")],
+        Test::Text(Grammar::Repository) },
+    rule! { "tags-tag", Must, "distribution spec.md#listing-tags", "a tag", Platforms::Every,
+        [Step::Member("tags"), Step::EachItem],
+        Test::Text(Grammar::Tag) },
+    rule! { "tags-once", Host, "common practice", "each tag once", Platforms::Every,
+        [Step::Member("tags")],
+        Test::Distinct(Key::Itself) },
 ];
 
 /// Returns the book of tags, a few rules in each slice.
