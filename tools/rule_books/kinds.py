@@ -1,4 +1,4 @@
-"""The books of each kind of documents, in a crate above those of the books; that each place stands in its documents' shape."""
+"""The books of each kind of documents; that each place stands in its documents' shape."""
 from rule_books.tree import pascal
 
 CRATE = "oci_rule_books"
@@ -38,14 +38,13 @@ def kinds_source(model):
     used = {}
     for kind in model.kinds:
         for it in model.books_of(kind):
-            used.setdefault(model.crate[it.file], []).append(f"{it.word}_rules")
-    out = "//! The books of rules of each kind of documents.\n#![tactic(auto)]\n"
+            used[f"crate::{it.word}"] = f"{it.word}_rules"
+    out = "//! The books of rules of each kind of documents.\n"
     out += "ghost use Rattle.std.specs.Prelude.{◌≡◌, map, IfOk};\nghost use Rattle.std.specs.List.{flat_map};\n"
     out += "ghost use Rattle.oci_rules.specs.Tables.{rule_of};\n"
     out += f"ghost use Rattle.{CRATE}.specs.Kinds as kinds;\nghost use Rattle.oci_schemas.specs.declared.kind.Kind.TheVariants as kind;\n\n"
     out += "use oci_schemas::Kind;\nuse oci_rules::Rule;\n"
-    for crate, words in sorted(used.items()):
-        out += f"use {crate}::{{{', '.join(sorted(set(words)))}}};\n"
+    out += "".join(f"use {module}::{word};\n" for module, word in sorted(used.items()))
     out += "use std::alloc::{AllocError, Global};\n"
     out += "\n/// Returns the rules of a kind of documents, in the order of its books, a few in each slice. Fails if out of memory.\n"
     out += f"pub fn rules_of(kind: Kind, alloc: Global) -> {BOOKS}\n"
@@ -85,7 +84,7 @@ def answers(model, kind):
     out = "use Rattle.std.proofs.Common.{[], ◌∷◌}\n"
     out += f"use Rattle.{CRATE}.proofs.Chains.{{collects}}\n"
     out += defined(model, [kind])
-    out += f"use Rattle.{CRATE}.proofs.{snake_of(kind)}_books.Goals as goal\n\npub returns : goal.returns\nreturns c =\n"
+    out += f"use Rattle.{CRATE}.proofs.kinds.{snake_of(kind)}_books.Goals as goal\n\npub returns : goal.returns\nreturns c =\n"
     parts = "".join(f"c.{it.word}_rules.result ∷ " for it in books) + "[]"
     return out + f"    collects c.collected.result (λ v. v.items)\n    ({parts})\n    ({rules})\n    c.collected.ensures\n    {have}\n"
 
@@ -93,5 +92,5 @@ def answers(model, kind):
 def files(model):
     """All files, by their paths."""
     folder = f"crates/{CRATE}"
-    proofs = {f"{folder}/proofs/{snake_of(kind)}_books/Answers.antt": answers(model, kind) for kind in model.kinds}
-    return proofs | {f"{folder}/specs/Kinds.antt": kinds_specs(model), f"{folder}/src/lib.rt": kinds_source(model), f"{folder}/proofs/Places.antt": places(model)}
+    proofs = {f"{folder}/proofs/kinds/{snake_of(kind)}_books/Answers.antt": answers(model, kind) for kind in model.kinds}
+    return proofs | {f"{folder}/specs/Kinds.antt": kinds_specs(model), f"{folder}/src/kinds.rt": kinds_source(model), f"{folder}/proofs/Places.antt": places(model)}

@@ -110,7 +110,7 @@ def lists(model, crate):
 
 
 ABOUT = {
-    "oci_rule_tables": "The books of rules: of image and distribution documents, and of containers' configurations, states and features.",
+    "oci_rule_books": "The books of rules: of image and distribution documents, and of containers' configurations, states and features; and which books the\n//! documents of each kind have.",
 }
 
 
@@ -122,8 +122,8 @@ def books(model):
 def root(model, crate):
     """The root file of a crate of books."""
     words = sorted(it.word for it in books(model) if model.crate[it.file] == crate)
-    out = f"//! {ABOUT[crate]}\n#![tactic(auto)]\n\n{MACRO}\n" + "".join(f"mod {it};\n" for it in sorted([*words, "lists"]))
-    return out + "\n" + "".join(f"pub use {it}::{it}_rules;\n" for it in words)
+    out = f"//! {ABOUT[crate]}\n#![tactic(auto)]\n\n{MACRO}\n" + "".join(f"mod {it};\n" for it in sorted([*words, "lists"])) + "pub mod kinds;\n"
+    return out + "\npub use kinds::rules_of;\n"
 
 
 def files(model):

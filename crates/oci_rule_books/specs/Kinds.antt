@@ -4,17 +4,17 @@ use Rattle.std.specs.Prelude.{List, [], ◌++◌}
 use Rattle.oci_schemas.specs.declared.kind.Kind.{Kind}
 use Rattle.oci_schemas.specs.declared.kind.Kind.TheVariants.{Manifest, Index, Config, Artifact, Layout, Descriptor, Error, Repositories, Tags, Reference, Spec, State, ProcessState, Features}
 use Rattle.oci_rules.specs.Rules.{Rule}
-use Rattle.oci_rule_tables.specs.Config.{config_rules, config_combinations_rules, config_labels_rules}
-use Rattle.oci_rule_tables.specs.Descriptor.{descriptor_rules, descriptor_annotations_rules}
-use Rattle.oci_rule_tables.specs.Features.{features_rules}
-use Rattle.oci_rule_tables.specs.Index.{index_rules, index_combinations_rules, index_annotations_rules, index_manifests_rules, index_manifests_annotations_rules, index_subject_rules, index_subject_annotations_rules}
-use Rattle.oci_rule_tables.specs.Linux.{linux_rules, linux_mappings_rules, linux_mappings_host_rules, linux_resources_rules, linux_block_rules, linux_seccomp_rules, linux_sysctl_rules}
-use Rattle.oci_rule_tables.specs.Manifest.{manifest_rules, manifest_annotations_rules, manifest_config_rules, manifest_config_annotations_rules, manifest_layers_rules, manifest_layers_annotations_rules, manifest_subject_rules, manifest_subject_annotations_rules}
-use Rattle.oci_rule_tables.specs.Others.{artifact_rules, artifact_annotations_rules, artifact_blobs_rules, artifact_blobs_annotations_rules, artifact_subject_rules, artifact_subject_annotations_rules, layout_rules, error_rules, repositories_rules, tags_rules, reference_rules}
-use Rattle.oci_rule_tables.specs.Platforms.{platforms_rules}
-use Rattle.oci_rule_tables.specs.Process.{process_rules, process_capabilities_rules}
-use Rattle.oci_rule_tables.specs.Spec.{spec_rules, spec_mounts_rules, spec_hooks_rules}
-use Rattle.oci_rule_tables.specs.State.{state_rules, process_state_rules}
+use Rattle.oci_rule_books.specs.Config.{config_rules, config_combinations_rules, config_labels_rules}
+use Rattle.oci_rule_books.specs.Descriptor.{descriptor_rules, descriptor_annotations_rules}
+use Rattle.oci_rule_books.specs.Features.{features_rules}
+use Rattle.oci_rule_books.specs.Index.{index_rules, index_combinations_rules, index_annotations_rules, index_manifests_rules, index_manifests_annotations_rules, index_subject_rules, index_subject_annotations_rules}
+use Rattle.oci_rule_books.specs.Linux.{linux_rules, linux_mappings_rules, linux_mappings_host_rules, linux_resources_rules, linux_block_rules, linux_seccomp_rules, linux_sysctl_rules}
+use Rattle.oci_rule_books.specs.Manifest.{manifest_rules, manifest_annotations_rules, manifest_config_rules, manifest_config_annotations_rules, manifest_layers_rules, manifest_layers_annotations_rules, manifest_subject_rules, manifest_subject_annotations_rules}
+use Rattle.oci_rule_books.specs.Others.{artifact_rules, artifact_annotations_rules, artifact_blobs_rules, artifact_blobs_annotations_rules, artifact_subject_rules, artifact_subject_annotations_rules, layout_rules, error_rules, repositories_rules, tags_rules, reference_rules}
+use Rattle.oci_rule_books.specs.Platforms.{platforms_rules}
+use Rattle.oci_rule_books.specs.Process.{process_rules, process_capabilities_rules}
+use Rattle.oci_rule_books.specs.Spec.{spec_rules, spec_mounts_rules, spec_hooks_rules}
+use Rattle.oci_rule_books.specs.State.{state_rules, process_state_rules}
 
 abbrev pub rules_of : Kind → List Rule
 rules_of Manifest = manifest_rules ++ (manifest_annotations_rules ++ (manifest_config_rules ++ (manifest_config_annotations_rules ++ (manifest_layers_rules ++ (manifest_layers_annotations_rules ++ (manifest_subject_rules ++ (manifest_subject_annotations_rules ++ [])))))))

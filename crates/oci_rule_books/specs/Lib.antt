@@ -1,2 +1,16 @@
+pub mod Annotations
+pub mod Config
+pub mod Descriptor
+pub mod Features
+pub mod Index
 pub mod Kinds
+pub mod Linux
+pub mod Lists
+pub mod Manifest
+pub mod Others
+pub mod Platforms
+pub mod Process
+pub mod RuntimeAnnotations
+pub mod Spec
 pub mod Stands
+pub mod State

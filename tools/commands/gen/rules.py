@@ -1,4 +1,4 @@
-"""Books of rules in crates/oci_rule_tables and oci_rule_books, their golden rows and docs/RULES.md, from tools/rules/*.rules.
+"""Books of rules in crates/oci_rule_books and oci_rule_books, their golden rows and docs/RULES.md, from tools/rules/*.rules.
 
 It writes all files that are not up to date. With --check it prints each file that differs, is missing, or is no longer generated, each
 place that stands in no record, and each rule without its golden rows. With --rows NAME it prints the skeleton of a rule's golden rows.
