@@ -23,9 +23,10 @@ class Found:
 def check(documents, program=""):
     """What breaks rules in each (kind, platform, text) of a list; the text is one line of JSON. Without a program it is the one that
     `rt run` built, or else what `rt try` compiles, which may print 1 MiB: what some thousand documents break."""
-    program = program or program_of(PROGRAM)
+    built = program_of(PROGRAM)
+    program = program or (built if os.path.exists(built) else "")
     lines = "".join(f"{kind} {platform or '-'} {' '.join(text.split(chr(10)))}\n" for kind, platform, text in documents)
-    words = [os.path.abspath(program), "list"] if os.path.exists(program) else ["rt", "try", "--seconds", "3000", "--", "list"]
+    words = [os.path.abspath(program), "list"] if program else ["rt", "try", "--seconds", "3000", "--", "list"]
     with tempfile.TemporaryFile("w+", encoding="utf-8") as given:
         given.write(lines)
         given.seek(0)

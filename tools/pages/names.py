@@ -35,8 +35,8 @@ def has_file(path):
 
 @functools.lru_cache(None)
 def texts(crate):
-    """The sources of a crate."""
-    return [read(path) for path in sorted(glob.glob(f"{folder_of(crate)}/src/**/*.rt", recursive=True))]
+    """The sources of a crate, without remarks."""
+    return [re.sub(r"(?m)^ *//.*$", "", read(path)) for path in sorted(glob.glob(f"{folder_of(crate)}/src/**/*.rt", recursive=True))]
 
 
 @functools.lru_cache(None)

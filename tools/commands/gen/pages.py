@@ -1,8 +1,9 @@
 """The pages written by hand: that what they name and link to is there.
 
-It writes nothing, with --check or without. Of README.md, docs/*.md and the other pages it looks at each crate, path of a file, command
-of tools/ and Rust call (`crate::name`, `Type::call`) between backticks, at the clauses in tables with the columns `call` and `clause`,
-and at each relative link with its heading. It prints `FILE:LINE: what is not there`; the status is 1 if there is any.
+It writes nothing, with --check or without. On README.md, docs/*.md and the other pages it looks at each crate, path of a file, command of
+tools/ and Rust call (`crate::name`, `Type::call`) between backticks, at the clauses in tables of calls and clauses, and at each relative
+link with its heading; and whether crates/README.md names every crate. It prints `FILE:LINE: NAME: what is wrong`; the status is 1 if there
+is any.
 
 A line of tools/data/pages.exceptions is `PAGE | TEXT | reason`: TEXT may stand on this page, though there is no such thing here.
 """
@@ -18,11 +19,15 @@ from repository import TOP, at, crates, read, rows
 PAGES = ("*.md", "docs/*.md", "*/README.md")
 # pages that are generated: of them the links and the commands are looked at alone
 GENERATED = ("docs/API.md", "docs/COVERAGE.md", "docs/RULES.md", "docs/SCHEMA.md")
+# the page that names every crate
+LIST_OF_CRATES = "crates/README.md"
 # files of the original crate, and the page that also speaks of what it has
 OF_THE_ORIGINAL, DIFFERENCES = r"\b(?:image|distribution|runtime)/\w+\.rs$", "docs/DIFFERENCES.md"
 EXCEPTIONS, UPSTREAM = "tools/data/pages.exceptions", "tools/data/upstream.names"
 SUFFIXES = r"\.(?:rt|antt|py|md|rows|records|names|rules|edit|values|session)$"
 COMMANDS = {"gen", "peers", "measure"}
+# the titles of the columns of a table with calls and their clauses
+CALLS, CLAUSES = ("call", "where"), ("clause", "clauses")
 
 
 def pages():
@@ -116,14 +121,13 @@ def clauses(call, clause):
 
 
 def of_rows(table):
-    """What is wrong in a table with the columns `call` and `clause`, by lines; an empty call is that of the row above."""
+    """What is wrong in a table with a column of calls and one of clauses, by lines; an empty call is that of the row above."""
     head, call = table[0][1], ""
-    if not {"call", "clause"} <= set(head):
-        return
-    for number, cells in table[2:]:
+    at_call, at_clause = (next((at for at, it in enumerate(head) if it in titles), None) for titles in (CALLS, CLAUSES))
+    for number, cells in table[2:] if None not in (at_call, at_clause) else ():
         if len(cells) == len(head):
-            call = cells[head.index("call")] or call
-            yield from ((number, *it) for it in dict.fromkeys([*named_calls(cells[head.index("call")]), *clauses(call, cells[head.index("clause")])]))
+            call = cells[at_call] or call
+            yield from ((number, *it) for it in dict.fromkeys([*named_calls(cells[at_call]), *clauses(call, cells[at_clause])]))
 
 
 def cells_of(line):
@@ -144,6 +148,8 @@ def faults(page):
         elif table:
             yield from of_rows(table) if by_hand else ()
             table = []
+    if page == LIST_OF_CRATES:
+        yield from ((1, it, "the page does not name this crate") for it in crates() if f"`{it}`" not in read(page))
 
 
 def exceptions():
