@@ -16,7 +16,7 @@ import re
 from pages import names
 from repository import TOP, at, crates, read, rows
 
-PAGES = ("*.md", "docs/*.md", "*/README.md")
+PAGES = ("*.md", "docs/*.md", "*/README.md", "bindings/*/README.md")
 # pages that are generated: of them the links and the commands are looked at alone
 GENERATED = ("docs/API.md", "docs/COVERAGE.md", "docs/RULES.md", "docs/SCHEMA.md")
 # the page that names every crate

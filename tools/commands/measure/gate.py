@@ -13,8 +13,7 @@ end, also where the run is interrupted, it prints a table in Markdown and adds i
 With `--unit-every` the proof of oci_base is made again and again while the run goes on, beside it and apart from it, and a unit
 is the mean of all: else it is taken in the first minute alone, in which the run does little else and a processor does more in a second.
 
-`--write` puts the units of all crates, in three columns, and the line on the run into docs/GATE.md, between the lines
-`<!-- table: tools/measure gate -->` and `<!-- end -->`. With `--from` nothing is run: the numbers are those at the end of an
+With `--from` nothing is run: the numbers are those at the end of an
 earlier run's FILE. Several files are those of runs on one machine, in their order, of which each proved what the ones before it had not, or what had
 changed since: a crate's seconds are those of the last run that took some for that stage, in units of that run; a run that is named again at the
 end counts before all others. Crates that are no longer there are left out, and so are their tests, mutants and programs that are gone.
@@ -37,13 +36,11 @@ import tempfile
 import threading
 import time
 
-from repository import TOP, crates, folder_of, with_table, write
+from repository import TOP, crates, folder_of
 
 CHECKS = False
 UNIT = "oci_base"
 STAGES = ("proof", "tests", "mutants", "building")
-PAGE = "docs/GATE.md"
-COLUMNS = 3
 TICK = os.sysconf("SC_CLK_TCK")
 SECONDS_BETWEEN_LOOKS = 0.5
 
@@ -268,18 +265,6 @@ def each_mutant(meter, said):
     return lines
 
 
-def short_table(lines):
-    """The units of all crates of a table in columns of equal length, and the line on the run."""
-    rows = [re.match(r"\| (`\w+`|the rest|all) \|.*\| ([\d.]+) \|$", line) for line in lines]
-    found = [(row[1], row[2]) for row in rows if row]
-    height = -(-len(found) // COLUMNS)
-    short = ["| crate | units " * COLUMNS + "|", "|---" * 2 * COLUMNS + "|"]
-    for at in range(height):
-        cells = [found[n] if n < len(found) else ("", "") for n in range(at, COLUMNS * height, height)]
-        short.append("| " + " | ".join(f"{crate} | {units}" for crate, units in cells) + " |")
-    return [*short, "", next((line for line in reversed(lines) if "processor time in all" in line), "")]
-
-
 def last_table(path):
     """The lines of the table at the end of an earlier run's log, with the line on the run."""
     lines = content(path).decode(errors="replace").split("\n")
@@ -337,15 +322,9 @@ def seconds_of(cell):
     return int(cell.split()[0]) if cell else 0
 
 
-def write_page(lines):
-    """Puts a table into the page."""
-    write(PAGE, with_table(PAGE, "tools/measure gate", "\n".join([*short_table(lines), ""])))
-
-
 def options_of(parser):
     parser.add_argument("--log", metavar="FILE", help="where what the run writes goes")
     parser.add_argument("--each", action="store_true", help="print the seconds of each mutant too")
-    parser.add_argument("--write", action="store_true", help="put the table into docs/GATE.md")
     parser.add_argument("--unit-every", metavar="MINUTES", type=float, default=0, help="measure the unit again and again beside the run, and take the mean")
     parser.add_argument("--from", metavar="FILE", dest="earlier", nargs="+", help="take the numbers of earlier runs' logs, and run nothing")
     parser.add_argument("--command", metavar="COMMAND", type=shlex.split, default=["rt", "ci"], help="what is run, in one word: rt ci")
@@ -355,8 +334,8 @@ def options_of(parser):
 def run(options):
     if options.earlier:
         lines = last_table(options.earlier[0]) if len(options.earlier) == 1 else joined_tables(options.earlier)
-        print("\n".join(short_table(lines)))
-        return write_page(lines) if options.write else 0
+        print("\n".join(lines))
+        return 0
     command, folder = options.command, options.folder
     log = options.log or f"{folder}/out/gate.log"
     os.makedirs(os.path.dirname(os.path.abspath(log)), exist_ok=True)
@@ -368,6 +347,4 @@ def run(options):
     with open(log, "a", encoding="utf-8") as it:
         it.write("\n".join(["", *whole_text, ""]))
     print("\n".join(whole_text))
-    if options.write:
-        write_page(lines)
     return status if status >= 0 else 1

@@ -75,7 +75,7 @@ def print_table(rows, markdown):
 def options_of(parser):
     parser.add_argument("--program", metavar="FILE", default=program_of("ciderglen"))
     parser.add_argument("--keep", metavar="FOLDER", help="make the layouts here, and leave them")
-    parser.add_argument("--markdown", action="store_true", help="print a table for docs/TESTING.md")
+    parser.add_argument("--markdown", action="store_true", help="print a table for docs/RESULTS.md")
 
 
 def run(options):
