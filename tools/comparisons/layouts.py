@@ -99,7 +99,7 @@ def faulty(name, wanted, **how):
     return keep
 
 
-@row("as umoci made it", "+ not-reached not-reached")
+@row("as umoci made it", "+ unreferenced unreferenced")
 def by_umoci(root):
     with open(f"{root}.tar", "wb") as file:
         file.write(a_layer(b"hello\n"))
@@ -162,7 +162,7 @@ def layer_size(layout):
     pass
 
 
-@faulty("size of the manifest wrong in the index", "size + not-reached not-reached")
+@faulty("size of the manifest wrong in the index", "size + unreferenced unreferenced")
 def manifest_size(layout):
     layout.index({**layout.manifest, "size": layout.manifest["size"] - 1})
 
@@ -172,23 +172,23 @@ def two_sizes(layout):
     pass
 
 
-@faulty("configuration is `[1,2,3]`", "document", config=[1, 2, 3])
+@faulty("configuration is `[1,2,3]`", "schema", config=[1, 2, 3])
 def config_list(layout):
     pass
 
 
-@faulty("configuration of a wrong shape", "document", config={"architecture": 5, "os": "linux", "rootfs": {"type": "layers", "diff_ids": []}})
+@faulty("configuration of a wrong shape", "schema", config={"architecture": 5, "os": "linux", "rootfs": {"type": "layers", "diff_ids": []}})
 def config_shape(layout):
     pass
 
 
-@row("manifest is `{\"schemaVersion\":2}`", "document document")
+@row("manifest is `{\"schemaVersion\":2}`", "schema schema")
 def manifest_shape(root):
     layout = Layout(root)
     layout.index(layout.blob({"schemaVersion": 2}, MANIFEST))
 
 
-@row("manifest is no JSON", "document")
+@row("manifest is no JSON", "json")
 def manifest_text(root):
     layout = Layout(root)
     layout.index(layout.blob(b"{", MANIFEST))
@@ -261,7 +261,7 @@ def artifact_blob(root):
     an_artifact(root, {"mediaType": "text/plain", "digest": "sha256:" + "1" * 64, "size": 5})
 
 
-@row("artifact manifest is no JSON", "document")
+@row("artifact manifest is no JSON", "json")
 def artifact_text(root):
     layout = Layout(root)
     layout.index(layout.blob(b"{", ARTIFACT, annotations=NAMED))
@@ -315,17 +315,17 @@ def foreign_nowhere(layout):
     pass
 
 
-@faulty("`oci-layout` of version 9.9.9", "layout")
+@faulty("`oci-layout` of version 9.9.9", "layout-version")
 def version(layout):
     layout.top("oci-layout", {"imageLayoutVersion": "9.9.9"})
 
 
-@faulty("no `oci-layout`", "layout")
+@faulty("no `oci-layout`", "missing")
 def no_marker(layout):
     os.remove(f"{layout.root}/oci-layout")
 
 
-@faulty("`index.json` without `manifests`", "document + not-reached not-reached not-reached")
+@faulty("`index.json` without `manifests`", "schema + unreferenced unreferenced unreferenced")
 def no_manifests(layout):
     layout.top("index.json", {"schemaVersion": 2})
 
@@ -335,7 +335,7 @@ def no_index(layout):
     os.remove(f"{layout.root}/index.json")
 
 
-@faulty("stray files in `blobs/sha256`", "+ not-reached not-reached")
+@faulty("stray files in `blobs/sha256`", "+ unreferenced unreferenced")
 def stray(layout):
     for name in "a", "b":
         with open(f"{layout.root}/blobs/sha256/{name}", "w") as file:
@@ -373,6 +373,6 @@ def no_utf8(layout):
         file.write("x")
 
 
-@faulty("manifest larger than 4 MiB", "too-large + not-reached not-reached", change=lambda m: m.update(annotations={"x": "y" * 4200000}))
+@faulty("manifest larger than 4 MiB", "too-large + unreferenced unreferenced", change=lambda m: m.update(annotations={"x": "y" * 4200000}))
 def large(layout):
     pass

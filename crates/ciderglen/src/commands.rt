@@ -116,6 +116,12 @@ const FORMAT: Argument = Argument {
     ..PLAIN
 };
 
+/// How findings are written.
+const FINDINGS: Argument = Argument {
+    values: &["text", "json", "sarif"],
+    ..FORMAT
+};
+
 /// The one file that is read.
 const FILE: Argument = Argument {
     name: "FILE",
@@ -165,10 +171,7 @@ static COMMANDS: [Described; 10] = [
                 default: &["allow"],
                 ..PLAIN
             },
-            Argument {
-                values: &["text", "json", "sarif"],
-                ..FORMAT
-            },
+            FINDINGS,
             Argument {
                 help: "Write no findings; the exit status says all",
                 ..QUIET
@@ -232,7 +235,7 @@ static COMMANDS: [Described; 10] = [
         about: "Verifies that all that an image layout reaches is there and is what it claims to be",
         example: "Example: ciderglen verify image",
         arguments: &[
-            FORMAT,
+            FINDINGS,
             Argument {
                 name: "strict",
                 help: "Notes are wrong too",

@@ -63,7 +63,7 @@ pub fn escaped_words(words: &[String], alloc: Global) -> Result<Vec<String>, All
 /// How `verify` is asked to verify.
 pub fn options_in(given: &ArgMatches<'_>) -> Options {
     let mut options = Options::new();
-    options.json = given.get_str("format") == Some("json");
+    options.style = style_in(given);
     options.strict = given.get_flag("strict");
     options.quick = given.get_flag("quick");
     options.progress = given.get_flag("progress");

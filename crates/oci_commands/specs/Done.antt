@@ -11,8 +11,8 @@ use Rattle.oci_commands.specs.declared.asked.Asked.TheVariants.{Check, Format, C
 use Rattle.oci_findings.specs.Checks.{IsRight, IsWrong}
 use Rattle.oci_commands.specs.Compared.{HoldSame, HoldUnequal}
 use Rattle.oci_commands.specs.Formats.{Formats, IsUnformatted, LosesNothing}
-use Rattle.oci_findings.specs.declared.asked.Style.{Style}
-use Rattle.oci_findings.specs.declared.asked.Style.TheVariants.{Text, Json, Sarif}
+use Rattle.oci_findings.specs.declared.style.Style.{Style}
+use Rattle.oci_findings.specs.declared.style.Style.TheVariants.{Text, Json, Sarif}
 use Rattle.oci_commands.specs.Refused.{IsNoReference, IsNoDigest, IsNoDescriptor, HasNone}
 use Rattle.oci_commands.specs.Texts.{IsReference, AreReferenceLines, AreDigestLines, IsFileLine, Joins}
 

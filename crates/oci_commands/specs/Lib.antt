@@ -3,5 +3,4 @@ pub mod Done
 pub mod Formats
 pub mod Refused
 pub mod Texts
-pub mod Writes
 pub use Rattle.oci_layout.specs.Sound

@@ -4,15 +4,12 @@ ghost use Rattle.std.specs.List.{All, HoldsAt};
 ghost use Rattle.oci_findings.specs.Checks.{IsRight, IsWrong};
 ghost use Rattle.oci_commands.specs.Done.{IsStatus};
 
-use crate::asked::{Check, Style};
+use crate::asked::Check;
 use crate::store::Store;
 use crate::texts::complain_of;
 use oci_base::Result;
 use oci_findings::examine::examine;
-use oci_findings::render::{lines_of, objects_of};
-use oci_findings::sarif::Log;
-use oci_findings::{Report, RuleBooks};
-use oci_json::write_text;
+use oci_findings::{Report, Reporter, RuleBooks};
 use oci_schema::bytes::Workspace;
 use std::alloc::Global;
 use std::io::Write;
@@ -40,12 +37,9 @@ pub fn check<S: Store, B: RuleBooks, W: Write, E: Write>(
     ensures right { IfOk result (λ s. s ≡ 0 → All (λ f. IfSome (S.holds store.old f.now) (IsRight (B.rules books.now) asked.now)) asked.now.files.now) }
     ensures wrong { IfOk result (λ s. s ≡ 1 → (i : ℕ) × (i < length asked.now.files.now) × HoldsAt (λ f. IfSome (S.holds store.old f.now) (IsWrong (B.rules books.now) asked.now)) asked.now.files.now i) }
 {
-    let mut log = match asked.style {
-        Style::Sarif => Some(Log::new(alloc)?),
-        _ => None,
-    };
-    let tally = check_files(books, asked, alloc, store, &mut log, writer, errors)?;
-    close(log, asked.quiet, alloc, writer)?;
+    let mut reporter = Reporter::new(asked.style, alloc)?;
+    let tally = check_files(books, asked, alloc, store, &mut reporter, writer, errors)?;
+    close(reporter, asked.quiet, writer)?;
     Ok(status_of(tally))
 }
 
@@ -69,7 +63,7 @@ fn check_files<S: Store, B: RuleBooks, W: Write, E: Write>(
     asked: &Check<'_>,
     alloc: Global,
     store: &mut S,
-    log: &mut Option<Log>,
+    reporter: &mut Reporter,
     writer: &mut W,
     errors: &mut E,
 ) -> Result<Tally>
@@ -90,7 +84,7 @@ fn check_files<S: Store, B: RuleBooks, W: Write, E: Write>(
             &mut workspace,
             alloc,
             store,
-            log,
+            reporter,
             writer,
             errors,
         )?;
@@ -107,7 +101,7 @@ fn check_file<S: Store, B: RuleBooks, W: Write, E: Write>(
     workspace: &mut Workspace,
     alloc: Global,
     store: &mut S,
-    log: &mut Option<Log>,
+    reporter: &mut Reporter,
     writer: &mut W,
     errors: &mut E,
 ) -> Result<()>
@@ -124,7 +118,7 @@ fn check_file<S: Store, B: RuleBooks, W: Write, E: Write>(
             tally,
             workspace,
             alloc,
-            log,
+            reporter,
             writer,
         ),
         Err(fault) => {
@@ -144,7 +138,7 @@ fn check_bytes<B: RuleBooks, W: Write>(
     tally: &mut Tally,
     workspace: &mut Workspace,
     alloc: Global,
-    log: &mut Option<Log>,
+    reporter: &mut Reporter,
     writer: &mut W,
 ) -> Result<()>
     ensures right { OnOk result (tally.new.wrong ≡ false → (tally.new.unread ≡ tally.old.unread) × (tally.old.wrong ≡ false) × IsRight (B.rules books.now) asked.now bytes.now) }
@@ -156,7 +150,7 @@ fn check_bytes<B: RuleBooks, W: Write>(
     if asked.quiet {
         return Ok(());
     }
-    tell(asked.style, name, &found, alloc, log, writer)
+    reporter.add(name, &found, writer)
 }
 
 /// Notes whether something is wrong with a file.
@@ -170,40 +164,10 @@ fn note(found: &Report<'_>, tally: &mut Tally)
     }
 }
 
-/// Writes the findings in a file, or keeps them for the log.
-fn tell<W: Write>(
-    style: Style,
-    name: &str,
-    found: &Report<'_>,
-    alloc: Global,
-    log: &mut Option<Log>,
-    writer: &mut W,
-) -> Result<()> {
-    match style {
-        Style::Text => {
-            let lines = lines_of(name, found, alloc)?;
-            write_text(lines.as_bytes(), writer)?;
-        }
-        Style::Json => {
-            let lines = objects_of(name, found, alloc)?;
-            write_text(lines.as_bytes(), writer)?;
-        }
-        Style::Sarif => {
-            if let Some(log) = log {
-                log.add(name, found, alloc)?;
-            }
-        }
-    }
-    Ok(())
-}
-
 /// Writes the log, if there is one.
-fn close<W: Write>(log: Option<Log>, quiet: bool, alloc: Global, writer: &mut W) -> Result<()> {
-    if let Some(log) = log {
-        let text = log.finish(alloc)?;
-        if !quiet {
-            write_text(text.as_bytes(), writer)?;
-        }
+fn close<W: Write>(mut reporter: Reporter, quiet: bool, writer: &mut W) -> Result<()> {
+    if quiet {
+        return Ok(());
     }
-    Ok(())
+    reporter.finish(writer)
 }

@@ -3,10 +3,10 @@
 
 pub mod marker;
 pub mod options;
+pub mod output;
 pub mod program;
 pub mod progress;
-pub mod tell;
-pub mod unreached;
+pub mod unreferenced;
 
 pub use options::Options;
 pub use program::run;

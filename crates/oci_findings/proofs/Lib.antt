@@ -1,6 +1,7 @@
 pub mod Allowed
 pub mod Counted
 pub mod Each
+pub mod Facts
 pub mod Marks
 pub mod Told
 mod Unlisted

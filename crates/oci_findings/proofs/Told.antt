@@ -1,17 +1,10 @@
 -- Findings that are made of violations.
-use Rattle.std.proofs.Common.{◌≡◌, ◌<◌, ◌+◌, ℕ, suc, List, [], ◌∷◌, ◌++◌, length, take, map, get_or, refl, sym, ap, ◌∙◌, arith}
+use Rattle.std.proofs.Common.{◌≡◌, List, [], ◌∷◌, map, refl, ap, ◌∙◌}
 use Rattle.std.specs.Prelude.{◌↔◌}
 use Rattle.oci_schema.specs.declared.violation.Violation.{Violation}
 use Rattle.oci_schema.specs.Violations.{Report, reported}
 use Rattle.oci_findings.specs.declared.finding.Finding.{Finding}
 use Rattle.oci_findings.specs.Findings.{told, told_of, as_told}
-use Rattle.oci_findings.proofs.Each.{one_more, map_both}
-
-pub told_more : (new fs : List Finding) (vs : List Violation) (i : ℕ) (v : Violation) → i < length vs → v ≡ get_or vs i v → map told new ≡ map told fs ++ told_of v ∷ [] → map told fs ≡ map told_of (take i vs)
-    → map told new ≡ map told_of (take (i + 1) vs)
-told_more new fs vs i v lt is says before =
-    let step : i + 1 ≡ suc i = omega arith in
-    says ∙ ap (λ q. q ++ told_of v ∷ []) before ∙ sym (map_both told_of (take i vs) v) ∙ sym (ap (map told_of) (ap (λ n. take n vs) step ∙ one_more vs i v lt is))
 
 composed : (vs : List Violation) → map told_of vs ≡ map as_told (map reported vs)
 composed [] = refl

@@ -1,4 +1,4 @@
--- What is said of what is wrong with a document.
+-- What is said of what is wrong.
 use Rattle.std.specs.Prelude.{ℕ, List, [], ◌++◌, codes, string_bytes, String, Option, Some, None}
 use Rattle.std.specs.declared.alloc.Global.{Global}
 use Rattle.oci_rules.specs.Breaks.{Told}
@@ -6,13 +6,10 @@ use Rattle.oci_rules.specs.Tables.{rule_of}
 use Rattle.oci_schema.specs.Violations.{Report, Expectation, expectation_of, reported}
 use Rattle.oci_schema.specs.declared.violation.Violation.{Violation}
 use Rattle.oci_findings.specs.declared.finding.Cause.{Cause}
-use Rattle.oci_findings.specs.declared.finding.Cause.TheVariants.{Json, Kind, Schema, Rule, Unknown, Repeated}
+use Rattle.oci_findings.specs.declared.finding.Cause.TheVariants.{Json, Kind, Schema, Rule, Unknown, Repeated, File}
 use Rattle.oci_findings.specs.declared.finding.Finding.{Finding}
+use Rattle.oci_findings.specs.Files.{file_rule, file_words, found_words}
 use Rattle.oci_findings.specs.Wording.{expected_words}
-
-abbrev pub found_words : Option (String Global) → List ℕ
-found_words None = []
-found_words (Some text) = codes ", found " ++ string_bytes text
 
 -- what is wrong, in a sentence
 abbrev pub message_words : Cause → List ℕ
@@ -23,6 +20,7 @@ message_words (Rule rule found) = (codes "expected " ++ rule.now.wanted.now) ++ 
 message_words (Unknown None) = codes "unknown member"
 message_words (Unknown (Some meant)) = codes "unknown member; the schema has " ++ meant.now
 message_words Repeated = codes "an earlier member has the same name; the last one counts"
+message_words (File fault) = file_words fault
 
 -- the name of the rule
 abbrev pub rule_name : Cause → List ℕ
@@ -32,6 +30,7 @@ rule_name (Schema expected found) = codes "schema"
 rule_name (Rule rule found) = rule.now.name.now
 rule_name (Unknown meant) = codes "unknown"
 rule_name Repeated = codes "repeated"
+rule_name (File fault) = file_rule fault
 
 -- what a finding says of the schema
 abbrev pub expectation_in : Cause → Option Expectation

@@ -1,17 +1,7 @@
 //! What is checked.
+use crate::Style;
 use oci_rules::{Level, Platform, Rule};
 use oci_schemas::Kind;
-
-/// How findings and differences are written.
-#[derive(Clone, Copy)]
-pub enum Style {
-    /// Lines for people.
-    Text,
-    /// An object a line (JSON Lines).
-    Json,
-    /// One SARIF 2.1.0 log.
-    Sarif,
-}
 
 /// What is done with members that the schema does not list.
 #[derive(Clone, Copy)]

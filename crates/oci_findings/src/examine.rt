@@ -10,11 +10,12 @@ ghost use Rattle.oci_findings.specs.Findings.{breach};
 ghost use Rattle.oci_findings.specs.Checks.{IsRight, IsRightValue, IsWrong, asked_rules, platform_asked, counts as does_count, binds as does_bind, is_error as makes_wrong, counted, denied, rules_if};
 
 use crate::asked::{Check, Unknown};
-use crate::inspect::{Reading, faulty, read_value, schema_errors, shown_at};
+use crate::inspect::{Reading, faulty, read_value, schema_errors};
 use crate::quick::is_right;
 use crate::repeated::warn_of_repeated;
 use crate::rulebooks::RuleBooks;
-use crate::{Cause, Finding, Report};
+use crate::shown::shown_at;
+use crate::{Cause, Finding, Report, Severity};
 use oci_rules::{Broken, Level, Platform, Rule, broken, platform_of_document};
 use oci_schema::bytes::Workspace;
 use oci_schema::{UnknownMember, suggestion, unknown_members};
@@ -289,7 +290,7 @@ fn rule_finding<'a>(
     Ok(Finding {
         pointer: String::from_str(alloc, pointer)?,
         cause: Cause::Rule(item.rule, shown),
-        is_warning,
+        severity: Severity::warning_if(is_warning),
     })
 }
 
@@ -383,6 +384,6 @@ fn unknown_finding<'a>(
     Ok(Finding {
         pointer: String::from_str(alloc, member.pointer.as_str())?,
         cause: Cause::Unknown(meant),
-        is_warning,
+        severity: Severity::warning_if(is_warning),
     })
 }

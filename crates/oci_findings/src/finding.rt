@@ -1,9 +1,12 @@
-//! What is wrong with a document.
+//! What is wrong with a document, or with a file of an image layout.
 ghost use Rattle.std.specs.Prelude.{◌≡◌, ◌++◌, codes, IfOk, OnOk, string_bytes};
-ghost use Rattle.oci_findings.specs.Findings.{found_words, message_words, rule_name};
+ghost use Rattle.oci_findings.specs.Files.{found_words};
+ghost use Rattle.oci_findings.specs.Findings.{message_words, rule_name};
+ghost use Rattle.oci_findings.specs.Lines.{is_error};
 ghost use Rattle.oci_findings.specs.Wording.{expected_words};
 ghost use Rattle.oci_findings.specs.declared.finding.Cause.TheVariants.{Unknown};
 
+use crate::file_fault::FileFault;
 use crate::place::Place;
 use crate::wording::push_expected;
 use oci_rules::Rule;
@@ -25,22 +28,65 @@ pub enum Cause<'a> {
     Unknown(Option<&'static str>),
     /// An earlier member of the same object has the same name.
     Repeated,
+    /// A file of an image layout is not what refers to it says.
+    File(FileFault),
 }
 
-/// Something that is wrong with a document, or a warning.
+/// How much a finding counts.
+#[derive(Clone, Copy, Debug, PartialEq, Eq)]
+pub enum Severity {
+    /// Something is wrong.
+    Error,
+    /// Something may be meant otherwise.
+    Warning,
+    /// Something is worth knowing.
+    Note,
+}
+
+impl Severity {
+    /// A warning, or else an error.
+    pub fn warning_if(is_warning: bool) -> Severity {
+        if is_warning {
+            Severity::Warning
+        } else {
+            Severity::Error
+        }
+    }
+
+    /// The word for it, which is that of SARIF's levels.
+    pub fn word(self) -> &'static str {
+        match self {
+            Severity::Error => "error",
+            Severity::Warning => "warning",
+            Severity::Note => "note",
+        }
+    }
+}
+
+/// Something that is wrong with a document or a file of an image layout, a warning, or a note.
 #[derive(Drop)]
 pub struct Finding<'a> {
-    /// Where it is in the document, as a JSON pointer (RFC 6901).
+    /// Where it is in the document, as a JSON pointer (RFC 6901); empty for the whole of it.
     pub pointer: String,
     /// What it is.
     pub cause: Cause<'a>,
-    /// Whether it is a warning alone.
-    pub is_warning: bool,
+    /// How much it counts.
+    pub severity: Severity,
 }
 
 impl<'a> Finding<'a> {
-    /// The name of the rule that is broken: `json`, `kind`, `schema`, `unknown` or `repeated`, or that of a rule of a specification or
-    /// policy.
+    /// Whether something is wrong.
+    pub fn is_error(&self) -> bool
+        ensures { result ≡ is_error self.now }
+    {
+        match self.severity {
+            Severity::Error => true,
+            Severity::Warning | Severity::Note => false,
+        }
+    }
+
+    /// The name of the rule that is broken: `json`, `kind`, `schema`, `unknown` or `repeated`, that of a rule of a specification or
+    /// policy, or that of a fault of a file.
     pub fn rule(&self) -> &'a str
         ensures { result.now ≡ rule_name self.now.cause }
     {
@@ -51,6 +97,7 @@ impl<'a> Finding<'a> {
             Cause::Rule(rule, _) => rule.name,
             Cause::Unknown(_) => "unknown",
             Cause::Repeated => "repeated",
+            Cause::File(fault) => fault.rule(),
         }
     }
 
@@ -68,12 +115,13 @@ impl<'a> Finding<'a> {
                 alloc,
                 "an earlier member has the same name; the last one counts",
             ),
+            Cause::File(fault) => fault.message(alloc),
         }
     }
 }
 
 /// One text behind another.
-fn joined(first: &str, second: &str, alloc: Global) -> Result<String, AllocError>
+pub(crate) fn joined(first: &str, second: &str, alloc: Global) -> Result<String, AllocError>
     ensures { IfOk result (λ t. string_bytes t ≡ first.now ++ second.now) }
 {
     let mut text = String::from_str(alloc, first)?;
@@ -103,7 +151,7 @@ fn rule_message(wanted: &str, found: &Option<String>, alloc: Global) -> Result<S
 }
 
 /// A text, and behind it what was found.
-fn with_found(mut text: String, found: &Option<String>) -> Result<String, AllocError>
+pub(crate) fn with_found(mut text: String, found: &Option<String>) -> Result<String, AllocError>
     ensures { IfOk result (λ t. string_bytes t ≡ string_bytes text ++ found_words found.now) }
 {
     match found {

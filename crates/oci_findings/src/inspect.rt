@@ -1,24 +1,21 @@
 //! What is wrong with the bytes of a document.
-ghost use Rattle.std.specs.Prelude.{◌≡◌, ◌↔◌, ◌++◌, ◌∷◌, [], true, map, is_some, IfOk, IfSome, OnOk};
+ghost use Rattle.std.specs.Prelude.{◌≡◌, ◌↔◌, [], true, map, is_some, IfOk, IfSome};
 ghost use Rattle.serde_json.specs.View.{view};
 ghost use Rattle.oci_model.specs.Plain.{Plain};
 ghost use Rattle.oci_model.specs.Means.{Means};
 ghost use Rattle.oci_json.specs.Engines.{MeansBytes};
 ghost use Rattle.oci_schemas.specs.Kinds.{shape_of};
 ghost use Rattle.oci_schema.specs.Violations.{violations as all_violations};
-ghost use Rattle.oci_findings.specs.Findings.{told, told_of, as_told};
+ghost use Rattle.oci_findings.specs.Findings.{told, as_told};
 ghost use Rattle.oci_findings.specs.Checks.{IsAllowed, IsAsked, IsReading};
 
 use crate::detect::{Detected, detect, explain_open};
-use crate::place::place_behind;
-use crate::{Cause, Finding, Report, name_of, title_of};
-use oci_schema::{Expected, Violation, violations};
+use crate::shown::{json_cause, violation_findings};
+use crate::{Cause, Finding, Report, Severity, name_of, title_of};
+use oci_schema::violations;
 use oci_schemas::{Kind, OciRecords};
-use serde_json::{Error, Value};
+use serde_json::Value;
 use std::alloc::{AllocError, Global};
-
-/// How many characters of a value are shown.
-const SHOWN: usize = 40;
 
 /// What bytes hold.
 #[derive(Drop)]
@@ -51,7 +48,8 @@ pub fn read_value(
             if fault.is_memory() {
                 return Err(AllocError);
             }
-            Ok(Reading::Fault(json_fault(&fault, bytes, alloc)?))
+            let cause = json_cause(&fault, bytes, alloc)?;
+            Ok(Reading::Fault(at_start(cause, alloc)))
         }
     }
 }
@@ -105,7 +103,7 @@ fn at_start<'a>(cause: Cause<'a>, alloc: Global) -> Finding<'a> {
     Finding {
         pointer: String::new(alloc),
         cause,
-        is_warning: false,
+        severity: Severity::Error,
     }
 }
 
@@ -156,36 +154,6 @@ fn looks_like<'a>(kind: Kind, alloc: Global) -> Result<Finding<'a>, AllocError> 
     Ok(at_start(Cause::Kind(text), alloc))
 }
 
-/// That the bytes are not JSON.
-fn json_fault(fault: &Error, bytes: &[u8], alloc: Global) -> Result<Finding<'static>, AllocError> {
-    let said = fault.to_string(alloc)?;
-    let told = match said.as_str().split_once(" at line ") {
-        Some((told, _)) => String::from_str(alloc, told)?,
-        None => said,
-    };
-    let place = place_behind(before(bytes, fault.line(), fault.column()));
-    Ok(at_start(Cause::Json(told, place), alloc))
-}
-
-/// The bytes before a line and a column that counts bytes.
-fn before(bytes: &[u8], line: usize, column: usize) -> &[u8] {
-    let mut start = 0;
-    let mut left = line;
-    for (index, byte) in bytes.iter().enumerate() {
-        if left > 1 && *byte == b'\n' {
-            left -= 1;
-            start = index;
-        }
-    }
-    let skipped = if line > 1 {
-        column
-    } else {
-        column.saturating_sub(1)
-    };
-    let end = start.saturating_add(skipped).min(bytes.len());
-    bytes.get(..end).unwrap_or(bytes)
-}
-
 /// The violations of a kind's schema by a value.
 pub fn schema_findings<'a>(
     kind: Kind,
@@ -197,80 +165,5 @@ pub fn schema_findings<'a>(
 {
     let schema = kind.schema();
     let listed = violations(&OciRecords, schema, value, alloc)?;
-    findings_of(&listed, value, alloc)
-}
-
-fn findings_of<'a>(
-    listed: &Vec<Violation>,
-    value: &Value,
-    alloc: Global,
-) -> Result<Vec<Finding<'a>>, AllocError>
-    ensures { IfOk result (λ v. map told v.items ≡ map told_of listed.now.items) }
-{
-    let mut found = Vec::new(alloc);
-    for violation in listed {
-        add_finding(violation, value, &mut found, alloc)?;
-    }
-    Ok(found)
-}
-
-fn add_finding<'a>(
-    violation: &Violation,
-    value: &Value,
-    found: &mut Vec<Finding<'a>>,
-    alloc: Global,
-) -> Result<(), AllocError>
-    ensures { OnOk result (map told found.new.items ≡ map told found.old.items ++ told_of violation.now ∷ []) }
-{
-    let finding = finding_of(violation, value, alloc)?;
-    found.push(finding)?;
-    Ok(())
-}
-
-fn finding_of<'a>(
-    violation: &Violation,
-    value: &Value,
-    alloc: Global,
-) -> Result<Finding<'a>, AllocError>
-    ensures { IfOk result (λ f. told f ≡ told_of violation.now) }
-{
-    let shown = shown_of(violation, value, alloc)?;
-    Ok(Finding {
-        pointer: String::from_str(alloc, violation.pointer.as_str())?,
-        cause: Cause::Schema(violation.expected, shown),
-        is_warning: false,
-    })
-}
-
-/// The text of the value that is not what is expected, if it is there.
-fn shown_of(
-    violation: &Violation,
-    value: &Value,
-    alloc: Global,
-) -> Result<Option<String>, AllocError> {
-    match violation.expected {
-        Expected::Value(_) => shown_at(value, violation.pointer.as_str(), alloc),
-        _ => Ok(None),
-    }
-}
-
-/// The text of the value at a pointer, cut where it is long.
-pub fn shown_at(value: &Value, pointer: &str, alloc: Global) -> Result<Option<String>, AllocError> {
-    let Some(part) = value.pointer(pointer) else {
-        return Ok(None);
-    };
-    let text = part.to_string(alloc)?;
-    Ok(Some(cut(text.as_str(), alloc)?))
-}
-
-/// A text, or its first characters and three dots.
-pub fn cut(text: &str, alloc: Global) -> Result<String, AllocError> {
-    match text.char_indices().nth(SHOWN) {
-        Some((end, _)) => {
-            let mut shown = String::from_str(alloc, text.get(..end).unwrap_or(text))?;
-            shown.push_str("...")?;
-            Ok(shown)
-        }
-        None => String::from_str(alloc, text),
-    }
+    violation_findings(&listed, value, alloc)
 }

@@ -2,8 +2,11 @@
 #![tactic(auto)]
 
 pub mod asked;
+pub mod claimed;
+pub mod contents;
 pub mod detect;
 pub mod examine;
+pub mod file_fault;
 pub mod finding;
 pub mod inspect;
 pub mod kinds;
@@ -13,14 +16,22 @@ pub mod quick;
 pub mod render;
 pub mod repeated;
 pub mod report;
+pub mod reporter;
 pub mod rulebooks;
 pub mod sarif;
+pub mod shown;
+pub mod style;
 pub mod table;
 pub mod wording;
 
-pub use asked::{Check, Style, Unknown};
+pub use asked::{Check, Unknown};
+pub use claimed::Claims;
+pub use contents::{content_findings, content_report, document_findings};
 pub use detect::Detected;
-pub use finding::{Cause, Finding};
+pub use file_fault::{Absence, FileFault};
+pub use finding::{Cause, Finding, Severity};
 pub use kinds::{KINDS, kind_named, name_of, title_of};
 pub use report::Report;
+pub use reporter::Reporter;
 pub use rulebooks::RuleBooks;
+pub use style::Style;

@@ -1,5 +1,5 @@
 //! Warnings of names that stand twice in an object.
-use crate::{Cause, Finding};
+use crate::{Cause, Finding, Severity};
 use json::{Error, Scratch, Tape};
 use oci_schema::repeated_names;
 use std::alloc::{AllocError, Global};
@@ -35,7 +35,7 @@ fn add_repeated(text: &str, found: &mut Vec<Finding<'_>>, alloc: Global) -> Resu
                 found.push(Finding {
                     pointer,
                     cause: Cause::Repeated,
-                    is_warning: true,
+                    severity: Severity::Warning,
                 })?;
             }
             Ok(())

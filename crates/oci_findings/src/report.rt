@@ -1,18 +1,24 @@
-//! What was found out about a document.
+//! What was found out about a document or a file of an image layout.
 ghost use Rattle.std.specs.Prelude.{◌≡◌, IfOk};
+ghost use Rattle.std.specs.List.{filter};
+ghost use Rattle.oci_findings.specs.Lines.{is_error, is_no_error};
 
+use crate::claimed::Claims;
 use crate::finding::{Cause, Finding};
 use crate::place::{Place, Places, START};
 use std::alloc::{AllocError, Global};
 
-/// What was found out about a document.
+/// What was found out about a document or a file of an image layout.
 #[derive(Drop)]
 pub struct Report<'a> {
     /// What is wrong with it.
     pub errors: Vec<Finding<'a>>,
-    /// What may be meant otherwise.
+    /// What may be meant otherwise, or is worth a note.
     pub warnings: Vec<Finding<'a>>,
-    places: Places,
+    /// By which descriptors of an image layout it was reached.
+    pub claims: Claims,
+    // where the findings are in the text, if there is one
+    places: Option<Places>,
 }
 
 impl<'a> Report<'a> {
@@ -30,16 +36,51 @@ impl<'a> Report<'a> {
         Ok(Report {
             errors,
             warnings,
+            claims: Claims::none(alloc),
+            places: Some(places),
+        })
+    }
+
+    /// A report on a file of an image layout, which was reached by these descriptors; its bytes, where they were kept. Fails if out of
+    /// memory.
+    pub fn of_file(
+        found: Vec<Finding<'a>>,
+        text: &Option<Vec<u8>>,
+        claims: Claims,
+        alloc: Global,
+    ) -> Result<Report<'a>, AllocError>
+        ensures errors { IfOk result (λ r. r.errors.items ≡ filter is_error found.entry.items) }
+        ensures warnings { IfOk result (λ r. r.warnings.items ≡ filter is_no_error found.entry.items) }
+    {
+        let (mut errors, mut warnings) = (Vec::new(alloc), Vec::new(alloc));
+        'sorted: for finding in found {
+            if finding.is_error() {
+                errors.push(finding)?;
+            } else {
+                warnings.push(finding)?;
+            }
+        }
+        let places = match text {
+            Some(bytes) => Some(places_of(&errors, &warnings, bytes.as_slice(), alloc)?),
+            None => None,
+        };
+        Ok(Report {
+            errors,
+            warnings,
+            claims,
             places,
         })
     }
 
-    /// Where a finding is in the text.
-    pub fn place_of(&self, finding: &Finding<'_>) -> Place {
+    /// Where a finding is in the text; nowhere where there is none.
+    pub fn place_of(&self, finding: &Finding<'_>) -> Option<Place> {
         match &finding.cause {
-            Cause::Json(_, place) => *place,
-            Cause::Kind(_) => START,
-            _ => self.places.place_of(finding.pointer.as_str()),
+            Cause::Json(_, place) => Some(*place),
+            Cause::Kind(_) => Some(START),
+            _ => {
+                let places = self.places.as_ref()?;
+                Some(places.place_of(finding.pointer.as_str()))
+            }
         }
     }
 }

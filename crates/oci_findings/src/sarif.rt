@@ -2,9 +2,10 @@
 ghost use Rattle.std.specs.Prelude.{IfOk, string_bytes};
 ghost use Rattle.oci_base.specs.Escaped.{IsLine};
 
+use crate::claimed::{Claimant, Claims};
 use crate::finding::Finding;
 use crate::place::Place;
-use crate::render::{json_line, number_member, severity_of, text_member};
+use crate::render::{json_line, number_member, text_member};
 use crate::report::Report;
 use json::Writer;
 use std::alloc::{AllocError, Global};
@@ -45,13 +46,8 @@ impl Log {
         alloc: Global,
     ) -> Result<(), AllocError> {
         for finding in found {
-            put_result(
-                &mut self.out,
-                name,
-                finding,
-                report.place_of(finding),
-                alloc,
-            )?;
+            let place = report.place_of(finding);
+            put_result(&mut self.out, name, finding, place, &report.claims, alloc)?;
         }
         Ok(())
     }
@@ -109,14 +105,39 @@ fn put_result(
     out: &mut Writer,
     name: &str,
     finding: &Finding<'_>,
-    place: Place,
+    place: Option<Place>,
+    claims: &Claims,
     alloc: Global,
 ) -> Result<(), AllocError> {
     out.begin_object()?;
     text_member(out, "ruleId", finding.rule())?;
-    text_member(out, "level", severity_of(finding))?;
+    text_member(out, "level", finding.severity.word())?;
     put_message(out, finding, alloc)?;
     put_location(out, name, place, finding.pointer.as_str())?;
+    put_claims(out, claims)?;
+    out.end_object()
+}
+
+/// Writes the descriptors by which the file was reached, if there are any.
+fn put_claims(out: &mut Writer, claims: &Claims) -> Result<(), AllocError> {
+    if claims.path.is_empty() {
+        return Ok(());
+    }
+    out.key("relatedLocations")?;
+    out.begin_array()?;
+    for claimant in &claims.path {
+        put_claimant(out, claimant)?;
+    }
+    out.end_array()
+}
+
+fn put_claimant(out: &mut Writer, claimant: &Claimant) -> Result<(), AllocError> {
+    out.begin_object()?;
+    put_physical(out, claimant.file.as_str(), None)?;
+    put_pointer(out, claimant.pointer.as_str())?;
+    begin_member(out, "message")?;
+    text_member(out, "text", "claimed by this descriptor")?;
+    out.end_object()?;
     out.end_object()
 }
 
@@ -130,7 +151,7 @@ fn put_message(out: &mut Writer, finding: &Finding<'_>, alloc: Global) -> Result
 fn put_location(
     out: &mut Writer,
     name: &str,
-    place: Place,
+    place: Option<Place>,
     pointer: &str,
 ) -> Result<(), AllocError> {
     begin_item(out, "locations")?;
@@ -139,10 +160,12 @@ fn put_location(
     end_item(out)
 }
 
-fn put_physical(out: &mut Writer, name: &str, place: Place) -> Result<(), AllocError> {
+fn put_physical(out: &mut Writer, name: &str, place: Option<Place>) -> Result<(), AllocError> {
     begin_member(out, "physicalLocation")?;
     put_file(out, name)?;
-    put_region(out, place)?;
+    if let Some(place) = place {
+        put_region(out, place)?;
+    }
     out.end_object()
 }
 

@@ -86,16 +86,59 @@ pub struct Held {
     pub embedded: Embedded,
 }
 
+/// What was seen in a document beside what it claims.
+#[derive(Drop)]
+pub struct Detail {
+    /// What stands against the contents that its descriptors hold themselves.
+    pub held: Vec<Held>,
+    /// The violations of its schema, if it is JSON.
+    pub violations: Vec<Violation>,
+    /// Its bytes, if something stands against it or a part of it: they say where that is.
+    pub text: Option<Vec<u8>>,
+}
+
+impl Detail {
+    /// Nothing was seen.
+    pub fn nothing(alloc: Global) -> Detail {
+        Detail {
+            held: Vec::new(alloc),
+            violations: Vec::new(alloc),
+            text: None,
+        }
+    }
+
+    /// The same, with the bytes of the document if something stands against it or a part of it.
+    pub(crate) fn with_text(
+        self,
+        is_faulty: bool,
+        alloc: Global,
+        bytes: &[u8],
+    ) -> Result<Detail, AllocError> {
+        let Detail {
+            held,
+            violations,
+            text,
+        } = self;
+        let text = if is_faulty || !held.is_empty() {
+            Some(Vec::from_slice(alloc, bytes)?)
+        } else {
+            text
+        };
+        Ok(Detail {
+            held,
+            violations,
+            text,
+        })
+    }
+}
+
 /// What was seen at a claim.
 #[derive(Drop)]
 pub struct Seen {
     pub fault: Option<Fault>,
     /// What its document claims, in the document's order.
     pub claims: Vec<Claim>,
-    /// What stands against the contents that these descriptors hold themselves.
-    pub held: Vec<Held>,
-    /// The violations of its schema, if it is JSON.
-    pub violations: Vec<Violation>,
+    pub detail: Detail,
 }
 
 /// Where claims are looked at.

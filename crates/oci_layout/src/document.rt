@@ -5,7 +5,7 @@ ghost use Rattle.oci_schema.specs.Shapes.{schema_shape, shape_at};
 ghost use Rattle.oci_schemas.specs.Table.{shapes};
 ghost use Rattle.oci_layout.specs.Documents.{IsRead, IsJudged, IsAgainst, type_fault};
 
-use crate::claim::{Fault, Seen};
+use crate::claim::{Detail, Fault, Seen};
 use crate::descriptor::claims_of_document;
 use crate::kind::Kind;
 use crate::member::other_member;
@@ -26,8 +26,7 @@ impl Seen {
         Seen {
             fault: None,
             claims: Vec::new(alloc),
-            held: Vec::new(alloc),
-            violations: Vec::new(alloc),
+            detail: Detail::nothing(alloc),
         }
     }
 
@@ -38,14 +37,27 @@ impl Seen {
         Seen {
             fault: Some(fault),
             claims: Vec::new(alloc),
-            held: Vec::new(alloc),
-            violations: Vec::new(alloc),
+            detail: Detail::nothing(alloc),
         }
     }
 }
 
 /// What is found in bytes that are as they are claimed to be, read as a kind says. Fails if out of memory.
 pub fn read_document(alloc: Global, kind: Kind, bytes: &[u8]) -> Result<Seen, AllocError>
+    ensures { IfOk result (λ s. IsRead kind bytes.now s.fault s.claims.items) }
+{
+    let seen = read(alloc, kind, bytes)?;
+    let is_faulty = seen.fault.is_some();
+    let detail = seen.detail.with_text(is_faulty, alloc, bytes)?;
+    Ok(Seen {
+        fault: seen.fault,
+        claims: seen.claims,
+        detail,
+    })
+}
+
+/// The same without the bytes.
+fn read(alloc: Global, kind: Kind, bytes: &[u8]) -> Result<Seen, AllocError>
     ensures { IfOk result (λ s. IsRead kind bytes.now s.fault s.claims.items) }
 {
     let Some(schema) = kind.schema() else {
@@ -72,16 +84,22 @@ fn read_value(alloc: Global, kind: Kind, schema: &Schema, value: &Value) -> Resu
         return Ok(Seen {
             fault: Some(Fault::NoDocument),
             claims: Vec::new(alloc),
-            held: Vec::new(alloc),
-            violations,
+            detail: Detail {
+                held: Vec::new(alloc),
+                violations,
+                text: None,
+            },
         });
     }
     let claimed = claims_of_document(alloc, kind, value)?;
     Ok(Seen {
         fault: fault_against(kind, value),
         claims: claimed.claims,
-        held: claimed.held,
-        violations,
+        detail: Detail {
+            held: claimed.held,
+            violations,
+            text: None,
+        },
     })
 }
 

@@ -5,7 +5,6 @@
 pub mod claim;
 pub mod descriptor;
 pub mod document;
-pub mod finding;
 pub mod fine;
 pub mod folder;
 pub mod kind;
@@ -19,9 +18,8 @@ pub mod store;
 pub mod top;
 pub mod walk;
 
-pub use claim::{Claim, Fault, Held, Role, Seen, Shown};
+pub use claim::{Claim, Detail, Fault, Held, Role, Seen, Shown};
 pub use document::read_document;
-pub use finding::{Finding, add_details, findings_at};
 pub use fine::is_sound_walk;
 pub use folder::Folder;
 pub use kind::Kind;
@@ -32,4 +30,4 @@ pub use path::blob_path;
 pub use shelf::Shelf;
 pub use store::{ImageLayout, Listed, Opened, Store};
 pub use top::{DOCUMENT_LIMIT, Top, read_top};
-pub use walk::{Detail, Mention, Walk, walk_all};
+pub use walk::{Mention, Walk, walk_all};

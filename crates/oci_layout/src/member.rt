@@ -34,20 +34,6 @@ impl OtherMember {
         }
     }
 
-    /// The document that was expected in place of one with this member, and why.
-    pub fn text(self) -> &'static str {
-        match self {
-            OtherMember::Manifests => {
-                "a manifest without `manifests`; clients may take it for an index"
-            }
-            OtherMember::Config => "an index without `config`; clients may take it for a manifest",
-            OtherMember::Layers => "an index without `layers`; clients may take it for a manifest",
-            OtherMember::FsLayers => {
-                "a document without `fsLayers`; clients may take it for a manifest of schema 1"
-            }
-        }
-    }
-
     /// Whether a document has the member, and it is not null.
     pub fn is_in(self, value: &Value) -> bool
         ensures { IsTrue result ↔ HasMember self (view value.now) }

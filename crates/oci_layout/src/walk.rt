@@ -4,8 +4,7 @@ ghost use Rattle.std.specs.List.{Contains};
 ghost use Rattle.oci_layout.specs.declared.claim.Claim.{Claim};
 ghost use Rattle.oci_layout.specs.Walk.{IsUnderway, IsWalk, Extends, IsWithin, IsOnly};
 
-use crate::claim::{Claim, Fault, Held, Shown};
-use oci_schema::Violation;
+use crate::claim::{Claim, Detail, Fault, Shown};
 use std::alloc::{AllocError, Global};
 use std::collections::BTreeMap;
 
@@ -16,22 +15,6 @@ pub struct Mention {
     pub by: Option<usize>,
     /// Its index among what that document claims, or among the first.
     pub at: usize,
-}
-
-/// What was seen at a claim beside what stands against it.
-#[derive(Drop)]
-pub struct Detail {
-    /// What stands against the contents that the descriptors of its document hold themselves.
-    pub held: Vec<Held>,
-    /// The violations of its schema.
-    pub violations: Vec<Violation>,
-}
-
-impl Detail {
-    /// Whether nothing was seen.
-    pub fn is_empty(&self) -> bool {
-        self.held.is_empty() && self.violations.is_empty()
-    }
 }
 
 /// A walk: all claims that were reached so far, where each was found first, and for those that were looked at, from the first on,
@@ -83,12 +66,19 @@ impl Walk {
         };
         let seen = store.look(alloc, claim, buffer)?;
         self.faults.push(seen.fault)?;
-        self.details.push(Detail {
-            held: seen.held,
-            violations: seen.violations,
-        })?;
+        self.details.push(seen.detail)?;
         self.add_all(alloc, Some(place), seen.claims)?;
         Ok(true)
+    }
+
+    /// Drops the bytes of the document that was looked at last, which are kept in its detail until then.
+    pub fn drop_text(&mut self)
+        ensures claims { self.new.claims ≡ self.old.claims }
+        ensures faults { self.new.faults ≡ self.old.faults }
+    {
+        if let Some(detail) = self.details.last_mut() {
+            detail.text = None;
+        }
     }
 
     /// Adds the claims that were not reached yet.

@@ -29,7 +29,7 @@ complete -c ciderglen -n '__fish_seen_subcommand_from fmt' -l drop-unknown -d 'W
 complete -c ciderglen -n '__fish_seen_subcommand_from fmt' -s q -l quiet -d 'Do not say what is left out'
 complete -c ciderglen -n '__fish_seen_subcommand_from fmt' -l verbose -d 'Say the digests before and after'
 complete -c ciderglen -n '__fish_seen_subcommand_from fmt' -s h -l help -d 'Print help'
-complete -c ciderglen -n '__fish_seen_subcommand_from verify' -l format -x -a 'text json' -d 'How to write the result'
+complete -c ciderglen -n '__fish_seen_subcommand_from verify' -l format -x -a 'text json sarif' -d 'How to write the result'
 complete -c ciderglen -n '__fish_seen_subcommand_from verify' -l strict -d 'Notes are wrong too'
 complete -c ciderglen -n '__fish_seen_subcommand_from verify' -l quick -d 'Look at the sizes of layers alone, and do not read them'
 complete -c ciderglen -n '__fish_seen_subcommand_from verify' -l progress -d 'Write a line a second of what was done on standard error'

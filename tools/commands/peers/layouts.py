@@ -2,7 +2,7 @@
 
 Makes layouts with umoci, skopeo and buildah (packages of Debian), and faulty ones from those, runs `ciderglen verify` on each, and
 `skopeo copy`, `skopeo inspect`, `umoci stat` and `umoci raw unpack` beside it, and prints a table. A row says what should be found:
-the kinds of findings, and behind a `+` those of notes. It ends with status 1 where ours says anything else; what the others say is
+the rules of errors, and behind a `+` those of notes. It ends with status 1 where ours says anything else; what the others say is
 printed alone. The program is crates/ciderglen/out/ciderglen if none is named: `rt run` makes it.
 """
 import json
@@ -20,18 +20,25 @@ HEAD = ["layout", "skopeo copy", "skopeo inspect", "umoci stat", "umoci unpack",
 
 
 def ours(program, root):
-    """What ours finds: the kinds of findings, a plus and those of notes; the same by the lines and by the status."""
-    told = subprocess.run([program, "verify", "--format", "json", root], capture_output=True, text=True, timeout=120)
-    if told.returncode == 3:
+    """What ours finds: the rules of errors, a plus and those of notes; the same by the lines, by the log and by the status."""
+    def run(*options):
+        return subprocess.run([program, "verify", *options, root], capture_output=True, text=True, errors="replace", timeout=120)
+
+    as_json = run("--format", "json")
+    if as_json.returncode == 3:
         return "status 3"
-    listed = json.loads(told.stdout)["list"]
-    findings = sorted(f["kind"] for f in listed if not f["note"])
-    notes = sorted(f["kind"] for f in listed if f["note"])
-    plain = subprocess.run([program, "verify", root], capture_output=True, text=True, errors="replace", timeout=120)
-    strict = subprocess.run([program, "verify", "--strict", root], capture_output=True, text=True, errors="replace", timeout=120)
-    if (plain.returncode, strict.returncode) != (1 if findings else 0, 1 if listed else 0) or len(plain.stdout.splitlines()) != len(listed):
-        return "lines, status and JSON differ"
-    return " ".join(findings + (["+"] + notes if notes else []))
+    *listed, last = [json.loads(line) for line in as_json.stdout.splitlines()]
+    errors = sorted(it["rule"] for it in listed if it["level"] == "error")
+    notes = sorted(it["rule"] for it in listed if it["level"] == "note")
+    plain, strict, log = run(), run("--strict"), run("--format", "sarif")
+    if (plain.returncode, log.returncode, strict.returncode) != (1 if errors else 0, 1 if errors else 0, 1 if listed else 0):
+        return "status and JSON differ"
+    if len(plain.stdout.splitlines()) != len(listed) or (last["summary"]["findings"], last["summary"]["notes"]) != (len(errors), len(notes)):
+        return "lines, totals and JSON differ"
+    results = json.loads(log.stdout)["runs"][0]["results"]
+    if [(it["ruleId"], it["level"]) for it in results] != [(it["rule"], it["level"]) for it in listed]:
+        return "SARIF and JSON differ"
+    return " ".join(errors + (["+"] + notes if notes else []))
 
 
 def others(name, root):

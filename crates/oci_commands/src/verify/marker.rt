@@ -1,43 +1,72 @@
 //! The file `oci-layout`, which marks a folder as an image layout.
-use oci_base::{OciSpecError, Result};
-use oci_layout::{Finding, Top};
-use oci_schema::is_valid;
+use oci_findings::shown::{read_value, shown_at, violation_findings};
+use oci_findings::{Absence, Cause, Claims, FileFault, Finding, Report, Severity};
+use oci_layout::Top;
+use oci_schema::violations;
 use oci_schemas::OciRecords;
 use oci_schemas::image_manifest::oci_layout;
 use serde_json::Value;
-use std::alloc::Global;
+use std::alloc::{AllocError, Global};
 
-/// A finding where the marker is missing, or is not that of version 1.0.0 (image specification, "Image Layout", "oci-layout file").
-pub fn marker_findings(alloc: Global, marker: Top) -> Result<Vec<Finding>> {
+/// Where the version is in the marker.
+const VERSION: &str = "/imageLayoutVersion";
+
+/// What is wrong with the marker: that it is missing, that it is no document of its kind, or that its version is not 1.0.0 (image
+/// specification, "Image Layout", "oci-layout file"). Fails if out of memory.
+pub fn marker_report(marker: Top, alloc: Global) -> Result<Report<'static>, AllocError> {
     let mut found = Vec::new(alloc);
-    let text = match marker {
-        Top::Missing => "missing",
-        Top::Unreadable => "cannot be read",
-        Top::TooLarge => "too large to be read as a document",
+    let mut text = None;
+    match marker {
+        Top::Missing => found.push(fault_of_file(FileFault::Missing(Absence::Wrong), alloc))?,
+        Top::Unreadable => found.push(fault_of_file(FileFault::Unreadable, alloc))?,
+        Top::TooLarge => found.push(fault_of_file(FileFault::TooLarge, alloc))?,
         Top::Bytes(bytes) => {
-            if is_marker(alloc, bytes.as_slice())? {
-                return Ok(found);
-            }
-            "an image layout of version 1.0.0"
+            found = document_findings(bytes.as_slice(), alloc)?;
+            text = Some(bytes);
         }
-    };
-    found.push(Finding::at(alloc, "layout", false, "oci-layout", text)?)?;
+    }
+    Report::of_file(found, &text, Claims::none(alloc), alloc)
+}
+
+/// A finding on a file as a whole.
+pub fn fault_of_file(fault: FileFault, alloc: Global) -> Finding<'static> {
+    Finding {
+        pointer: String::new(alloc),
+        cause: Cause::File(fault),
+        severity: Severity::Error,
+    }
+}
+
+/// What is wrong with the bytes of a marker.
+fn document_findings(bytes: &[u8], alloc: Global) -> Result<Vec<Finding<'static>>, AllocError> {
+    let mut found = Vec::new(alloc);
+    match read_value(bytes, alloc)? {
+        Ok(value) => {
+            let listed = violations(&OciRecords, oci_layout(), &value, alloc)?;
+            found = violation_findings(&listed, &value, alloc)?;
+            if found.is_empty() && !is_version_one(&value) {
+                found.push(version_finding(&value, alloc)?)?;
+            }
+        }
+        Err(cause) => found.push(Finding {
+            pointer: String::new(alloc),
+            cause,
+            severity: Severity::Error,
+        })?,
+    }
     Ok(found)
 }
 
-/// Whether the bytes are a marker of version 1.0.0.
-fn is_marker(alloc: Global, bytes: &[u8]) -> Result<bool> {
-    match Value::from_slice(alloc, bytes) {
-        Ok(value) => {
-            let version = value.get("imageLayoutVersion").and_then(Value::as_str);
-            Ok(is_valid(&OciRecords, oci_layout(), &value) && version == Some("1.0.0"))
-        }
-        Err(fault) => {
-            if fault.is_memory() {
-                Err(OciSpecError::Memory)
-            } else {
-                Ok(false)
-            }
-        }
-    }
+fn is_version_one(value: &Value) -> bool {
+    value.get("imageLayoutVersion").and_then(Value::as_str) == Some("1.0.0")
+}
+
+/// That the version is another one.
+fn version_finding(value: &Value, alloc: Global) -> Result<Finding<'static>, AllocError> {
+    let shown = shown_at(value, VERSION, alloc)?;
+    Ok(Finding {
+        pointer: String::from_str(alloc, VERSION)?,
+        cause: Cause::File(FileFault::Version(shown)),
+        severity: Severity::Error,
+    })
 }

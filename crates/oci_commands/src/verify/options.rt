@@ -1,11 +1,12 @@
 //! How a layout is verified.
+use oci_findings::Style;
 use oci_layout::DOCUMENT_LIMIT;
 
 /// How a layout is verified, and how that is reported.
 #[derive(Clone, Copy, Debug, PartialEq, Eq)]
 pub struct Options {
-    /// One JSON document at the end, in place of lines.
-    pub json: bool,
+    /// How findings are written.
+    pub style: Style,
     /// Notes count as findings.
     pub strict: bool,
     /// Contents that are no documents are left unread: their sizes alone are looked at.
@@ -20,7 +21,7 @@ impl Options {
     /// No option, and documents of 4 MiB at most.
     pub fn new() -> Options {
         Options {
-            json: false,
+            style: Style::Text,
             strict: false,
             quick: false,
             progress: false,

@@ -1,19 +1,21 @@
 //! The whole of a verification.
-ghost use Rattle.std.specs.Prelude.{◌≡◌, ◌⊎◌, ◌<◌, false, codes, length, IsTrue, IfOk};
+ghost use Rattle.std.specs.Prelude.{◌≡◌, ◌⊎◌, ◌<◌, false, codes, length, IsTrue, IfOk, string_bytes};
+ghost use Rattle.oci_base.specs.Escaped.{IsLine};
 ghost use Rattle.oci_layout.specs.Sound.{IsSoundLayout, IsSoundFrom, IsFileOf};
-ghost use Rattle.oci_layout.specs.Looks.{Contents};
+ghost use Rattle.oci_layout.specs.Looks.{Contents, Shows};
 ghost use Rattle.oci_layout.specs.Walk.{IsWalk};
 
-use crate::verify::marker::marker_findings;
+use crate::verify::marker::marker_report;
 use crate::verify::options::Options;
+use crate::verify::output::Output;
 use crate::verify::progress::{Progress, Watch};
-use crate::verify::tell::Told;
-use crate::verify::unreached::unreached;
-use oci_base::{OciSpecError, Result};
+use crate::verify::unreferenced::{listed_finding, paths_of};
+use oci_base::{OciSpecError, Result, line_of};
+use oci_findings::{Claims, FileFault, Report, Reporter, content_report, document_findings};
 use oci_json::write_text;
 use oci_layout::{
-    Claim, Detail, Fault, Finding, ImageLayout, Kind, Layout, Seen, Shown, Top, Walk, add_details,
-    findings_at, is_sound_walk, read_document, read_top, walk_all,
+    Claim, Detail, Fault, ImageLayout, Kind, Layout, Seen, Top, Walk, blob_path, is_sound_walk,
+    read_document, read_top, walk_all,
 };
 use std::alloc::{AllocError, Global};
 use std::io::{ErrorKind, Write};
@@ -35,7 +37,13 @@ pub fn run<L: ImageLayout, C: Watch, W: Write, E: Write>(
     ensures status { (result ≡ 0) ⊎ ((result ≡ 1) ⊎ (result ≡ 3)) }
     ensures sound { result ≡ 0 → options.now.quick ≡ false → IsSoundLayout options.now.limit (L.tops layout.now) (L.contents layout.now) }
 {
-    match verify_layout(layout, options, alloc, watch, writer, errors) {
+    let verification = Verification {
+        layout,
+        options,
+        alloc,
+        watch,
+    };
+    match verification.verify(writer, errors) {
         Ok(true) => 0,
         Ok(false) => 1,
         Err(refusal) => {
@@ -47,291 +55,258 @@ pub fn run<L: ImageLayout, C: Watch, W: Write, E: Write>(
 
 /// Says why a verification ended before its end. Nothing is said of a reader that has gone away, as `head` does.
 fn complain<E: Write>(refusal: &OciSpecError, alloc: Global, errors: &mut E) {
-    let line = match refusal {
-        OciSpecError::Io(fault) if fault.kind() == ErrorKind::BrokenPipe => return,
-        OciSpecError::Io(fault) => format!(in alloc; "ciderglen: cannot write: {fault}\n"),
-        OciSpecError::Other(text) => format!(in alloc; "ciderglen: {text}\n"),
-        _ => Err(AllocError),
-    };
-    let _ = match line {
+    if let OciSpecError::Io(fault) = refusal {
+        if fault.kind() == ErrorKind::BrokenPipe {
+            return;
+        }
+    }
+    let _ = match complaint(refusal, alloc) {
         Ok(line) => write_text(line.as_bytes(), errors),
         Err(_) => write_text(b"ciderglen: out of memory\n", errors),
     };
 }
 
-/// Whether nothing stands against the layout; what does is reported.
-fn verify_layout<L: ImageLayout, C: Watch, W: Write, E: Write>(
-    layout: &L,
-    options: &Options,
-    alloc: Global,
-    watch: &C,
-    writer: &mut W,
-    errors: &mut E,
-) -> Result<bool>
-    ensures { IfOk result (λ sound. IsTrue sound → options.now.quick ≡ false → IsSoundLayout options.now.limit (L.tops layout.now) (L.contents layout.now)) }
+/// The line that says why.
+fn complaint(refusal: &OciSpecError, alloc: Global) -> std::result::Result<String, AllocError>
+    ensures { IfOk result (λ line. IsLine (string_bytes line)) }
 {
-    let mut buffer = vec![in alloc; 0u8; PIECE]?;
-    let buffer = buffer.as_mut_slice();
-    let mut told = Told::new(alloc);
-    let marker = read_top(layout, alloc, "oci-layout", options.limit, buffer)?;
-    tell_marker(alloc, options, marker, &mut told, writer)?;
-    match read_top(layout, alloc, "index.json", options.limit, buffer)? {
-        Top::Bytes(index) => {
-            let index = index.as_slice();
-            verify_index(
-                layout, options, alloc, watch, index, told, buffer, writer, errors,
-            )
-        }
-        Top::TooLarge => {
-            tell_too_large(alloc, options, told, writer)?;
-            Ok(false)
-        }
-        Top::Missing => Err(no_index(alloc, "there is no index.json")),
-        Top::Unreadable => Err(no_index(alloc, "index.json cannot be read")),
-    }
-}
-
-fn tell_marker<W: Write>(
-    alloc: Global,
-    options: &Options,
-    marker: Top,
-    told: &mut Told,
-    writer: &mut W,
-) -> Result<()> {
-    told.tell_all(alloc, options, marker_findings(alloc, marker)?, writer)
+    let text = match refusal {
+        OciSpecError::Io(fault) => format!(in alloc; "ciderglen: cannot write: {fault}")?,
+        OciSpecError::Other(text) => format!(in alloc; "ciderglen: {text}")?,
+        _ => return Err(AllocError),
+    };
+    line_of(text.as_str(), alloc)
 }
 
 /// Why no index was read, or that memory ran out.
-fn no_index(alloc: Global, text: &str) -> OciSpecError {
+fn no_index(text: &str, alloc: Global) -> OciSpecError {
     match String::from_str(alloc, text) {
         Ok(text) => OciSpecError::Other(text),
         Err(_) => OciSpecError::Memory,
     }
 }
 
-/// Reports that `index.json` is too large to be looked at, and ends.
-fn tell_too_large<W: Write>(
+/// A layout that is verified.
+struct Verification<'a, L, C> {
+    layout: &'a L,
+    options: &'a Options,
     alloc: Global,
-    options: &Options,
-    mut told: Told,
-    writer: &mut W,
-) -> Result<()> {
-    let text = "too large to be read as a document";
-    let finding = Finding::at(alloc, "too-large", false, "index.json", text)?;
-    told.tell(alloc, options, &finding, writer)?;
-    told.finish(alloc, options, 0, 0, writer)
+    watch: &'a C,
 }
 
-/// The same, from the bytes of `index.json` on.
-fn verify_index<L: ImageLayout, C: Watch, W: Write, E: Write>(
-    layout: &L,
-    options: &Options,
-    alloc: Global,
-    watch: &C,
-    index: &[u8],
-    mut told: Told,
-    buffer: &mut [u8],
-    writer: &mut W,
-    errors: &mut E,
-) -> Result<bool>
-    requires { 0 < length buffer.old }
-    ensures { IfOk result (λ sound. IsTrue sound → options.now.quick ≡ false → (tops : Contents) → IsFileOf tops (codes "index.json") index.now
-        → IsSoundLayout options.now.limit tops (L.contents layout.now)) }
-{
-    let Seen {
-        fault,
-        claims,
-        held,
-        violations,
-    } = read_document(alloc, Kind::Index, index)?;
-    tell_index(
-        alloc,
-        options,
-        fault,
-        Detail { held, violations },
-        &mut told,
-        writer,
-    )?;
-    let progress = totals(layout, options, alloc, index, buffer)?;
-    verify_claims(
-        layout, options, alloc, watch, fault, claims, told, progress, buffer, writer, errors,
-    )
-}
-
-fn tell_index<W: Write>(
-    alloc: Global,
-    options: &Options,
-    fault: Option<Fault>,
-    detail: Detail,
-    told: &mut Told,
-    writer: &mut W,
-) -> Result<()> {
-    let found = index_findings(alloc, fault, detail)?;
-    told.tell_all(alloc, options, found, writer)
-}
-
-/// The same, from what was found in `index.json` and the first claims on.
-fn verify_claims<L: ImageLayout, C: Watch, W: Write, E: Write>(
-    layout: &L,
-    options: &Options,
-    alloc: Global,
-    watch: &C,
-    fault: Option<Fault>,
-    first: Vec<Claim>,
-    mut told: Told,
-    mut progress: Progress,
-    buffer: &mut [u8],
-    writer: &mut W,
-    errors: &mut E,
-) -> Result<bool>
-    requires { 0 < length buffer.old }
-    ensures { IfOk result (λ sound. IsTrue sound → IsSoundFrom options.now.quick options.now.limit (L.contents layout.now) fault first.items) }
-{
-    let shown = Layout {
-        store: layout,
-        limit: options.limit,
-        quick: options.quick,
-    };
-    let walk = look_at_all(
-        &shown,
-        options,
-        alloc,
-        watch,
-        first,
-        &mut told,
-        &mut progress,
-        buffer,
-        writer,
-        errors,
-    )?;
-    progress.end(alloc, options, errors)?;
-    tell_unreached(layout, options, alloc, &walk, &mut told, writer)?;
-    let is_told_sound = told.is_sound(options);
-    let contents = walk.claims.len() as u64;
-    told.finish(alloc, options, contents, bytes_of(&walk), writer)?;
-    if is_sound_walk(fault, &walk) {
-        Ok(is_told_sound)
-    } else {
-        Ok(false)
+impl<'a, L, C> Drop for Verification<'a, L, C> {
+    fn drop(self) {
+        let Verification {
+            layout,
+            options,
+            alloc,
+            watch,
+        } = self;
     }
 }
 
-fn tell_unreached<L: ImageLayout, W: Write>(
-    layout: &L,
-    options: &Options,
-    alloc: Global,
-    walk: &Walk,
-    told: &mut Told,
-    writer: &mut W,
-) -> Result<()> {
-    let listed = layout.list(alloc)?;
-    let found = unreached(alloc, &listed, walk)?;
-    told.tell_all(alloc, options, found, writer)
-}
-
-/// Looks at all claims that are reached from the first ones, and reports what is found at each as it is found.
-fn look_at_all<S: Shown, C: Watch, W: Write, E: Write>(
-    shown: &S,
-    options: &Options,
-    alloc: Global,
-    watch: &C,
-    first: Vec<Claim>,
-    told: &mut Told,
-    progress: &mut Progress,
-    buffer: &mut [u8],
-    writer: &mut W,
-    errors: &mut E,
-) -> Result<Walk>
-    requires { 0 < length buffer.old }
-    ensures { IfOk result (λ w. IsWalk (S.shows shown.now) first.items w.claims.items w.faults.items) }
-{
-    let mut walk = Walk::begin(alloc, first)?;
-    'looks: while walk.step(shown, alloc, buffer)? {
-        let place = walk.faults.len() - 1;
-        tell_at(alloc, options, &walk, place, told, writer)?;
-        progress.count(alloc, options, watch, walk.claims.get(place), errors)?;
-    }
-    Ok(walk)
-}
-
-/// Reports what was found at a claim.
-fn tell_at<W: Write>(
-    alloc: Global,
-    options: &Options,
-    walk: &Walk,
-    place: usize,
-    told: &mut Told,
-    writer: &mut W,
-) -> Result<()> {
-    told.tell_all(alloc, options, findings_at(alloc, walk, place)?, writer)
-}
-
-/// What stands against `index.json` itself.
-fn index_findings(alloc: Global, fault: Option<Fault>, detail: Detail) -> Result<Vec<Finding>> {
-    let mut found = Vec::new(alloc);
-    match fault {
-        Some(Fault::NoJson) => {
-            add_fault(alloc, "document", "index.json", "a JSON text", &mut found)?
+impl<'a, L: ImageLayout, C: Watch> Verification<'a, L, C> {
+    /// Whether nothing stands against the layout; what does is reported.
+    fn verify<W: Write, E: Write>(&self, writer: &mut W, errors: &mut E) -> Result<bool>
+        ensures { IfOk result (λ sound. IsTrue sound → self.now.options.now.quick ≡ false
+            → IsSoundLayout self.now.options.now.limit (L.tops self.now.layout.now) (L.contents self.now.layout.now)) }
+    {
+        let mut buffer = vec![in self.alloc; 0u8; PIECE]?;
+        let buffer = buffer.as_mut_slice();
+        let mut output = Output {
+            alloc: self.alloc,
+            reporter: Reporter::new(self.options.style, self.alloc)?,
+            progress: None,
+            writer,
+            errors,
+        };
+        self.report_marker(buffer, &mut output)?;
+        match read_top(
+            self.layout,
+            self.alloc,
+            "index.json",
+            self.options.limit,
+            buffer,
+        )? {
+            Top::Bytes(index) => self.verify_index(index.as_slice(), buffer, &mut output),
+            Top::TooLarge => {
+                output.add_fault("index.json", FileFault::TooLarge)?;
+                output.finish(0, 0)?;
+                Ok(false)
+            }
+            Top::Missing => self.end_early("there is no index.json", &mut output),
+            Top::Unreadable => self.end_early("index.json cannot be read", &mut output),
         }
-        Some(Fault::OtherType) => {
-            let text = "the media type of an image index";
-            add_fault(
-                alloc,
-                "media-type",
-                "index.json#/mediaType",
-                text,
-                &mut found,
-            )?;
-        }
-        Some(Fault::Ambiguous(member)) => {
-            let name = member.name();
-            let place = format!(in alloc; "index.json#/{name}")?;
-            add_fault(
-                alloc,
-                "ambiguous",
-                place.as_str(),
-                member.text(),
-                &mut found,
-            )?;
-        }
-        _ => {}
     }
-    add_details(alloc, &detail, "index.json", &Vec::new(alloc), &mut found)?;
-    Ok(found)
-}
 
-fn add_fault(
-    alloc: Global,
-    kind: &'static str,
-    place: &str,
-    text: &str,
-    found: &mut Vec<Finding>,
-) -> Result<()> {
-    found.push(Finding::at(alloc, kind, false, place, text)?)?;
-    Ok(())
-}
-
-/// How many contents will be looked at, and their bytes: by a quick walk, where progress is asked for.
-fn totals<L: ImageLayout>(
-    layout: &L,
-    options: &Options,
-    alloc: Global,
-    index: &[u8],
-    buffer: &mut [u8],
-) -> Result<Progress>
-    requires { 0 < length buffer.old }
-{
-    if !options.progress {
-        return Ok(Progress::new());
+    /// Ends with what was found so far, since no index was read.
+    fn end_early<W: Write, E: Write>(
+        &self,
+        text: &str,
+        output: &mut Output<'_, W, E>,
+    ) -> Result<bool>
+        ensures { IfOk result (λ sound. sound ≡ false) }
+    {
+        output.finish(0, 0)?;
+        Err(no_index(text, self.alloc))
     }
-    let seen = read_document(alloc, Kind::Index, index)?;
-    let shown = Layout {
-        store: layout,
-        limit: options.limit,
-        quick: true,
-    };
-    let walk = walk_all(&shown, alloc, seen.claims, buffer)?;
-    Ok(Progress::of(walk.claims.len() as u64, bytes_of(&walk)))
+
+    /// Reports what is wrong with `oci-layout`.
+    fn report_marker<W: Write, E: Write>(
+        &self,
+        buffer: &mut [u8],
+        output: &mut Output<'_, W, E>,
+    ) -> Result<()>
+        requires { 0 < length buffer.old }
+    {
+        let marker = read_top(
+            self.layout,
+            self.alloc,
+            "oci-layout",
+            self.options.limit,
+            buffer,
+        )?;
+        output.add("oci-layout", &marker_report(marker, self.alloc)?)
+    }
+
+    /// The same, from the bytes of `index.json` on.
+    fn verify_index<W: Write, E: Write>(
+        &self,
+        index: &[u8],
+        buffer: &mut [u8],
+        output: &mut Output<'_, W, E>,
+    ) -> Result<bool>
+        requires { 0 < length buffer.old }
+        ensures { IfOk result (λ sound. IsTrue sound → self.now.options.now.quick ≡ false → (tops : Contents) → IsFileOf tops (codes "index.json") index.now
+            → IsSoundLayout self.now.options.now.limit tops (L.contents self.now.layout.now)) }
+    {
+        output.progress = self.totals(index, buffer)?;
+        let Seen {
+            fault,
+            claims,
+            detail,
+        } = read_document(self.alloc, Kind::Index, index)?;
+        self.report_index(fault, &detail, output)?;
+        self.verify_claims(fault, claims, buffer, output)
+    }
+
+    /// Reports what stands against `index.json` itself.
+    fn report_index<W: Write, E: Write>(
+        &self,
+        fault: Option<Fault>,
+        detail: &Detail,
+        output: &mut Output<'_, W, E>,
+    ) -> Result<()> {
+        let found = document_findings(Kind::Index, fault, detail, self.alloc)?;
+        let report = Report::of_file(found, &detail.text, Claims::none(self.alloc), self.alloc)?;
+        output.add("index.json", &report)
+    }
+
+    /// The same, from what was found in `index.json` and the first claims on.
+    fn verify_claims<W: Write, E: Write>(
+        &self,
+        fault: Option<Fault>,
+        first: Vec<Claim>,
+        buffer: &mut [u8],
+        output: &mut Output<'_, W, E>,
+    ) -> Result<bool>
+        requires { 0 < length buffer.old }
+        ensures { IfOk result (λ sound. IsTrue sound
+            → IsSoundFrom self.now.options.now.quick self.now.options.now.limit (L.contents self.now.layout.now) fault first.items) }
+    {
+        let walk = self.look_at_all(first, buffer, output)?;
+        output.report_progress()?;
+        self.report_unreferenced(&walk, output)?;
+        output.finish(walk.claims.len() as u64, bytes_of(&walk))?;
+        if is_sound_walk(fault, &walk) {
+            Ok(self.is_sound(&output.reporter))
+        } else {
+            Ok(false)
+        }
+    }
+
+    /// Whether nothing that was reported stands against the layout.
+    fn is_sound(&self, reporter: &Reporter) -> bool {
+        reporter.errors() == 0 && (reporter.others() == 0 || !self.options.strict)
+    }
+
+    /// Looks at all claims that are reached from the first ones, and reports what is found at each as it is found.
+    fn look_at_all<W: Write, E: Write>(
+        &self,
+        first: Vec<Claim>,
+        buffer: &mut [u8],
+        output: &mut Output<'_, W, E>,
+    ) -> Result<Walk>
+        requires { 0 < length buffer.old }
+        ensures { IfOk result (λ w. IsWalk (Shows self.now.options.now.quick self.now.options.now.limit (L.contents self.now.layout.now))
+            first.items w.claims.items w.faults.items) }
+    {
+        let shown = self.shown(self.options.quick);
+        let mut walk = Walk::begin(self.alloc, first)?;
+        'looks: while walk.step(&shown, self.alloc, buffer)? {
+            let place = walk.faults.len() - 1;
+            self.report_place(&walk, place, output)?;
+            walk.drop_text();
+        }
+        Ok(walk)
+    }
+
+    /// The contents of the layout, as they are looked at.
+    fn shown(&self, quick: bool) -> Layout<'a, L>
+        ensures store { result.store.now ≡ self.now.layout.now }
+        ensures limit { result.limit ≡ self.now.options.now.limit }
+        ensures quick { result.quick ≡ quick }
+    {
+        Layout {
+            store: self.layout,
+            limit: self.options.limit,
+            quick,
+        }
+    }
+
+    /// Reports what was found at a claim.
+    fn report_place<W: Write, E: Write>(
+        &self,
+        walk: &Walk,
+        place: usize,
+        output: &mut Output<'_, W, E>,
+    ) -> Result<()> {
+        let Some(claim) = walk.claims.get(place) else {
+            return Ok(());
+        };
+        let report = content_report(walk, place, self.alloc)?;
+        let path = blob_path(self.alloc, &claim.digest)?;
+        output.add(path.as_str(), &report)?;
+        output.count(claim.size, self.watch.seconds())
+    }
+
+    /// Reports what lies in the layout, and nothing that is reached refers to it.
+    fn report_unreferenced<W: Write, E: Write>(
+        &self,
+        walk: &Walk,
+        output: &mut Output<'_, W, E>,
+    ) -> Result<()> {
+        let reached = paths_of(walk, self.alloc)?;
+        for listed in self.layout.list(self.alloc)? {
+            if let Some(finding) = listed_finding(&listed, &reached, self.alloc) {
+                output.add_finding(listed.path.as_str(), finding)?;
+            }
+        }
+        Ok(())
+    }
+
+    /// How many contents will be looked at, and their bytes: by a quick walk, where progress is asked for.
+    fn totals(&self, index: &[u8], buffer: &mut [u8]) -> Result<Option<Progress>>
+        requires { 0 < length buffer.old }
+    {
+        if !self.options.progress {
+            return Ok(None);
+        }
+        let seen = read_document(self.alloc, Kind::Index, index)?;
+        let walk = walk_all(&self.shown(true), self.alloc, seen.claims, buffer)?;
+        let (contents, bytes) = (walk.claims.len() as u64, bytes_of(&walk));
+        Ok(Some(Progress::of(contents, bytes)))
+    }
 }
 
 /// The sum of the sizes that are said.

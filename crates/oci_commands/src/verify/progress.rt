@@ -1,10 +1,9 @@
 //! What was done of all, reported once a second.
-use crate::verify::options::Options;
-use oci_base::Result;
-use oci_json::write_text;
-use oci_layout::Claim;
-use std::alloc::Global;
-use std::io::Write;
+ghost use Rattle.std.specs.Prelude.{IfOk, string_bytes};
+ghost use Rattle.oci_base.specs.Escaped.{IsLine};
+
+use oci_base::line_of;
+use std::alloc::{AllocError, Global};
 
 /// A watch.
 pub trait Watch {
@@ -19,15 +18,11 @@ pub struct Progress {
     bytes: u64,
     all_contents: u64,
     all_bytes: u64,
-    told: u64,
+    // the second of the last report
+    reported: u64,
 }
 
 impl Progress {
-    /// Nothing of nothing.
-    pub fn new() -> Progress {
-        Progress::of(0, 0)
-    }
-
     /// Nothing of so many contents and bytes.
     pub fn of(all_contents: u64, all_bytes: u64) -> Progress {
         Progress {
@@ -35,52 +30,30 @@ impl Progress {
             bytes: 0,
             all_contents,
             all_bytes,
-            told: 0,
+            reported: 0,
         }
     }
 
-    /// Counts one content more, and reports it if a second has passed.
-    pub fn count<C: Watch, E: Write>(
-        &mut self,
-        alloc: Global,
-        options: &Options,
-        watch: &C,
-        claim: Option<&Claim>,
-        errors: &mut E,
-    ) -> Result<()> {
-        if !options.progress {
-            return Ok(());
-        }
+    /// Counts one content more, and returns whether a second has passed since the last report.
+    pub fn count(&mut self, bytes: u64, now: u64) -> bool {
         self.contents = self.contents.saturating_add(1);
-        if let Some(claim) = claim {
-            self.bytes = self.bytes.saturating_add(claim.size);
-        }
-        let now = watch.seconds();
-        if now != self.told {
-            self.told = now;
-            self.tell(alloc, errors)?;
-        }
-        Ok(())
+        self.bytes = self.bytes.saturating_add(bytes);
+        let is_due = now != self.reported;
+        self.reported = now;
+        is_due
     }
 
-    /// Reports what was done at the end.
-    pub fn end<E: Write>(&self, alloc: Global, options: &Options, errors: &mut E) -> Result<()> {
-        if options.progress {
-            self.tell(alloc, errors)?;
-        }
-        Ok(())
-    }
-
-    fn tell<E: Write>(&self, alloc: Global, errors: &mut E) -> Result<()> {
+    /// A line of what was done.
+    pub fn line(&self, alloc: Global) -> Result<String, AllocError>
+        ensures { IfOk result (λ line. IsLine (string_bytes line)) }
+    {
         let contents = self.contents;
         let bytes = self.bytes;
         let all_contents = self.all_contents;
         let all_bytes = self.all_bytes;
         let line = format!(in alloc;
-            "{contents} of {all_contents} contents, {bytes} of {all_bytes} bytes\n"
+            "{contents} of {all_contents} contents, {bytes} of {all_bytes} bytes"
         )?;
-        // standard error may be closed
-        let _ = write_text(line.as_bytes(), errors);
-        Ok(())
+        line_of(line.as_str(), alloc)
     }
 }

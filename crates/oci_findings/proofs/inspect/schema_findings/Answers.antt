@@ -10,13 +10,13 @@ use Rattle.oci_findings.proofs.inspect.schema_findings.Goals as goal
 
 pub returns-clause-all : goal.returns-clause-all
 returns-clause-all c =
-    IfOk-weaker c.findings_of.result _ _
+    IfOk-weaker c.violation_findings.result _ _
     (λ v told. all_told v.items c.in_ok-listed.listed.items _ told (c.in_ok-listed.ensures.all ∙ ap (λ s. violations s [] (view c.args.value.now)) c.schema-schema.ensures.shape))
-    c.findings_of.ensures
+    c.violation_findings.ensures.told
 
 pub returns-clause-none : goal.returns-clause-none
 returns-clause-none c =
-    IfOk-weaker c.findings_of.result _ _
+    IfOk-weaker c.violation_findings.result _ _
     (λ v told. none_told v.items c.in_ok-listed.listed.items _ told
     (subst (λ s. (c.in_ok-listed.listed.items ≡ []) ↔ ((p : Plain) × Means s (view c.args.value.now) p)) c.schema-schema.ensures.shape c.in_ok-listed.ensures.none))
-    c.findings_of.ensures
+    c.violation_findings.ensures.told

@@ -1,0 +1,83 @@
+-- Findings that are made of facts, and lines that are written of them.
+use Rattle.std.proofs.Common.{◌≡◌, ◌<◌, ◌+◌, ℕ, zero, suc, Bool, true, false, List, [], ◌∷◌, ◌++◌, length, take, map, get_or, refl, sym, ap, ◌∙◌, subst, arith, Option, Result, Ok, Err, inl, inr}
+use Rattle.std.specs.Io.KnownBytes.{Appends}
+use Rattle.std.specs.List.{filter}
+use Rattle.std.proofs.lemmas.List.{append_assoc, append-nil}
+use Rattle.std.proofs.lemmas.List.Elements.{filter-append}
+use Rattle.oci_base.specs.Escaped.{IsLine}
+use Rattle.std.specs.Prelude.{IfOk}
+use Rattle.oci_layout.specs.declared.claim.Detail.{Detail}
+use Rattle.oci_layout.specs.declared.claim.Fault.{Fault}
+use Rattle.oci_findings.specs.declared.finding.Finding.{Finding}
+use Rattle.oci_findings.specs.declared.report.Report.{Report}
+use Rattle.oci_findings.specs.Contents.{fact, document_facts, content_fault}
+use Rattle.oci_findings.specs.Reports.{IsReportOn}
+use Rattle.oci_findings.specs.Lines.{AreLines, WritesLines, is_error, is_no_error}
+use Rattle.oci_findings.specs.Lines.AreLines.{none, more, left_out}
+
+pub map_both : {A B : Type 0} (f : A → B) (xs : List A) (y : A) → map f (xs ++ y ∷ []) ≡ map f xs ++ f y ∷ []
+map_both f [] y = refl
+map_both f (x ∷ xs) y = ap (λ q. f x ∷ q) (map_both f xs y)
+
+-- one finding is added
+pub pushed_one : {A B : Type 0} (f : A → B) (new old : List A) (y : A) (b : B) → new ≡ old ++ y ∷ [] → f y ≡ b → map f new ≡ map f old ++ b ∷ []
+pushed_one f new old y b is says = ap (map f) is ∙ map_both f old y ∙ ap (λ q. map f old ++ q ∷ []) says
+
+one_more : {X : Type 0} (xs : List X) (i : ℕ) (x : X) → i < length xs → x ≡ get_or xs i x → take (suc i) xs ≡ take i xs ++ x ∷ []
+one_more [] i x lt e = absurd (omega arith)
+one_more (y ∷ ys) zero x lt e = ap (λ q. q ∷ []) (sym e)
+one_more (y ∷ ys) (suc i) x lt e = ap (λ q. y ∷ q) (one_more ys i x (omega arith) e)
+
+-- one item more is looked at, and its finding added
+pub made_more : {A B C : Type 0} (f : A → C) (g : B → C) (new old : List A) (base : List C) (xs : List B) (i : ℕ) (x : B) → i < length xs → x ≡ get_or xs i x
+    → map f new ≡ map f old ++ g x ∷ [] → map f old ≡ base ++ map g (take i xs) → map f new ≡ base ++ map g (take (i + 1) xs)
+made_more f g new old base xs i x lt is says before =
+    let step : i + 1 ≡ suc i = omega arith in
+    says ∙ ap (λ q. q ++ g x ∷ []) before ∙ append_assoc base (map g (take i xs)) (g x ∷ []) ∙ ap (λ q. base ++ q) (sym (map_both g (take i xs) x))
+    ∙ sym (ap (λ q. base ++ map g q) (ap (λ n. take n xs) step ∙ one_more xs i x lt is))
+
+pub one_line : (line : List ℕ) → IsLine line → AreLines 1 line
+one_line line h = more none h
+
+-- one line more, or the same lines
+pub line_added : (new old line : List ℕ) → new ≡ old ++ line → IsLine line → (n : ℕ) → AreLines n old → AreLines (suc n) new
+line_added new old line is h n before = subst (AreLines (suc n)) (sym is) (more before h)
+
+pub counted : (n i : ℕ) (text : List ℕ) → AreLines (suc (n + i)) text → AreLines (n + (i + 1)) text
+counted n i text h = let step : suc (n + i) ≡ n + (i + 1) = omega arith in subst (λ k. AreLines k text) step h
+
+-- the lines were written
+pub written : {old new : Option (List ℕ)} (n : ℕ) (text : List ℕ) → AreLines n text → Appends old new text → WritesLines n old new
+written n text h e = inr (text, h, e)
+
+-- no line, and the lines of two lists behind it
+pub both_lines : (first second third : List ℕ) (e w : ℕ) → first ≡ [] → ((n : ℕ) → AreLines n first → AreLines (n + e) second) → ((n : ℕ) → AreLines n second → AreLines (n + w) third) → AreLines (e + w) third
+both_lines first second third e w empty one two =
+    let begun : AreLines zero first = subst (AreLines zero) (sym empty) none in
+    let step : zero + e ≡ e = omega arith in
+    two e (subst (λ k. AreLines k second) step (one zero begun))
+
+pub kept_more : {X : Type 0} (p : X → Bool) (kept new yielded : List X) (x : X) → p x ≡ true → new ≡ kept ++ x ∷ [] → kept ≡ filter p yielded → new ≡ filter p (yielded ++ x ∷ [])
+kept_more p kept new yielded x yes is before =
+    let one : filter p (x ∷ []) ≡ x ∷ [] = rw yes refl in
+    is ∙ ap (λ q. q ++ x ∷ []) before ∙ ap (λ q. filter p yielded ++ q) (sym one) ∙ sym (filter-append p yielded (x ∷ []))
+
+pub passed_more : {X : Type 0} (p : X → Bool) (kept yielded : List X) (x : X) → p x ≡ false → kept ≡ filter p yielded → kept ≡ filter p (yielded ++ x ∷ [])
+passed_more p kept yielded x no before =
+    let one : filter p (x ∷ []) ≡ [] = rw no refl in
+    before ∙ sym (append-nil (filter p yielded)) ∙ ap (λ q. filter p yielded ++ q) (sym one) ∙ sym (filter-append p yielded (x ∷ []))
+
+pub drained : {X : Type 0} (taken rest all : List X) → all ≡ taken ++ rest → length rest ≡ 0 → all ≡ taken
+drained taken [] all e h = e ∙ append-nil taken
+drained taken (x ∷ rest) all e h = absurd (omega arith)
+
+pub line_left_out : (n : ℕ) (text : List ℕ) → AreLines n text → AreLines (suc n) text
+line_left_out n text h = left_out h
+
+pub uncounted : (n : ℕ) (text : List ℕ) → AreLines n text → AreLines (n + 0) text
+uncounted n text h = let step : n ≡ n + 0 = omega arith in subst (λ k. AreLines k text) step h
+
+pub reported : {E : Type 0} (r : Result Report E) (all : List Finding) (found : Option Fault) (detail : Detail) → map fact all ≡ document_facts found detail ++ content_fault found
+    → IfOk r (λ x. x.errors.items ≡ filter is_error all) → IfOk r (λ x. x.warnings.items ≡ filter is_no_error all) → IfOk r (IsReportOn found detail)
+reported (Ok x) all found detail says e w = record { all = all; says = says; errors = e; warnings = w }
+reported (Err x) all found detail says e w = tt

@@ -1,0 +1,230 @@
+//! Findings on the contents of an image layout, by the facts that a walk over it gives.
+ghost use Rattle.std.specs.Prelude.{◌≡◌, ◌++◌, ◌∷◌, [], IfOk, OnOk, Some, map, string_bytes};
+ghost use Rattle.oci_findings.specs.Contents.{content_fault, document_fault, document_facts, fact, fact_in, file_facts, held_fact};
+ghost use Rattle.oci_findings.specs.Reports.{IsReportOn};
+
+use crate::claimed::{Claims, pointer_of};
+use crate::file_fault::{Absence, FileFault};
+use crate::finding::{Cause, Finding, Severity, joined};
+use crate::report::Report;
+use crate::shown::{json_cause_of, media_type_at, value_of, violation_findings};
+use oci_layout::{Claim, Detail, Fault, Held, Kind, OtherMember, Role, Walk};
+use serde_json::Value;
+use std::alloc::{AllocError, Global};
+
+/// What was found at a place of a walk, which was looked at, and by which descriptors it was reached. Fails if out of memory.
+pub fn content_report(
+    walk: &Walk,
+    place: usize,
+    alloc: Global,
+) -> Result<Report<'static>, AllocError> {
+    let (Some(claim), Some(fault), Some(detail)) = (
+        walk.claims.get(place),
+        walk.faults.get(place),
+        walk.details.get(place),
+    ) else {
+        return Report::new(Vec::new(alloc), Vec::new(alloc), b"", alloc);
+    };
+    report_on(
+        claim,
+        *fault,
+        detail,
+        Claims::of(walk, place, alloc)?,
+        alloc,
+    )
+}
+
+/// What was found at a content that is reached by these descriptors. Fails if out of memory.
+#[tactic(auto, using(crate::proofs::Facts::reported))]
+pub fn report_on(
+    claim: &Claim,
+    fault: Option<Fault>,
+    detail: &Detail,
+    claims: Claims,
+    alloc: Global,
+) -> Result<Report<'static>, AllocError>
+    ensures { IfOk result (IsReportOn fault detail.now) }
+{
+    let found = content_findings(claim, fault, detail, alloc)?;
+    Report::of_file(found, &detail.text, claims, alloc)
+}
+
+/// A finding for each violation of the schema of a content's document, for what stands against each content that its descriptors hold
+/// themselves, and for what stands against the content, in this order. Fails if out of memory.
+pub fn content_findings<'a>(
+    claim: &Claim,
+    fault: Option<Fault>,
+    detail: &Detail,
+    alloc: Global,
+) -> Result<Vec<Finding<'a>>, AllocError>
+    ensures { IfOk result (λ v. map fact v.items ≡ document_facts fault detail.now ++ content_fault fault) }
+{
+    let mut found = document_findings(claim.kind, fault, detail, alloc)?;
+    add_content_fault(claim, fault, &mut found, alloc)?;
+    Ok(found)
+}
+
+/// The same of what stands against a document of a kind, as `index.json`. Fails if out of memory.
+pub fn document_findings<'a>(
+    kind: Kind,
+    fault: Option<Fault>,
+    detail: &Detail,
+    alloc: Global,
+) -> Result<Vec<Finding<'a>>, AllocError>
+    ensures { IfOk result (λ v. map fact v.items ≡ document_facts fault detail.now) }
+{
+    let text = detail.text.as_deref().unwrap_or(b"");
+    let value = value_of(text, alloc)?;
+    let mut found = violation_findings(&detail.violations, &value, alloc)?;
+    add_all_held(&detail.held, &mut found, alloc)?;
+    add_document_fault(kind, fault, text, &value, &mut found, alloc)?;
+    Ok(found)
+}
+
+fn add_all_held<'a>(
+    listed: &Vec<Held>,
+    found: &mut Vec<Finding<'a>>,
+    alloc: Global,
+) -> Result<(), AllocError>
+    ensures { OnOk result (map fact found.new.items ≡ map fact found.old.items ++ map held_fact listed.now.items) }
+{
+    for held in listed {
+        add_held(held, found, alloc)?;
+    }
+    Ok(())
+}
+
+fn add_held<'a>(held: &Held, found: &mut Vec<Finding<'a>>, alloc: Global) -> Result<(), AllocError>
+    ensures { OnOk result (map fact found.new.items ≡ map fact found.old.items ++ held_fact held.now ∷ []) }
+{
+    let pointer = pointer_of(held.role, held.at, alloc)?;
+    let pointer = joined(pointer.as_str(), "/data", alloc)?;
+    let cause = Cause::File(FileFault::Held(held.embedded));
+    add(Severity::Error, pointer, cause, found)
+}
+
+/// Adds what stands against a document that was read.
+fn add_document_fault<'a>(
+    kind: Kind,
+    fault: Option<Fault>,
+    text: &[u8],
+    value: &Value,
+    found: &mut Vec<Finding<'a>>,
+    alloc: Global,
+) -> Result<(), AllocError>
+    ensures { OnOk result (map fact found.new.items ≡ map fact found.old.items ++ document_fault fault) }
+{
+    match fault {
+        Some(Fault::NoJson) => {
+            let cause = json_cause_of(text, alloc)?;
+            add(Severity::Error, String::new(alloc), cause, found)
+        }
+        Some(Fault::OtherType) => add_other_type(kind, value, found, alloc),
+        Some(Fault::Ambiguous(member)) => add_ambiguous(member, found, alloc),
+        _ => Ok(()),
+    }
+}
+
+fn add_other_type<'a>(
+    kind: Kind,
+    value: &Value,
+    found: &mut Vec<Finding<'a>>,
+    alloc: Global,
+) -> Result<(), AllocError>
+    ensures { OnOk result (map fact found.new.items ≡ map fact found.old.items ++ document_fault (Some Fault.OtherType)) }
+{
+    let shown = media_type_at(value, "/mediaType", alloc)?;
+    let cause = FileFault::MediaType(kind.own_type().unwrap_or(""), shown);
+    let pointer = String::from_str(alloc, "/mediaType")?;
+    add(Severity::Error, pointer, Cause::File(cause), found)
+}
+
+fn add_ambiguous<'a>(
+    member: OtherMember,
+    found: &mut Vec<Finding<'a>>,
+    alloc: Global,
+) -> Result<(), AllocError>
+    ensures { OnOk result (map fact found.new.items ≡ map fact found.old.items ++ document_fault (Some (Fault.Ambiguous member))) }
+{
+    let pointer = joined("/", member.name(), alloc)?;
+    let cause = Cause::File(FileFault::Ambiguous(member));
+    add(Severity::Error, pointer, cause, found)
+}
+
+fn add<'a>(
+    severity: Severity,
+    pointer: String,
+    cause: Cause<'a>,
+    found: &mut Vec<Finding<'a>>,
+) -> Result<(), AllocError>
+    ensures { OnOk result (map fact found.new.items ≡ map fact found.old.items ++ (string_bytes pointer.entry, fact_in cause.entry) ∷ []) }
+{
+    let finding = Finding {
+        pointer,
+        cause,
+        severity,
+    };
+    found.push(finding)?;
+    Ok(())
+}
+
+/// Adds what stands against a content that is not as it is claimed to be.
+fn add_content_fault<'a>(
+    claim: &Claim,
+    fault: Option<Fault>,
+    found: &mut Vec<Finding<'a>>,
+    alloc: Global,
+) -> Result<(), AllocError>
+    ensures { OnOk result (map fact found.new.items ≡ map fact found.old.items ++ content_fault fault) }
+{
+    let Some(fault) = fault else {
+        return Ok(());
+    };
+    match file_fault(claim, fault, alloc)? {
+        Some(cause) => {
+            let severity = severity_of(claim, fault);
+            add(severity, String::new(alloc), Cause::File(cause), found)
+        }
+        None => Ok(()),
+    }
+}
+
+/// A content that is missing and may be is worth a note.
+fn severity_of(claim: &Claim, fault: Fault) -> Severity {
+    if fault == Fault::Missing && claim.may_be_missing() {
+        Severity::Note
+    } else {
+        Severity::Error
+    }
+}
+
+/// The fault of a file that is not as it is claimed to be; none of a document that is.
+fn file_fault(claim: &Claim, fault: Fault, alloc: Global) -> Result<Option<FileFault>, AllocError>
+    ensures { IfOk result (λ f. content_fault (Some fault) ≡ file_facts f) }
+{
+    Ok(Some(match fault {
+        Fault::Missing => FileFault::Missing(absence_of(claim)),
+        Fault::Unreadable => FileFault::Unreadable,
+        Fault::TooLarge => FileFault::TooLarge,
+        Fault::Shorter(found) => FileFault::Size(claim.size, Some(found)),
+        Fault::Longer => FileFault::Size(claim.size, None),
+        Fault::OtherDigest(found) => {
+            FileFault::Digest(String::from_str(alloc, claim.digest.as_ref())?, found)
+        }
+        Fault::Unjudged => FileFault::Unjudged,
+        Fault::NoJson | Fault::NoDocument | Fault::OtherType | Fault::Ambiguous(_) => {
+            return Ok(None);
+        }
+    }))
+}
+
+/// Why the content of a claim may be missing.
+fn absence_of(claim: &Claim) -> Absence {
+    if claim.role == Role::Subject {
+        Absence::Subject
+    } else if claim.elsewhere {
+        Absence::Elsewhere
+    } else {
+        Absence::Wrong
+    }
+}

@@ -1,0 +1,12 @@
+//! How findings are written.
+
+/// How findings and differences are written.
+#[derive(Clone, Copy, Debug, PartialEq, Eq)]
+pub enum Style {
+    /// Lines for people.
+    Text,
+    /// An object a line (JSON Lines).
+    Json,
+    /// One SARIF 2.1.0 log.
+    Sarif,
+}
