@@ -10,7 +10,7 @@ from rule_books.tree import pascal
 
 VARIANTS = {"linux": "Linux", "windows": "Windows", "solaris": "Solaris", "vm": "Vm", "zos": "Zos", "freebsd": "FreeBsd"}
 LEVELS = {"must": "Must", "stated": "Stated", "should": "Should", "host": "Host"}
-TYPES = ("Check", "Condition", "Key", "Level", "Origin", "Step", "Test")
+TYPES = ("Condition", "Key", "Level", "Origin", "Predicate", "Step", "Test")
 # the rules of one constant
 MOST = 3
 
@@ -40,7 +40,7 @@ def platforms(items):
     """The platforms of a rule."""
     if items == PLATFORMS:
         return "Platforms::Every"
-    return f"Platforms::These({'POSIX' if items == POSIX else array([f'Platform::{VARIANTS[it]}' for it in items])})"
+    return f"Platforms::These({'POSIX' if items == POSIX else array([f'RuntimePlatform::{VARIANTS[it]}' for it in items])})"
 
 
 def array(items):
@@ -77,7 +77,7 @@ def imports(rules, group, model):
     crate = model.crate[group.file]
     words = set(re.findall(r"\w+", re.sub(r'"[^"]*"', "", rules)))
     shared = [it for it in ("POSIX", *(it.upper() for it in model.lists_of(crate))) if it in words]
-    types = sorted({"Rule", "Level", *(it for it in ("Platform", "Platforms", *TYPES) if it in words)})
+    types = sorted({"Rule", "Level", *(it for it in ("Platforms", "RuntimePlatform", *TYPES) if it in words)})
     out = "ghost use Rattle.std.specs.Prelude.{◌≡◌, map};\nghost use Rattle.std.specs.List.{flat_map};\nghost use Rattle.oci_rules.specs.Tables.{rule_of};\n"
     out += f"ghost use Rattle.{crate}.specs.{pascal(group.file)} as defined;\n\n"
     out += f"use crate::lists::{{{', '.join(sorted(shared))}}};\n" if shared else ""
@@ -102,7 +102,7 @@ def book(group, model):
 def lists(model, crate):
     out = "//! Lists of platforms and of texts that rules name.\n"
     if any(it.platforms == POSIX for it in model.descriptions_of(crate)):
-        out += f"use oci_rules::Platform;\n\n/// All but Windows.\npub(crate) const POSIX: &[Platform] = {array([f'Platform::{VARIANTS[it]}' for it in POSIX])};\n"
+        out += f"use oci_rules::RuntimePlatform;\n\n/// All but Windows.\npub(crate) const POSIX: &[RuntimePlatform] = {array([f'RuntimePlatform::{VARIANTS[it]}' for it in POSIX])};\n"
     for name in model.lists_of(crate):
         items = array([f'"{it}"' for it in model.lists[name]])
         out += f"\n/// {model.list_about[name]}\npub(crate) const {name.upper()}: &[&str] = {items};\n"

@@ -30,7 +30,7 @@ def step(it):
     if word != "when":
         return Call("Step", *STEPS[word], tuple(rest))
     origin, way, holds, (check, *arguments) = rest
-    asked = (ORIGINS[origin], Listing(way), holds, Call("Check", *CHECKS[check], tuple(arguments)))
+    asked = (ORIGINS[origin], Listing(way), holds, Call("Predicate", *CHECKS[check], tuple(arguments)))
     return Call("Step", "When", "if_so", (Call("Condition", "Condition", "asks", asked, ("origin", "way", "holds", "check")),))
 
 

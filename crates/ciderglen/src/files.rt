@@ -1,5 +1,5 @@
 //! The files of the system as a store.
-use oci_commands::{Presence, Store};
+use oci_commands::{Files, Presence};
 use oci_content::{Algorithm, Checksum, digest_of_reader};
 use std::alloc::Global;
 use std::fs::Metadata;
@@ -10,21 +10,21 @@ use std::{fs, io};
 
 /// The files of the system, and standard input under the name `-`.
 #[derive(Drop)]
-pub struct FileStore<'a> {
+pub struct SystemFiles<'a> {
     rt: &'a HostRuntime,
 }
 
-impl<'a> FileStore<'a> {
+impl<'a> SystemFiles<'a> {
     /// The files that a program reaches.
-    pub fn new(rt: &'a HostRuntime) -> FileStore<'a> {
-        FileStore { rt }
+    pub fn new(rt: &'a HostRuntime) -> SystemFiles<'a> {
+        SystemFiles { rt }
     }
 }
 
 /// How many bytes are read at once.
 const PIECE: usize = 16384;
 
-impl Store for FileStore<'_> {
+impl Files for SystemFiles<'_> {
     fn read(&mut self, alloc: Global, name: &str) -> io::Result<Vec<u8>> {
         let mut bytes = Vec::new(alloc);
         if name == "-" {

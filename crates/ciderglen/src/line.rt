@@ -8,7 +8,7 @@ use oci_commands::{Asked, Check, Compare, Format, Style, Unknown};
 use oci_content::Algorithm;
 use oci_findings::kind_named;
 use oci_policies::Bump;
-use oci_rules::{Level, Platform, Rule};
+use oci_rules::{Level, Rule, RuntimePlatform};
 use oci_schemas::Kind;
 use std::alloc::{AllocError, Global};
 use std::{env, io};
@@ -189,24 +189,12 @@ fn schema_in<'a>(given: &ArgMatches<'_>) -> Option<Asked<'a>> {
 }
 
 fn level_in(given: &ArgMatches<'_>) -> Level {
-    match given.get_str("level") {
-        Some("must") => Level::Must,
-        Some("stated") => Level::Stated,
-        Some("host") => Level::Host,
-        _ => Level::Should,
-    }
+    let level = given.get_str("level").and_then(Level::from_word);
+    level.unwrap_or(Level::Should)
 }
 
-fn platform_in(given: &ArgMatches<'_>) -> Option<Platform> {
-    match given.get_str("platform")? {
-        "linux" => Some(Platform::Linux),
-        "windows" => Some(Platform::Windows),
-        "solaris" => Some(Platform::Solaris),
-        "vm" => Some(Platform::Vm),
-        "zos" => Some(Platform::Zos),
-        "freebsd" => Some(Platform::FreeBsd),
-        _ => None,
-    }
+fn platform_in(given: &ArgMatches<'_>) -> Option<RuntimePlatform> {
+    RuntimePlatform::from_word(given.get_str("platform")?)
 }
 
 fn unknown_in(given: &ArgMatches<'_>) -> Unknown {

@@ -8,7 +8,7 @@ mod rules;
 mod watch;
 
 use clap::{ArgMatches, Error};
-use files::FileStore;
+use files::SystemFiles;
 use line::{asked, escaped_words, lack_in, matches_of, options_in, status_of, words_of};
 use oci_commands::texts::{complain, complain_of};
 use oci_commands::verify::Options;
@@ -177,7 +177,7 @@ fn policy_in<'a>(
 }
 
 fn run(rt: &HostRuntime, asked: &Asked<'_>) -> u8 {
-    let mut store = FileStore::new(rt);
+    let mut store = SystemFiles::new(rt);
     let mut writer = rt.stdout();
     let mut errors = rt.stderr();
     oci_commands::run(

@@ -1,8 +1,7 @@
 //! The books of rules, for people.
-use oci_findings::render::word_of;
-use oci_findings::{KINDS, RuleBooks, title_of};
-use oci_rules::{Platform, Platforms, Rule, Step};
-use oci_schemas::Kind;
+use oci_findings::RuleBooks;
+use oci_rules::{Platforms, Rule, RuntimePlatform, Step};
+use oci_schemas::{KINDS, Kind};
 use std::alloc::{AllocError, Global};
 
 /// How many platforms there are.
@@ -14,7 +13,7 @@ pub fn rules_of_kind<B: RuleBooks>(
     kind: Kind,
     alloc: Global,
 ) -> Result<String, AllocError> {
-    let mut text = String::from_str(alloc, title_of(kind))?;
+    let mut text = String::from_str(alloc, kind.title())?;
     text.push_str("\n")?;
     let mut told = Vec::new(alloc);
     for book in books.books_of(kind, alloc)? {
@@ -64,7 +63,7 @@ fn push_rules<B: RuleBooks>(
 
 fn push_rule(text: &mut String, rule: &Rule<'_>, alloc: Global) -> Result<(), AllocError> {
     let (name, wanted) = (rule.name, rule.wanted);
-    let (level, section) = (word_of(rule.level), rule.section);
+    let (level, section) = (rule.level.word(), rule.section);
     let row = format!(in alloc; "  {name} [{level}: {section}]: {wanted}\n")?;
     text.push_str(row.as_str())
 }
@@ -125,7 +124,7 @@ fn push_head(
     kind: Kind,
     alloc: Global,
 ) -> Result<(), AllocError> {
-    text.push_str(title_of(kind))?;
+    text.push_str(kind.title())?;
     text.push_str("\n")?;
     push_rule(text, rule, alloc)
 }
@@ -144,11 +143,11 @@ fn place_line(rule: &Rule<'_>, alloc: Global) -> Result<String, AllocError> {
     Ok(line)
 }
 
-fn push_platforms(line: &mut String, platforms: &[Platform]) -> Result<(), AllocError> {
+fn push_platforms(line: &mut String, platforms: &[RuntimePlatform]) -> Result<(), AllocError> {
     let mut mark = " on ";
     for platform in platforms {
         line.push_str(mark)?;
-        line.push_str(platform_word(*platform))?;
+        line.push_str(platform.word())?;
         mark = ", ";
     }
     Ok(())
@@ -170,15 +169,4 @@ fn push_place(line: &mut String, place: &[Step<'_>]) -> Result<(), AllocError> {
         mark = "/";
     }
     Ok(())
-}
-
-fn platform_word(platform: Platform) -> &'static str {
-    match platform {
-        Platform::Linux => "linux",
-        Platform::Windows => "windows",
-        Platform::Solaris => "solaris",
-        Platform::Vm => "vm",
-        Platform::Zos => "zos",
-        Platform::FreeBsd => "freebsd",
-    }
 }

@@ -13,7 +13,7 @@ ghost use Rattle.oci_commands.specs.Done.{IsStatus};
 
 use crate::asked::Format;
 use crate::contents::digest_line;
-use crate::store::Store;
+use crate::files::Files;
 use crate::texts::{complain, complain_of, is_wrong, report_findings};
 use oci_base::{OciSpecError, Result, line_of};
 use oci_content::Algorithm;
@@ -81,7 +81,7 @@ fn pretty_form(kind: Kind, bytes: &[u8], alloc: Global) -> Result<Canonical>
 /// Writes the canonical form of a file, or compares the file with it. Returns 0 if that was done, 1 if the file holds no valid document
 /// or is to be compared and is not canonical, and 3 if it could not be read or written.
 #[tactic(auto, using(crate::proofs::Held::formats_held, crate::proofs::Held::held))]
-pub fn format<S: Store, W: Write, E: Write>(
+pub fn format<S: Files, W: Write, E: Write>(
     asked: &Format<'_>,
     alloc: Global,
     store: &mut S,
@@ -104,7 +104,7 @@ pub fn format<S: Store, W: Write, E: Write>(
     }
 }
 
-fn format_bytes<S: Store, W: Write, E: Write>(
+fn format_bytes<S: Files, W: Write, E: Write>(
     asked: &Format<'_>,
     bytes: &[u8],
     alloc: Global,
@@ -131,7 +131,7 @@ fn format_bytes<S: Store, W: Write, E: Write>(
 }
 
 /// The same of a document of this kind, of which this is the value, if no member is lost unasked.
-fn format_kept<S: Store, W: Write, E: Write>(
+fn format_kept<S: Files, W: Write, E: Write>(
     kind: Kind,
     asked: &Format<'_>,
     before: &Value,
@@ -182,7 +182,7 @@ fn would_lose<E: Write>(
 }
 
 /// The same of a document of this kind, of which this is the value.
-fn format_as<S: Store, W: Write, E: Write>(
+fn format_as<S: Files, W: Write, E: Write>(
     kind: Kind,
     asked: &Format<'_>,
     before: &Value,
@@ -233,7 +233,7 @@ fn say_what_changes<E: Write>(
 }
 
 /// Writes the text where it belongs, or compares it.
-fn finish<S: Store, W: Write, E: Write>(
+fn finish<S: Files, W: Write, E: Write>(
     asked: &Format<'_>,
     bytes: &[u8],
     text: &String,

@@ -5,7 +5,7 @@ ghost use Rattle.oci_findings.specs.Checks.{IsRight, IsWrong};
 ghost use Rattle.oci_commands.specs.Done.{IsStatus};
 
 use crate::asked::Check;
-use crate::store::Store;
+use crate::files::Files;
 use crate::texts::complain_of;
 use oci_base::Result;
 use oci_findings::examine::examine;
@@ -25,7 +25,7 @@ pub struct Tally {
 
 /// Writes what is wrong with each file. Returns 0 if nothing is, 1 if something is, and 3 if a file could not be read, which a line on
 /// standard error says; the others are checked all the same. Fails if the findings cannot be written, or if out of memory.
-pub fn check<S: Store, B: RuleBooks, W: Write, E: Write>(
+pub fn check<S: Files, B: RuleBooks, W: Write, E: Write>(
     books: &B,
     asked: &Check<'_>,
     alloc: Global,
@@ -58,7 +58,7 @@ fn status_of(tally: Tally) -> u8
     }
 }
 
-fn check_files<S: Store, B: RuleBooks, W: Write, E: Write>(
+fn check_files<S: Files, B: RuleBooks, W: Write, E: Write>(
     books: &B,
     asked: &Check<'_>,
     alloc: Global,
@@ -93,7 +93,7 @@ fn check_files<S: Store, B: RuleBooks, W: Write, E: Write>(
 }
 
 /// Checks a file, and notes what was found out.
-fn check_file<S: Store, B: RuleBooks, W: Write, E: Write>(
+fn check_file<S: Files, B: RuleBooks, W: Write, E: Write>(
     books: &B,
     asked: &Check<'_>,
     name: &str,

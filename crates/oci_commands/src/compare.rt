@@ -8,12 +8,11 @@ ghost use Rattle.oci_commands.specs.Done.{IsStatus};
 
 use crate::asked::{Compare, Style};
 use crate::canonical::normal_value;
-use crate::store::Store;
+use crate::files::Files;
 use crate::texts::{complain, complain_of, is_wrong};
 use oci_base::{Result, line_of};
 use oci_diff::{Change, Difference, differences};
 use oci_findings::inspect::kind_of;
-use oci_findings::kinds::title_of;
 use oci_json::write_text;
 use oci_schemas::Kind;
 use serde_json::Value;
@@ -33,7 +32,7 @@ pub enum Side {
 
 /// Writes what differs between the canonical forms of two documents. Returns 0 if nothing does, 1 if something does or one is invalid,
 /// and 3 if one could not be read.
-pub fn compare<S: Store, W: Write, E: Write>(
+pub fn compare<S: Files, W: Write, E: Write>(
     asked: &Compare<'_>,
     alloc: Global,
     store: &mut S,
@@ -70,7 +69,7 @@ fn say_kinds<E: Write>(
     errors: &mut E,
 ) -> Result<()> {
     let (before, after) = (asked.before, asked.after);
-    let (first, second) = (title_of(kind), title_of(other));
+    let (first, second) = (kind.title(), other.title());
     let text = format!(in alloc; "ciderglen: {before} is {first}, and {after} is {second}")?;
     complain(line_of(text.as_str(), alloc)?.as_str(), errors);
     Ok(())
@@ -97,7 +96,7 @@ fn write_differences<W: Write>(
 }
 
 /// Reads the canonical form of a document.
-fn read_side<S: Store, E: Write>(
+fn read_side<S: Files, E: Write>(
     asked: Option<Kind>,
     name: &str,
     alloc: Global,

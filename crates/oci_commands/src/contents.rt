@@ -6,7 +6,7 @@ ghost use Rattle.oci_base.specs.Escaped.{escaped};
 ghost use Rattle.oci_commands.specs.Done.{IsStatus, AppendsEach};
 ghost use Rattle.oci_commands.specs.Texts.{IsFileLine};
 
-use crate::store::Store;
+use crate::files::Files;
 use crate::texts::complain_of;
 use oci_base::{Result, escaped};
 use oci_content::{Algorithm, Checksum, digest_of};
@@ -16,7 +16,7 @@ use std::io::Write;
 
 /// Writes the digest of each file, a line each. Returns 0 if that was done, and 3 if a file could not be read, which a line on standard
 /// error says; those of the others are written all the same. Fails if they cannot be written, or if out of memory.
-pub fn file_digests<S: Store, W: Write, E: Write>(
+pub fn file_digests<S: Files, W: Write, E: Write>(
     algorithm: Algorithm,
     files: &[&str],
     alloc: Global,
@@ -38,7 +38,7 @@ pub fn file_digests<S: Store, W: Write, E: Write>(
 }
 
 /// Writes the line of a file, and returns whether it could be read.
-fn file_digest<S: Store, W: Write, E: Write>(
+fn file_digest<S: Files, W: Write, E: Write>(
     algorithm: Algorithm,
     name: &str,
     alloc: Global,

@@ -7,14 +7,14 @@ pub mod canonical;
 pub mod check;
 pub mod compare;
 pub mod contents;
+pub mod files;
 pub mod outline;
 pub mod program;
 pub mod shown;
-pub mod store;
 pub mod texts;
 pub mod verify;
 
 pub use asked::{Asked, Check, Compare, Format, Style, Tree, Unknown};
+pub use files::{Files, Presence};
 pub use oci_findings::RuleBooks;
 pub use program::run;
-pub use store::{Presence, Store};

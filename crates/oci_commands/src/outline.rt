@@ -3,12 +3,11 @@ ghost use Rattle.std.specs.Prelude.{IfOk};
 ghost use Rattle.oci_commands.specs.Done.{IsStatus};
 
 use crate::asked::Tree;
-use crate::store::{Presence, Store};
+use crate::files::{Files, Presence};
 use crate::texts::{complain_of, is_wrong};
 use oci_base::Result;
 use oci_findings::inspect::kind_of;
 use oci_findings::outline::{Child, below, children_of, has_tree, heading, push_row};
-use oci_findings::title_of;
 use oci_json::write_text;
 use oci_layout::{DOCUMENT_LIMIT, Kind as ContentKind, blob_path, read_document};
 use oci_schemas::Kind;
@@ -34,7 +33,7 @@ struct Row {
 /// Writes a document as a tree, and the documents in its image layout below their descriptors. Documents are regular files of at most
 /// 4 MiB. Returns 0 if that was done, 1 if the document is invalid or of a kind that has no tree, or if a content of the layout is marked
 /// as missing, unreadable, too large or no document of its media type, and 3 if the document could not be read.
-pub fn tree<S: Store, W: Write, E: Write>(
+pub fn tree<S: Files, W: Write, E: Write>(
     asked: &Tree<'_>,
     alloc: Global,
     store: &mut S,
@@ -52,7 +51,7 @@ pub fn tree<S: Store, W: Write, E: Write>(
     }
 }
 
-fn tree_of_bytes<S: Store, W: Write, E: Write>(
+fn tree_of_bytes<S: Files, W: Write, E: Write>(
     asked: &Tree<'_>,
     bytes: &[u8],
     alloc: Global,
@@ -72,7 +71,7 @@ fn tree_of_bytes<S: Store, W: Write, E: Write>(
     }
 }
 
-fn tree_of_value<S: Store, W: Write, E: Write>(
+fn tree_of_value<S: Files, W: Write, E: Write>(
     asked: &Tree<'_>,
     kind: Kind,
     value: &Value,
@@ -94,14 +93,14 @@ fn tree_of_value<S: Store, W: Write, E: Write>(
 }
 
 fn say_no_tree<E: Write>(name: &str, kind: Kind, alloc: Global, errors: &mut E) -> Result<()> {
-    let title = title_of(kind);
+    let title = kind.title();
     let text = format!(in alloc; "{title} has no tree")?;
     complain_of(name, &text, alloc, errors);
     Ok(())
 }
 
 /// Draws what is below a document, and returns whether something is missing.
-fn draw<S: Store>(
+fn draw<S: Files>(
     layout: Option<&str>,
     value: &Value,
     alloc: Global,
@@ -114,7 +113,7 @@ fn draw<S: Store>(
 }
 
 /// Draws rows and those below them, and returns whether something is missing.
-fn draw_rows<S: Store>(
+fn draw_rows<S: Files>(
     layout: Option<&str>,
     rows: &mut Vec<Row>,
     alloc: Global,
@@ -135,7 +134,7 @@ fn draw_rows<S: Store>(
 }
 
 /// Draws a row, adds those below it, and returns whether its content is there, as far as that is asked.
-fn draw_row<S: Store>(
+fn draw_row<S: Files>(
     layout: Option<&str>,
     row: &Row,
     rows: &mut Vec<Row>,
@@ -150,7 +149,7 @@ fn draw_row<S: Store>(
 }
 
 /// The same of a row whose content is under a path.
-fn draw_at<S: Store>(
+fn draw_at<S: Files>(
     path: &str,
     row: &Row,
     rows: &mut Vec<Row>,

@@ -8,9 +8,9 @@ use crate::canonical::format;
 use crate::check::check;
 use crate::compare::compare;
 use crate::contents::file_digests;
+use crate::files::Files;
 use crate::outline::tree;
 use crate::shown::{rules, schema};
-use crate::store::Store;
 use crate::texts::{complain, complain_of, digests, pin, references};
 use oci_base::{OciSpecError, Result};
 use oci_findings::RuleBooks;
@@ -20,7 +20,7 @@ use std::io::Write;
 
 /// Runs a command, and returns the exit status: 0 if it was done and nothing is wrong, 1 if something is wrong with the input, and 3 if
 /// a file could not be read or written, or out of memory. A failed write to standard error changes nothing.
-pub fn run<S: Store, B: RuleBooks, W: Write, E: Write>(
+pub fn run<S: Files, B: RuleBooks, W: Write, E: Write>(
     books: &B,
     asked: &Asked<'_>,
     alloc: Global,
@@ -42,7 +42,7 @@ pub fn run<S: Store, B: RuleBooks, W: Write, E: Write>(
     }
 }
 
-fn perform<S: Store, B: RuleBooks, W: Write, E: Write>(
+fn perform<S: Files, B: RuleBooks, W: Write, E: Write>(
     books: &B,
     asked: &Asked<'_>,
     alloc: Global,

@@ -13,7 +13,7 @@ ghost use Rattle.oci_commands.specs.Refused.{IsAtFault, IsFault, IsNoReference, 
 ghost use Rattle.oci_commands.specs.Texts.{IsReference, AreReferenceLines, AreDigestLines};
 
 use crate::asked::Style;
-use crate::store::Store;
+use crate::files::Files;
 use json::Writer;
 use oci_base::{OciSpecError, Result, line_of};
 use oci_doc_run::{Command, Refusal};
@@ -278,7 +278,7 @@ pub fn digests<W: Write, E: Write>(
 /// Writes the reference with the digest of the descriptor in a file. Returns 0 if that was done, 1 if the text is no reference or the
 /// file holds no descriptor, and 3 if the file could not be read; a line on standard error says why.
 #[tactic(auto, using(crate::proofs::Held::pinned_held))]
-pub fn pin<S: Store, W: Write, E: Write>(
+pub fn pin<S: Files, W: Write, E: Write>(
     text: &str,
     file: &str,
     alloc: Global,

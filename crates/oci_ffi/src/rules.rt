@@ -22,7 +22,7 @@ use crate::status::{
 };
 use oci_json::value_from_slice;
 use oci_rule_books::rules_of;
-use oci_rules::{Broken, Level, Platform, Rule, broken};
+use oci_rules::{Broken, Level, Rule, RuntimePlatform, broken};
 use oci_schemas::Kind;
 use serde_json::Value;
 use std::alloc::{AllocError, Global};
@@ -80,7 +80,7 @@ fn lines_of(found: &Vec<Broken>, alloc: Global) -> Result<String, AllocError> {
 fn found_in(
     kind: Kind,
     last: Level,
-    platform: Platform,
+    platform: RuntimePlatform,
     value: &Value,
     alloc: Global,
 ) -> Result<Findings, AllocError>
@@ -99,7 +99,7 @@ fn write(
     alloc: Global,
     kind: Kind,
     last: Level,
-    platform: Platform,
+    platform: RuntimePlatform,
     value: &Value,
     buffer: &mut [u8],
     output_len: &mut usize,

@@ -15,7 +15,7 @@ use Rattle.oci_rules.specs.Listed.{all_broken}
 use Rattle.oci_rules.specs.Rules as rules
 use Rattle.oci_rules.specs.Rules.{Level, must, stated, should, host}
 use Rattle.oci_rules.specs.Tables.{level_of, platform_of, rule_of}
-use Rattle.oci_rules.specs.declared.rule.Platform.{Platform}
+use Rattle.oci_rules.specs.declared.rule.RuntimePlatform.{RuntimePlatform}
 use Rattle.oci_findings.specs.declared.asked.Check.{Check}
 use Rattle.oci_findings.specs.declared.asked.Unknown.{Unknown}
 use Rattle.oci_findings.specs.declared.asked.Unknown.TheVariants.{Deny, Warn, Allow}
@@ -74,7 +74,7 @@ abbrev pub asked_rules : (Kind → List rules.Rule) → Check → Kind → List 
 asked_rules books a kind = rules_if a.rules (books kind) ++ map rule_of a.policy.now
 
 -- the platform that is asked for, or the one that the document says
-abbrev pub platform_asked : Option Platform → Data → rules.Platform
+abbrev pub platform_asked : Option RuntimePlatform → Data → rules.Platform
 platform_asked (Some platform) d = platform_of platform
 platform_asked None d = platform_in d
 

@@ -3,8 +3,8 @@ use Rattle.std.specs.Prelude.{ℕ, Bool, true, false, List, [], ◌∷◌, ◌++
 use Rattle.std.specs.Fmt.{signed_decimal}
 use Rattle.oci_schema.specs.declared.presence.Scalar.{Scalar}
 use Rattle.oci_schema.specs.declared.presence.Scalar.TheVariants as scalar
-use Rattle.oci_schema.specs.declared.violation.Kind.{Kind}
-use Rattle.oci_schema.specs.declared.violation.Kind.TheVariants as kind
+use Rattle.oci_schema.specs.declared.violation.ExpectedKind.{ExpectedKind}
+use Rattle.oci_schema.specs.declared.violation.ExpectedKind.TheVariants as kind
 use Rattle.oci_schema.specs.declared.violation.Expected.{Expected}
 use Rattle.oci_schema.specs.declared.violation.Expected.TheVariants as expected
 
@@ -35,7 +35,7 @@ scalar_words scalar.Detail = codes "a value other than null whose numbers are 64
 scalar_words scalar.FreeValues = codes "an object whose numbers are 64-bit integers"
 
 -- what a value of a kind is
-abbrev pub kind_words : Kind → List ℕ
+abbrev pub kind_words : ExpectedKind → List ℕ
 kind_words (kind.Scalar s) = scalar_words s
 kind_words kind.Array = codes "an array"
 kind_words kind.Object = codes "an object"

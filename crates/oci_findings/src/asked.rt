@@ -1,6 +1,6 @@
 //! What is checked.
 use crate::Style;
-use oci_rules::{Level, Platform, Rule};
+use oci_rules::{Level, Rule, RuntimePlatform};
 use oci_schemas::Kind;
 
 /// What is done with members that the schema does not list.
@@ -26,7 +26,7 @@ pub struct Check<'a> {
     /// The weakest level of rules that are checked, in the order must, stated, should, host.
     pub level: Level,
     /// The platform of the documents, or none where they say it.
-    pub platform: Option<Platform>,
+    pub platform: Option<RuntimePlatform>,
     /// What is done with members that the schema does not list.
     pub unknown: Unknown,
     /// How findings are written.

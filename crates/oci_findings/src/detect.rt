@@ -1,9 +1,8 @@
 //! Which kind of document a value is.
-use crate::kinds::{KINDS, title_of};
 use json::Element;
 use oci_json_tape::{find, text};
 use oci_schema::{Member, Part, Records, Schema};
-use oci_schemas::{Kind, OciRecords};
+use oci_schemas::{KINDS, Kind, OciRecords};
 use serde_json::Value;
 use std::alloc::{AllocError, Global};
 
@@ -163,7 +162,7 @@ fn push_possible(text: &mut String, value: &Value) -> Result<(), AllocError> {
     for kind in &KINDS {
         if is_possible(*kind, value) {
             text.push_str(mark)?;
-            text.push_str(title_of(*kind))?;
+            text.push_str(kind.title())?;
             mark = ", ";
         }
     }

@@ -16,7 +16,7 @@ use crate::repeated::warn_of_repeated;
 use crate::rulebooks::RuleBooks;
 use crate::shown::shown_at;
 use crate::{Cause, Finding, Report, Severity};
-use oci_rules::{Broken, Level, Platform, Rule, broken, platform_of_document};
+use oci_rules::{Broken, Level, Rule, RuntimePlatform, broken, platform_of_document};
 use oci_schema::bytes::Workspace;
 use oci_schema::{UnknownMember, suggestion, unknown_members};
 use oci_schemas::{Kind, OciRecords};
@@ -143,7 +143,7 @@ fn rule_findings<'a, B: RuleBooks>(
 fn findings_by<'a>(
     books: &Vec<&'a [Rule<'a>]>,
     level: Level,
-    platform: Platform,
+    platform: RuntimePlatform,
     value: &Value,
     warnings: &mut Vec<Finding<'a>>,
     alloc: Global,
@@ -189,7 +189,7 @@ fn books_if<B: RuleBooks>(
 }
 
 /// The platform that is asked for, or the one that the document says.
-fn platform_for(asked: Option<Platform>, value: &Value) -> Platform
+fn platform_for(asked: Option<RuntimePlatform>, value: &Value) -> RuntimePlatform
     ensures { platform_of result ≡ platform_asked asked (view value.now) }
 {
     match asked {

@@ -11,7 +11,7 @@ ghost use Rattle.oci_findings.specs.Checks.{IsAllowed, IsAsked, IsReading};
 
 use crate::detect::{Detected, detect, explain_open};
 use crate::shown::{json_cause, violation_findings};
-use crate::{Cause, Finding, Report, Severity, name_of, title_of};
+use crate::{Cause, Finding, Report, Severity};
 use oci_schema::violations;
 use oci_schemas::{Kind, OciRecords};
 use serde_json::Value;
@@ -149,7 +149,7 @@ fn other_kind(asked: Kind, name: &str, value: &Value) -> Option<Kind> {
 
 /// That a document looks like one of this kind.
 fn looks_like<'a>(kind: Kind, alloc: Global) -> Result<Finding<'a>, AllocError> {
-    let (title, word) = (title_of(kind), name_of(kind));
+    let (title, word) = (kind.title(), kind.word());
     let text = format!(in alloc; "this looks like {title} (--kind {word})")?;
     Ok(at_start(Cause::Kind(text), alloc))
 }

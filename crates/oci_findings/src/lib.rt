@@ -30,7 +30,7 @@ pub use contents::{content_findings, content_report, document_findings};
 pub use detect::Detected;
 pub use file_fault::{Absence, FileFault};
 pub use finding::{Cause, Finding, Severity};
-pub use kinds::{KINDS, kind_named, name_of, title_of};
+pub use kinds::kind_named;
 pub use report::Report;
 pub use reporter::Reporter;
 pub use rulebooks::RuleBooks;

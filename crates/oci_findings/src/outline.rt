@@ -2,7 +2,6 @@
 ghost use Rattle.std.specs.Prelude.{◌≡◌, ◌++◌, ℕ, List, IfOk, OnOk, string_bytes};
 ghost use Rattle.oci_base.specs.Escaped.{IsLine};
 
-use crate::kinds::title_of;
 use oci_base::line_of;
 use oci_schemas::Kind;
 use serde_json::Value;
@@ -33,7 +32,7 @@ pub fn has_tree(kind: Kind) -> bool {
 pub fn heading(name: &str, kind: Kind, alloc: Global) -> Result<String, AllocError>
     ensures { IfOk result (λ t. IsLine (string_bytes t)) }
 {
-    let title = title_of(kind);
+    let title = kind.title();
     let text = format!(in alloc; "{name}: {title}")?;
     line_of(text.as_str(), alloc)
 }

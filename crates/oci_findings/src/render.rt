@@ -9,18 +9,8 @@ use crate::place::Place;
 use crate::report::Report;
 use json::Writer;
 use oci_base::line_of;
-use oci_rules::{Level, Rule};
+use oci_rules::Rule;
 use std::alloc::{AllocError, Global};
-
-/// The word of a level.
-pub fn word_of(level: Level) -> &'static str {
-    match level {
-        Level::Must => "must",
-        Level::Stated => "stated",
-        Level::Should => "should",
-        Level::Host => "host",
-    }
-}
 
 /// The rule that a finding says is broken, if it is one of a specification or policy.
 fn rule_in<'a>(finding: &Finding<'a>) -> Option<&'a Rule<'a>> {
@@ -99,7 +89,7 @@ fn push_mark(text: &mut String, finding: &Finding<'_>) -> Result<(), AllocError>
 
 fn push_requirement(text: &mut String, rule: &Rule<'_>) -> Result<(), AllocError> {
     text.push_str(", ")?;
-    text.push_str(word_of(rule.level))?;
+    text.push_str(rule.level.word())?;
     text.push_str(": ")?;
     text.push_str(rule.section)
 }
@@ -213,7 +203,7 @@ fn put_claims(out: &mut Writer, claims: &Claims, alloc: Global) -> Result<(), Al
 }
 
 fn put_requirement(out: &mut Writer, rule: &Rule<'_>) -> Result<(), AllocError> {
-    text_member(out, "requirement", word_of(rule.level))?;
+    text_member(out, "requirement", rule.level.word())?;
     text_member(out, "section", rule.section)
 }
 

@@ -1,5 +1,4 @@
 //! The members of a kind of documents.
-use crate::kinds::title_of;
 use crate::wording::push_scalar;
 use oci_schema::{DefaultValue, Member, Part, Presence, Record, Records, Schema};
 use oci_schemas::{Kind, OciRecords};
@@ -12,7 +11,7 @@ const RECORDS: usize = 100;
 pub fn table_of(kind: Kind, alloc: Global) -> Result<String, AllocError> {
     let mut text = String::new(alloc);
     let mut places = Vec::new(alloc);
-    text.push_str(title_of(kind))?;
+    text.push_str(kind.title())?;
     text.push_str("\n")?;
     note(kind.schema(), &mut places)?;
     for index in 0..RECORDS {

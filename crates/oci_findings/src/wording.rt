@@ -3,7 +3,7 @@ ghost use Rattle.std.specs.Prelude.{◌≡◌, ◌++◌, OnOk, codes, map, strin
 ghost use Rattle.std.specs.Fmt.{signed_decimal};
 ghost use Rattle.oci_findings.specs.Wording.{scalar_words, kind_words, expected_words, marked, mark_text};
 
-use oci_schema::{Expected, Kind, Scalar};
+use oci_schema::{Expected, ExpectedKind, Scalar};
 use std::alloc::{AllocError, Global};
 
 /// Adds what a scalar may be.
@@ -78,13 +78,13 @@ fn push_marked(text: &mut String, mark: &str, name: &str) -> Result<(), AllocErr
 }
 
 /// Adds what a value of a kind is.
-fn push_kind(text: &mut String, kind: &Kind, alloc: Global) -> Result<(), AllocError>
+fn push_kind(text: &mut String, kind: &ExpectedKind, alloc: Global) -> Result<(), AllocError>
     ensures { OnOk result (string_bytes text.new ≡ string_bytes text.old ++ kind_words kind.now) }
 {
     match kind {
-        Kind::Scalar(scalar) => push_scalar(text, scalar, alloc),
-        Kind::Array => text.push_str("an array"),
-        Kind::Object => text.push_str("an object"),
+        ExpectedKind::Scalar(scalar) => push_scalar(text, scalar, alloc),
+        ExpectedKind::Array => text.push_str("an array"),
+        ExpectedKind::Object => text.push_str("an object"),
     }
 }
 
@@ -106,7 +106,7 @@ pub fn push_expected(
     }
 }
 
-fn push_missing(text: &mut String, kind: &Kind, alloc: Global) -> Result<(), AllocError>
+fn push_missing(text: &mut String, kind: &ExpectedKind, alloc: Global) -> Result<(), AllocError>
     ensures { OnOk result (string_bytes text.new ≡ string_bytes text.old ++ (codes "required member is missing (" ++ (kind_words kind.now ++ codes ")"))) }
 {
     text.push_str("required member is missing (")?;

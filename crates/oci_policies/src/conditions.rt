@@ -13,7 +13,7 @@ use crate::values::{
     boolean, bounds, found, kept_under, sole_other, table_of, texts, texts_under, unknown, yes,
 };
 use bumpalo::Bump;
-use oci_rules::{Check, Condition, Origin};
+use oci_rules::{Condition, Origin, Predicate};
 use std::alloc::Global;
 use toml::{Table, Value};
 
@@ -48,32 +48,37 @@ fn texts_or_none<'a>(
 }
 
 #[tactic(auto, using(crate::proofs::Both::first_missing, crate::proofs::Both::second_missing, crate::proofs::Both::both_there, crate::proofs::Both::mapped_missing))]
-fn item<'a>(arena: &'a Bump, table: &Table) -> Result<Check<'a>, Fault>
+fn item<'a>(arena: &'a Bump, table: &Table) -> Result<Predicate<'a>, Fault>
     ensures { Reads check_of result (conditions.item_of (table_view table.now)) }
 {
     let name = kept_under(arena, "name", table)?;
     let values = texts_under(arena, "values", table)?;
     let with = texts_or_none(arena, "with", table)?;
     let without = texts_or_none(arena, "without", table)?;
-    Ok(Check::ListsItem(name, values, with, without))
+    Ok(Predicate::ListsItem(name, values, with, without))
 }
 
 /// A check, by its name.
-fn check<'a>(arena: &'a Bump, key: &str, value: &Value, alloc: Global) -> Result<Check<'a>, Fault>
+fn check<'a>(
+    arena: &'a Bump,
+    key: &str,
+    value: &Value,
+    alloc: Global,
+) -> Result<Predicate<'a>, Fault>
     ensures { Reads check_of result (conditions.check_named key.now (view value.now)) }
 {
     match key {
         "there" => {
             yes("there", value)?;
-            Ok(Check::There)
+            Ok(Predicate::There)
         }
-        "one_of" => Ok(Check::OneOf(texts(arena, "one_of", value)?)),
-        "boolean" => Ok(Check::Boolean(boolean("boolean", value)?)),
+        "one_of" => Ok(Predicate::OneOf(texts(arena, "one_of", value)?)),
+        "boolean" => Ok(Predicate::Boolean(boolean("boolean", value)?)),
         "within" => {
             let (low, high) = bounds("within", value, alloc)?;
-            Ok(Check::Within(low, high))
+            Ok(Predicate::Within(low, high))
         }
-        "lists" => Ok(Check::Lists(texts(arena, "lists", value)?)),
+        "lists" => Ok(Predicate::Lists(texts(arena, "lists", value)?)),
         "lists_item" => item(arena, table_of(item_names(), "lists_item", value, alloc)?),
         _ => Err(unknown(key, alloc)),
     }
@@ -103,7 +108,7 @@ fn holds(table: &Table) -> Result<bool, Fault>
     }
 }
 
-fn checked<'a>(arena: &'a Bump, table: &Table, alloc: Global) -> Result<Check<'a>, Fault>
+fn checked<'a>(arena: &'a Bump, table: &Table, alloc: Global) -> Result<Predicate<'a>, Fault>
     ensures { Reads check_of result (conditions.checked_in (table_view table.now)) }
 {
     let (key, value) = sole_other(condition_names(), table, alloc)?;

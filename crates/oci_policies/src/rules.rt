@@ -18,7 +18,7 @@ use crate::places::{steps, steps_of};
 use crate::values::{found, kept_under, sole_other, text, under};
 use bumpalo::Bump;
 use bumpalo::collections::into_bump_slice;
-use oci_rules::{Level, Platform, Platforms, Rule, Step, Test};
+use oci_rules::{Level, Platforms, Rule, RuntimePlatform, Step, Test};
 use std::alloc::Global;
 use toml::{Table, Value};
 
@@ -48,10 +48,10 @@ fn level(table: &Table) -> Result<Level, Fault>
     }
 }
 
-fn platform(value: &Value) -> Result<Platform, Fault>
+fn platform(value: &Value) -> Result<RuntimePlatform, Fault>
     ensures { Reads platform_of result (policies.platform_in (view value.now)) }
 {
-    match Platform::from_word(text("platforms", value)?) {
+    match RuntimePlatform::from_word(text("platforms", value)?) {
         Some(platform) => Ok(platform),
         None => Err(expected(
             "platforms",
@@ -60,7 +60,7 @@ fn platform(value: &Value) -> Result<Platform, Fault>
     }
 }
 
-fn listed_platforms<'a>(arena: &'a Bump, value: &Value) -> Result<&'a [Platform], Fault>
+fn listed_platforms<'a>(arena: &'a Bump, value: &Value) -> Result<&'a [RuntimePlatform], Fault>
     ensures { Reads (λ ps. map platform_of ps.now) result (list_in policies.platform_in (view value.now)) }
 {
     match value.as_array() {
@@ -70,7 +70,7 @@ fn listed_platforms<'a>(arena: &'a Bump, value: &Value) -> Result<&'a [Platform]
 }
 
 #[tactic(auto, using(crate::proofs::Lists::behind_nothing, crate::proofs::Lists::behind_more))]
-fn each_platform<'a>(arena: &'a Bump, items: &Vec<Value>) -> Result<&'a [Platform], Fault>
+fn each_platform<'a>(arena: &'a Bump, items: &Vec<Value>) -> Result<&'a [RuntimePlatform], Fault>
     ensures { Reads (λ ps. map platform_of ps.now) result (each policies.platform_in (items_view items.now.items)) }
 {
     let mut found = Vec::new(arena);

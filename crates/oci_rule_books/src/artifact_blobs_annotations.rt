@@ -7,7 +7,7 @@ ghost use Rattle.oci_rule_books.specs.Others as defined;
 
 use crate::lists::{LABEL_SCHEMA_KEYS, OPENCONTAINERS_KEYS};
 use oci_grammars::Grammar;
-use oci_rules::{Check, Condition, Level, Origin, Platforms, Rule, Step, Test};
+use oci_rules::{Condition, Level, Origin, Platforms, Predicate, Rule, Step, Test};
 
 static RULES_1: [Rule<'static>; 3] = [
     rule! { "annotation-key-reverse-domain", Should, "image annotations.md#rules", "a key in reverse domain notation, as com.example.myKey", Platforms::Every,
@@ -17,43 +17,43 @@ static RULES_1: [Rule<'static>; 3] = [
         [Step::Member("blobs"), Step::EachItem, Step::Member("annotations"), Step::EachName],
         Test::Reserved("org.opencontainers.", OPENCONTAINERS_KEYS) },
     rule! { "annotation-created-date", Stated, "image annotations.md#pre-defined-annotation-keys", "a date and time (RFC 3339)", Platforms::Every,
-        [Step::Member("blobs"), Step::EachItem, Step::Member("annotations"), Step::Member("org.opencontainers.image.created"), Step::When(Condition { origin: Origin::Part, way: &[], holds: false, check: Check::OneOf(&[""]) })],
+        [Step::Member("blobs"), Step::EachItem, Step::Member("annotations"), Step::Member("org.opencontainers.image.created"), Step::When(Condition { origin: Origin::Part, way: &[], holds: false, check: Predicate::OneOf(&[""]) })],
         Test::Text(Grammar::DateTime) },
 ];
 
 static RULES_2: [Rule<'static>; 3] = [
     rule! { "annotation-url", Stated, "image annotations.md#pre-defined-annotation-keys", "a URI with a scheme", Platforms::Every,
-        [Step::Member("blobs"), Step::EachItem, Step::Member("annotations"), Step::Member("org.opencontainers.image.url"), Step::When(Condition { origin: Origin::Part, way: &[], holds: false, check: Check::OneOf(&[""]) })],
+        [Step::Member("blobs"), Step::EachItem, Step::Member("annotations"), Step::Member("org.opencontainers.image.url"), Step::When(Condition { origin: Origin::Part, way: &[], holds: false, check: Predicate::OneOf(&[""]) })],
         Test::Text(Grammar::Uri) },
     rule! { "annotation-url", Stated, "image annotations.md#pre-defined-annotation-keys", "a URI with a scheme", Platforms::Every,
-        [Step::Member("blobs"), Step::EachItem, Step::Member("annotations"), Step::Member("org.opencontainers.image.documentation"), Step::When(Condition { origin: Origin::Part, way: &[], holds: false, check: Check::OneOf(&[""]) })],
+        [Step::Member("blobs"), Step::EachItem, Step::Member("annotations"), Step::Member("org.opencontainers.image.documentation"), Step::When(Condition { origin: Origin::Part, way: &[], holds: false, check: Predicate::OneOf(&[""]) })],
         Test::Text(Grammar::Uri) },
     rule! { "annotation-url", Stated, "image annotations.md#pre-defined-annotation-keys", "a URI with a scheme", Platforms::Every,
-        [Step::Member("blobs"), Step::EachItem, Step::Member("annotations"), Step::Member("org.opencontainers.image.source"), Step::When(Condition { origin: Origin::Part, way: &[], holds: false, check: Check::OneOf(&[""]) })],
+        [Step::Member("blobs"), Step::EachItem, Step::Member("annotations"), Step::Member("org.opencontainers.image.source"), Step::When(Condition { origin: Origin::Part, way: &[], holds: false, check: Predicate::OneOf(&[""]) })],
         Test::Text(Grammar::Uri) },
 ];
 
 static RULES_3: [Rule<'static>; 3] = [
     rule! { "annotation-licenses-spdx", Stated, "image annotations.md#pre-defined-annotation-keys", "an SPDX license expression", Platforms::Every,
-        [Step::Member("blobs"), Step::EachItem, Step::Member("annotations"), Step::Member("org.opencontainers.image.licenses"), Step::When(Condition { origin: Origin::Part, way: &[], holds: false, check: Check::OneOf(&[""]) })],
+        [Step::Member("blobs"), Step::EachItem, Step::Member("annotations"), Step::Member("org.opencontainers.image.licenses"), Step::When(Condition { origin: Origin::Part, way: &[], holds: false, check: Predicate::OneOf(&[""]) })],
         Test::Text(Grammar::SpdxExpression) },
     rule! { "annotation-ref-name", Must, "image annotations.md#pre-defined-annotation-keys", "a name of the grammar for references", Platforms::Every,
         [Step::Member("blobs"), Step::EachItem, Step::Member("annotations"), Step::Member("org.opencontainers.image.ref.name")],
         Test::Text(Grammar::RefName) },
     rule! { "annotation-base-digest", Stated, "image annotations.md#pre-defined-annotation-keys", "a digest", Platforms::Every,
-        [Step::Member("blobs"), Step::EachItem, Step::Member("annotations"), Step::Member("org.opencontainers.image.base.digest"), Step::When(Condition { origin: Origin::Part, way: &[], holds: false, check: Check::OneOf(&[""]) })],
+        [Step::Member("blobs"), Step::EachItem, Step::Member("annotations"), Step::Member("org.opencontainers.image.base.digest"), Step::When(Condition { origin: Origin::Part, way: &[], holds: false, check: Predicate::OneOf(&[""]) })],
         Test::Text(Grammar::Digest) },
 ];
 
 static RULES_4: [Rule<'static>; 3] = [
     rule! { "annotation-base-name", Should, "image annotations.md#pre-defined-annotation-keys", "an image reference", Platforms::Every,
-        [Step::Member("blobs"), Step::EachItem, Step::Member("annotations"), Step::Member("org.opencontainers.image.base.name"), Step::When(Condition { origin: Origin::Part, way: &[], holds: false, check: Check::OneOf(&[""]) })],
+        [Step::Member("blobs"), Step::EachItem, Step::Member("annotations"), Step::Member("org.opencontainers.image.base.name"), Step::When(Condition { origin: Origin::Part, way: &[], holds: false, check: Predicate::OneOf(&[""]) })],
         Test::Text(Grammar::Reference) },
     rule! { "annotation-base-name-full", Should, "image annotations.md#pre-defined-annotation-keys", "an image reference that names its registry", Platforms::Every,
-        [Step::Member("blobs"), Step::EachItem, Step::Member("annotations"), Step::Member("org.opencontainers.image.base.name"), Step::When(Condition { origin: Origin::Part, way: &[], holds: false, check: Check::OneOf(&[""]) })],
+        [Step::Member("blobs"), Step::EachItem, Step::Member("annotations"), Step::Member("org.opencontainers.image.base.name"), Step::When(Condition { origin: Origin::Part, way: &[], holds: false, check: Predicate::OneOf(&[""]) })],
         Test::Text(Grammar::FullReference) },
     rule! { "annotation-base-both", Should, "image annotations.md#pre-defined-annotation-keys", "the digest of the base image, where its name stands", Platforms::Every,
-        [Step::Member("blobs"), Step::EachItem, Step::Member("annotations"), Step::When(Condition { origin: Origin::Part, way: &["org.opencontainers.image.base.name"], holds: true, check: Check::There })],
+        [Step::Member("blobs"), Step::EachItem, Step::Member("annotations"), Step::When(Condition { origin: Origin::Part, way: &["org.opencontainers.image.base.name"], holds: true, check: Predicate::There })],
         Test::There("org.opencontainers.image.base.digest") },
 ];
 

@@ -6,7 +6,7 @@ ghost use Rattle.oci_rules.specs.Tables.{rule_of};
 ghost use Rattle.oci_rule_books.specs.Others as defined;
 
 use oci_grammars::Grammar;
-use oci_rules::{Check, Condition, Level, Origin, Platforms, Rule, Step, Test};
+use oci_rules::{Condition, Level, Origin, Platforms, Predicate, Rule, Step, Test};
 
 static RULES_1: [Rule<'static>; 3] = [
     rule! { "descriptor-media-type", Must, "image descriptor.md#properties", "a media type (RFC 6838, section 4.2)", Platforms::Every,
@@ -37,16 +37,16 @@ static RULES_3: [Rule<'static>; 3] = [
         [Step::Member("subject"), Step::Member("digest")],
         Test::Begins("sha256:") },
     rule! { "descriptor-empty", Stated, "image manifest.md#guidance-for-an-empty-descriptor", "the digest, size and data of {}", Platforms::Every,
-        [Step::Member("subject"), Step::When(Condition { origin: Origin::Part, way: &["mediaType"], holds: true, check: Check::OneOf(&["application/vnd.oci.empty.v1+json"]) }), Step::Member("digest")],
+        [Step::Member("subject"), Step::When(Condition { origin: Origin::Part, way: &["mediaType"], holds: true, check: Predicate::OneOf(&["application/vnd.oci.empty.v1+json"]) }), Step::Member("digest")],
         Test::OneOf(&["sha256:44136fa355b3678a1146ad16f7e8649e94fb4fc21fe77e8310c060f61caaff8a"]) },
     rule! { "descriptor-empty", Stated, "image manifest.md#guidance-for-an-empty-descriptor", "the digest, size and data of {}", Platforms::Every,
-        [Step::Member("subject"), Step::When(Condition { origin: Origin::Part, way: &["mediaType"], holds: true, check: Check::OneOf(&["application/vnd.oci.empty.v1+json"]) }), Step::Member("size")],
+        [Step::Member("subject"), Step::When(Condition { origin: Origin::Part, way: &["mediaType"], holds: true, check: Predicate::OneOf(&["application/vnd.oci.empty.v1+json"]) }), Step::Member("size")],
         Test::Within(2, 2) },
 ];
 
 static RULES_4: [Rule<'static>; 1] = [
     rule! { "descriptor-empty", Stated, "image manifest.md#guidance-for-an-empty-descriptor", "the digest, size and data of {}", Platforms::Every,
-        [Step::Member("subject"), Step::When(Condition { origin: Origin::Part, way: &["mediaType"], holds: true, check: Check::OneOf(&["application/vnd.oci.empty.v1+json"]) }), Step::Member("data")],
+        [Step::Member("subject"), Step::When(Condition { origin: Origin::Part, way: &["mediaType"], holds: true, check: Predicate::OneOf(&["application/vnd.oci.empty.v1+json"]) }), Step::Member("data")],
         Test::OneOf(&["e30="]) },
 ];
 

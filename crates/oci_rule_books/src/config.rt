@@ -7,7 +7,7 @@ ghost use Rattle.oci_rule_books.specs.Config as defined;
 
 use crate::lists::{GOARCH, GOOS};
 use oci_grammars::Grammar;
-use oci_rules::{Check, Condition, Key, Level, Origin, Platforms, Rule, Step, Test};
+use oci_rules::{Condition, Key, Level, Origin, Platforms, Predicate, Rule, Step, Test};
 
 static RULES_1: [Rule<'static>; 3] = [
     rule! { "config-created-date", Stated, "image config.md#properties", "a date and time (RFC 3339, section 5.6)", Platforms::Every,
@@ -26,16 +26,16 @@ static RULES_2: [Rule<'static>; 3] = [
         [Step::Member("os")],
         Test::OneOf(GOOS) },
     rule! { "config-variant-known", Should, "image config.md#properties", "a variant that the specification lists for this processor", Platforms::Every,
-        [Step::When(Condition { origin: Origin::Part, way: &["architecture"], holds: true, check: Check::OneOf(&["arm"]) }), Step::Member("variant")],
+        [Step::When(Condition { origin: Origin::Part, way: &["architecture"], holds: true, check: Predicate::OneOf(&["arm"]) }), Step::Member("variant")],
         Test::OneOf(&["v6", "v7", "v8"]) },
     rule! { "config-variant-known", Should, "image config.md#properties", "a variant that the specification lists for this processor", Platforms::Every,
-        [Step::When(Condition { origin: Origin::Part, way: &["architecture"], holds: true, check: Check::OneOf(&["arm64"]) }), Step::Member("variant")],
+        [Step::When(Condition { origin: Origin::Part, way: &["architecture"], holds: true, check: Predicate::OneOf(&["arm64"]) }), Step::Member("variant")],
         Test::OneOf(&["v8"]) },
 ];
 
 static RULES_3: [Rule<'static>; 3] = [
     rule! { "config-features-windows", Should, "image config.md#properties", "a feature that the specification lists for Windows", Platforms::Every,
-        [Step::When(Condition { origin: Origin::Part, way: &["os"], holds: true, check: Check::OneOf(&["windows"]) }), Step::Member("os.features"), Step::EachItem],
+        [Step::When(Condition { origin: Origin::Part, way: &["os"], holds: true, check: Predicate::OneOf(&["windows"]) }), Step::Member("os.features"), Step::EachItem],
         Test::OneOf(&["win32k"]) },
     rule! { "config-rootfs-type", Must, "image config.md#properties", "layers", Platforms::Every,
         [Step::Member("rootfs"), Step::Member("type")],
@@ -53,7 +53,7 @@ static RULES_4: [Rule<'static>; 3] = [
         [Step::Member("config"), Step::Member("ExposedPorts"), Step::EachName],
         Test::Text(Grammar::Port) },
     rule! { "config-user", Stated, "image config.md#properties", "a user or ID, with :group behind it or nothing", Platforms::Every,
-        [Step::Member("config"), Step::Member("User"), Step::When(Condition { origin: Origin::Part, way: &[], holds: false, check: Check::OneOf(&[""]) })],
+        [Step::Member("config"), Step::Member("User"), Step::When(Condition { origin: Origin::Part, way: &[], holds: false, check: Predicate::OneOf(&[""]) })],
         Test::Text(Grammar::User) },
 ];
 
@@ -89,7 +89,7 @@ static RULES_7: [Rule<'static>; 3] = [
         [Step::Member("config"), Step::Member("Volumes"), Step::EachName],
         Test::Text(Grammar::AbsolutePath) },
     rule! { "config-working-dir-absolute", Host, "common practice", "an absolute path", Platforms::Every,
-        [Step::When(Condition { origin: Origin::Part, way: &["os"], holds: false, check: Check::OneOf(&["windows"]) }), Step::Member("config"), Step::Member("WorkingDir"), Step::When(Condition { origin: Origin::Part, way: &[], holds: false, check: Check::OneOf(&[""]) })],
+        [Step::When(Condition { origin: Origin::Part, way: &["os"], holds: false, check: Predicate::OneOf(&["windows"]) }), Step::Member("config"), Step::Member("WorkingDir"), Step::When(Condition { origin: Origin::Part, way: &[], holds: false, check: Predicate::OneOf(&[""]) })],
         Test::Text(Grammar::AbsolutePath) },
 ];
 

@@ -5,65 +5,65 @@ ghost use Rattle.std.specs.List.{flat_map};
 ghost use Rattle.oci_rules.specs.Tables.{rule_of};
 ghost use Rattle.oci_rule_books.specs.Config as defined;
 
-use oci_rules::{Check, Condition, Level, Origin, Platforms, Rule, Step, Test};
+use oci_rules::{Condition, Level, Origin, Platforms, Predicate, Rule, Step, Test};
 
 static RULES_1: [Rule<'static>; 3] = [
     rule! { "config-combination", Host, "common practice", "a processor that this operating system runs on", Platforms::Every,
-        [Step::When(Condition { origin: Origin::Part, way: &["os"], holds: true, check: Check::OneOf(&["aix"]) }), Step::Member("architecture")],
+        [Step::When(Condition { origin: Origin::Part, way: &["os"], holds: true, check: Predicate::OneOf(&["aix"]) }), Step::Member("architecture")],
         Test::OneOf(&["ppc64"]) },
     rule! { "config-combination", Host, "common practice", "a processor that this operating system runs on", Platforms::Every,
-        [Step::When(Condition { origin: Origin::Part, way: &["os"], holds: true, check: Check::OneOf(&["android"]) }), Step::Member("architecture")],
+        [Step::When(Condition { origin: Origin::Part, way: &["os"], holds: true, check: Predicate::OneOf(&["android"]) }), Step::Member("architecture")],
         Test::OneOf(&["386", "amd64", "arm", "arm64"]) },
     rule! { "config-combination", Host, "common practice", "a processor that this operating system runs on", Platforms::Every,
-        [Step::When(Condition { origin: Origin::Part, way: &["os"], holds: true, check: Check::OneOf(&["darwin"]) }), Step::Member("architecture")],
+        [Step::When(Condition { origin: Origin::Part, way: &["os"], holds: true, check: Predicate::OneOf(&["darwin"]) }), Step::Member("architecture")],
         Test::OneOf(&["amd64", "arm64"]) },
 ];
 
 static RULES_2: [Rule<'static>; 3] = [
     rule! { "config-combination", Host, "common practice", "a processor that this operating system runs on", Platforms::Every,
-        [Step::When(Condition { origin: Origin::Part, way: &["os"], holds: true, check: Check::OneOf(&["dragonfly"]) }), Step::Member("architecture")],
+        [Step::When(Condition { origin: Origin::Part, way: &["os"], holds: true, check: Predicate::OneOf(&["dragonfly"]) }), Step::Member("architecture")],
         Test::OneOf(&["amd64"]) },
     rule! { "config-combination", Host, "common practice", "a processor that this operating system runs on", Platforms::Every,
-        [Step::When(Condition { origin: Origin::Part, way: &["os"], holds: true, check: Check::OneOf(&["freebsd"]) }), Step::Member("architecture")],
+        [Step::When(Condition { origin: Origin::Part, way: &["os"], holds: true, check: Predicate::OneOf(&["freebsd"]) }), Step::Member("architecture")],
         Test::OneOf(&["386", "amd64", "arm", "arm64", "riscv64"]) },
     rule! { "config-combination", Host, "common practice", "a processor that this operating system runs on", Platforms::Every,
-        [Step::When(Condition { origin: Origin::Part, way: &["os"], holds: true, check: Check::OneOf(&["illumos"]) }), Step::Member("architecture")],
+        [Step::When(Condition { origin: Origin::Part, way: &["os"], holds: true, check: Predicate::OneOf(&["illumos"]) }), Step::Member("architecture")],
         Test::OneOf(&["amd64"]) },
 ];
 
 static RULES_3: [Rule<'static>; 3] = [
     rule! { "config-combination", Host, "common practice", "a processor that this operating system runs on", Platforms::Every,
-        [Step::When(Condition { origin: Origin::Part, way: &["os"], holds: true, check: Check::OneOf(&["ios"]) }), Step::Member("architecture")],
+        [Step::When(Condition { origin: Origin::Part, way: &["os"], holds: true, check: Predicate::OneOf(&["ios"]) }), Step::Member("architecture")],
         Test::OneOf(&["arm64", "amd64"]) },
     rule! { "config-combination", Host, "common practice", "a processor that this operating system runs on", Platforms::Every,
-        [Step::When(Condition { origin: Origin::Part, way: &["os"], holds: true, check: Check::OneOf(&["js"]) }), Step::Member("architecture")],
+        [Step::When(Condition { origin: Origin::Part, way: &["os"], holds: true, check: Predicate::OneOf(&["js"]) }), Step::Member("architecture")],
         Test::OneOf(&["wasm"]) },
     rule! { "config-combination", Host, "common practice", "a processor that this operating system runs on", Platforms::Every,
-        [Step::When(Condition { origin: Origin::Part, way: &["os"], holds: true, check: Check::OneOf(&["linux"]) }), Step::Member("architecture")],
+        [Step::When(Condition { origin: Origin::Part, way: &["os"], holds: true, check: Predicate::OneOf(&["linux"]) }), Step::Member("architecture")],
         Test::OneOf(&["386", "amd64", "arm", "arm64", "loong64", "ppc64", "ppc64le", "mips", "mipsle", "mips64", "mips64le", "riscv64", "s390x"]) },
 ];
 
 static RULES_4: [Rule<'static>; 3] = [
     rule! { "config-combination", Host, "common practice", "a processor that this operating system runs on", Platforms::Every,
-        [Step::When(Condition { origin: Origin::Part, way: &["os"], holds: true, check: Check::OneOf(&["netbsd"]) }), Step::Member("architecture")],
+        [Step::When(Condition { origin: Origin::Part, way: &["os"], holds: true, check: Predicate::OneOf(&["netbsd"]) }), Step::Member("architecture")],
         Test::OneOf(&["386", "amd64", "arm", "arm64"]) },
     rule! { "config-combination", Host, "common practice", "a processor that this operating system runs on", Platforms::Every,
-        [Step::When(Condition { origin: Origin::Part, way: &["os"], holds: true, check: Check::OneOf(&["openbsd"]) }), Step::Member("architecture")],
+        [Step::When(Condition { origin: Origin::Part, way: &["os"], holds: true, check: Predicate::OneOf(&["openbsd"]) }), Step::Member("architecture")],
         Test::OneOf(&["386", "amd64", "arm", "arm64", "mips64", "ppc64", "riscv64"]) },
     rule! { "config-combination", Host, "common practice", "a processor that this operating system runs on", Platforms::Every,
-        [Step::When(Condition { origin: Origin::Part, way: &["os"], holds: true, check: Check::OneOf(&["plan9"]) }), Step::Member("architecture")],
+        [Step::When(Condition { origin: Origin::Part, way: &["os"], holds: true, check: Predicate::OneOf(&["plan9"]) }), Step::Member("architecture")],
         Test::OneOf(&["386", "amd64", "arm"]) },
 ];
 
 static RULES_5: [Rule<'static>; 3] = [
     rule! { "config-combination", Host, "common practice", "a processor that this operating system runs on", Platforms::Every,
-        [Step::When(Condition { origin: Origin::Part, way: &["os"], holds: true, check: Check::OneOf(&["solaris"]) }), Step::Member("architecture")],
+        [Step::When(Condition { origin: Origin::Part, way: &["os"], holds: true, check: Predicate::OneOf(&["solaris"]) }), Step::Member("architecture")],
         Test::OneOf(&["amd64"]) },
     rule! { "config-combination", Host, "common practice", "a processor that this operating system runs on", Platforms::Every,
-        [Step::When(Condition { origin: Origin::Part, way: &["os"], holds: true, check: Check::OneOf(&["wasip1"]) }), Step::Member("architecture")],
+        [Step::When(Condition { origin: Origin::Part, way: &["os"], holds: true, check: Predicate::OneOf(&["wasip1"]) }), Step::Member("architecture")],
         Test::OneOf(&["wasm"]) },
     rule! { "config-combination", Host, "common practice", "a processor that this operating system runs on", Platforms::Every,
-        [Step::When(Condition { origin: Origin::Part, way: &["os"], holds: true, check: Check::OneOf(&["windows"]) }), Step::Member("architecture")],
+        [Step::When(Condition { origin: Origin::Part, way: &["os"], holds: true, check: Predicate::OneOf(&["windows"]) }), Step::Member("architecture")],
         Test::OneOf(&["386", "amd64", "arm", "arm64"]) },
 ];
 

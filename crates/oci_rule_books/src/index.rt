@@ -7,7 +7,7 @@ ghost use Rattle.oci_rule_books.specs.Index as defined;
 
 use crate::lists::{GOARCH, GOOS, MANIFEST_TYPES};
 use oci_grammars::Grammar;
-use oci_rules::{Check, Condition, Key, Level, Origin, Platforms, Rule, Step, Test};
+use oci_rules::{Condition, Key, Level, Origin, Platforms, Predicate, Rule, Step, Test};
 
 static RULES_1: [Rule<'static>; 3] = [
     rule! { "index-schema-version", Must, "image image-index.md#image-index-property-descriptions", "2", Platforms::Every,
@@ -29,7 +29,7 @@ static RULES_2: [Rule<'static>; 3] = [
         [Step::Member("manifests"), Step::EachItem, Step::Member("mediaType")],
         Test::OneOf(MANIFEST_TYPES) },
     rule! { "descriptor-platform-there", Should, "image descriptor.md#properties", "a platform, where a manifest is described", Platforms::Every,
-        [Step::Member("manifests"), Step::EachItem, Step::When(Condition { origin: Origin::Part, way: &["mediaType"], holds: true, check: Check::OneOf(&["application/vnd.oci.image.manifest.v1+json"]) })],
+        [Step::Member("manifests"), Step::EachItem, Step::When(Condition { origin: Origin::Part, way: &["mediaType"], holds: true, check: Predicate::OneOf(&["application/vnd.oci.image.manifest.v1+json"]) })],
         Test::There("platform") },
 ];
 
@@ -41,19 +41,19 @@ static RULES_3: [Rule<'static>; 3] = [
         [Step::Member("manifests"), Step::EachItem, Step::Member("platform"), Step::Member("os")],
         Test::OneOf(GOOS) },
     rule! { "platform-variant-known", Should, "image image-index.md#platform-variants", "a variant that the specification lists for this processor", Platforms::Every,
-        [Step::Member("manifests"), Step::EachItem, Step::Member("platform"), Step::When(Condition { origin: Origin::Part, way: &["architecture"], holds: true, check: Check::OneOf(&["arm"]) }), Step::Member("variant")],
+        [Step::Member("manifests"), Step::EachItem, Step::Member("platform"), Step::When(Condition { origin: Origin::Part, way: &["architecture"], holds: true, check: Predicate::OneOf(&["arm"]) }), Step::Member("variant")],
         Test::OneOf(&["v6", "v7", "v8"]) },
 ];
 
 static RULES_4: [Rule<'static>; 3] = [
     rule! { "platform-variant-known", Should, "image image-index.md#platform-variants", "a variant that the specification lists for this processor", Platforms::Every,
-        [Step::Member("manifests"), Step::EachItem, Step::Member("platform"), Step::When(Condition { origin: Origin::Part, way: &["architecture"], holds: true, check: Check::OneOf(&["arm64"]) }), Step::Member("variant")],
+        [Step::Member("manifests"), Step::EachItem, Step::Member("platform"), Step::When(Condition { origin: Origin::Part, way: &["architecture"], holds: true, check: Predicate::OneOf(&["arm64"]) }), Step::Member("variant")],
         Test::OneOf(&["v8"]) },
     rule! { "platform-features-windows", Should, "image image-index.md#image-index-property-descriptions", "a feature that the specification lists for Windows", Platforms::Every,
-        [Step::Member("manifests"), Step::EachItem, Step::Member("platform"), Step::When(Condition { origin: Origin::Part, way: &["os"], holds: true, check: Check::OneOf(&["windows"]) }), Step::Member("os.features"), Step::EachItem],
+        [Step::Member("manifests"), Step::EachItem, Step::Member("platform"), Step::When(Condition { origin: Origin::Part, way: &["os"], holds: true, check: Predicate::OneOf(&["windows"]) }), Step::Member("os.features"), Step::EachItem],
         Test::OneOf(&["win32k"]) },
     rule! { "platform-features-windows", Should, "image image-index.md#image-index-property-descriptions", "a feature that the specification lists for Windows", Platforms::Every,
-        [Step::Member("manifests"), Step::EachItem, Step::Member("platform"), Step::When(Condition { origin: Origin::Part, way: &["os"], holds: true, check: Check::OneOf(&["windows"]) }), Step::Member("os_features"), Step::EachItem],
+        [Step::Member("manifests"), Step::EachItem, Step::Member("platform"), Step::When(Condition { origin: Origin::Part, way: &["os"], holds: true, check: Predicate::OneOf(&["windows"]) }), Step::Member("os_features"), Step::EachItem],
         Test::OneOf(&["win32k"]) },
 ];
 

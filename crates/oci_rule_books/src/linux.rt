@@ -6,7 +6,7 @@ ghost use Rattle.oci_rules.specs.Tables.{rule_of};
 ghost use Rattle.oci_rule_books.specs.Linux as defined;
 
 use oci_grammars::Grammar;
-use oci_rules::{Check, Condition, Key, Level, Origin, Platforms, Rule, Step, Test};
+use oci_rules::{Condition, Key, Level, Origin, Platforms, Predicate, Rule, Step, Test};
 
 static RULES_1: [Rule<'static>; 3] = [
     rule! { "namespace-once", Must, "runtime config-linux.md#namespaces", "each type of namespace once", Platforms::Every,
@@ -25,7 +25,7 @@ static RULES_2: [Rule<'static>; 3] = [
         [Step::Member("linux"), Step::Member("timeOffsets"), Step::EachMember, Step::Member("nanosecs")],
         Test::Within(0, 999999999) },
     rule! { "time-offset-needs-time", Stated, "runtime config-linux.md#offset-for-time-namespace", "no offsets without a time namespace of its own", Platforms::Every,
-        [Step::When(Condition { origin: Origin::Document, way: &["linux", "namespaces"], holds: false, check: Check::ListsItem("type", &["time"], &[], &["path"]) }), Step::Member("linux")],
+        [Step::When(Condition { origin: Origin::Document, way: &["linux", "namespaces"], holds: false, check: Predicate::ListsItem("type", &["time"], &[], &["path"]) }), Step::Member("linux")],
         Test::Absent("timeOffsets") },
     rule! { "device-type", Stated, "runtime config-linux.md#devices", "c, b, u or p", Platforms::Every,
         [Step::Member("linux"), Step::Member("devices"), Step::EachItem, Step::Member("type")],
@@ -46,10 +46,10 @@ static RULES_3: [Rule<'static>; 3] = [
 
 static RULES_4: [Rule<'static>; 3] = [
     rule! { "device-numbers-there", Must, "runtime config-linux.md#devices", "a major and a minor number, but for type p", Platforms::Every,
-        [Step::Member("linux"), Step::Member("devices"), Step::EachItem, Step::When(Condition { origin: Origin::Part, way: &["type"], holds: false, check: Check::OneOf(&["p"]) })],
+        [Step::Member("linux"), Step::Member("devices"), Step::EachItem, Step::When(Condition { origin: Origin::Part, way: &["type"], holds: false, check: Predicate::OneOf(&["p"]) })],
         Test::There("major") },
     rule! { "device-numbers-there", Must, "runtime config-linux.md#devices", "a major and a minor number, but for type p", Platforms::Every,
-        [Step::Member("linux"), Step::Member("devices"), Step::EachItem, Step::When(Condition { origin: Origin::Part, way: &["type"], holds: false, check: Check::OneOf(&["p"]) })],
+        [Step::Member("linux"), Step::Member("devices"), Step::EachItem, Step::When(Condition { origin: Origin::Part, way: &["type"], holds: false, check: Predicate::OneOf(&["p"]) })],
         Test::There("minor") },
     rule! { "device-numbers-range", Host, "mknod(2)", "a number that is not negative", Platforms::Every,
         [Step::Member("linux"), Step::Member("devices"), Step::EachItem, Step::Member("major")],
@@ -61,10 +61,10 @@ static RULES_5: [Rule<'static>; 3] = [
         [Step::Member("linux"), Step::Member("devices"), Step::EachItem, Step::Member("minor")],
         Test::Within(0, 18446744073709551615) },
     rule! { "device-fifo-numbers", Host, "runtime config-linux.md#devices", "0 for type p", Platforms::Every,
-        [Step::Member("linux"), Step::Member("devices"), Step::EachItem, Step::When(Condition { origin: Origin::Part, way: &["type"], holds: true, check: Check::OneOf(&["p"]) }), Step::Member("major")],
+        [Step::Member("linux"), Step::Member("devices"), Step::EachItem, Step::When(Condition { origin: Origin::Part, way: &["type"], holds: true, check: Predicate::OneOf(&["p"]) }), Step::Member("major")],
         Test::Within(0, 0) },
     rule! { "device-fifo-numbers", Host, "runtime config-linux.md#devices", "0 for type p", Platforms::Every,
-        [Step::Member("linux"), Step::Member("devices"), Step::EachItem, Step::When(Condition { origin: Origin::Part, way: &["type"], holds: true, check: Check::OneOf(&["p"]) }), Step::Member("minor")],
+        [Step::Member("linux"), Step::Member("devices"), Step::EachItem, Step::When(Condition { origin: Origin::Part, way: &["type"], holds: true, check: Predicate::OneOf(&["p"]) }), Step::Member("minor")],
         Test::Within(0, 0) },
 ];
 
@@ -97,10 +97,10 @@ static RULES_8: [Rule<'static>; 3] = [
         [Step::Member("linux"), Step::Member("readonlyPaths"), Step::EachItem],
         Test::Text(Grammar::AbsolutePath) },
     rule! { "paths-need-mount", Host, "common practice", "no such paths without a mount namespace of its own", Platforms::Every,
-        [Step::When(Condition { origin: Origin::Document, way: &["linux", "namespaces"], holds: false, check: Check::ListsItem("type", &["mount"], &[], &["path"]) }), Step::Member("linux")],
+        [Step::When(Condition { origin: Origin::Document, way: &["linux", "namespaces"], holds: false, check: Predicate::ListsItem("type", &["mount"], &[], &["path"]) }), Step::Member("linux")],
         Test::Absent("maskedPaths") },
     rule! { "paths-need-mount", Host, "common practice", "no such paths without a mount namespace of its own", Platforms::Every,
-        [Step::When(Condition { origin: Origin::Document, way: &["linux", "namespaces"], holds: false, check: Check::ListsItem("type", &["mount"], &[], &["path"]) }), Step::Member("linux")],
+        [Step::When(Condition { origin: Origin::Document, way: &["linux", "namespaces"], holds: false, check: Predicate::ListsItem("type", &["mount"], &[], &["path"]) }), Step::Member("linux")],
         Test::Absent("readonlyPaths") },
 ];
 

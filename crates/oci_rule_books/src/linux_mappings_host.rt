@@ -5,7 +5,7 @@ ghost use Rattle.std.specs.List.{flat_map};
 ghost use Rattle.oci_rules.specs.Tables.{rule_of};
 ghost use Rattle.oci_rule_books.specs.Linux as defined;
 
-use oci_rules::{Check, Condition, Level, Origin, Platforms, Rule, Step, Test};
+use oci_rules::{Condition, Level, Origin, Platforms, Predicate, Rule, Step, Test};
 
 static RULES_1: [Rule<'static>; 3] = [
     rule! { "mapping-fits", Host, "user_namespaces(7)", "IDs of 32 bits", Platforms::Every,
@@ -81,25 +81,25 @@ static RULES_6: [Rule<'static>; 3] = [
 
 static RULES_7: [Rule<'static>; 3] = [
     rule! { "mapping-needs-user", Host, "runtime config-linux.md#user-namespace-mappings", "no mappings without a user namespace", Platforms::Every,
-        [Step::When(Condition { origin: Origin::Document, way: &["linux", "namespaces"], holds: false, check: Check::ListsItem("type", &["user"], &[], &[]) }), Step::Member("linux")],
+        [Step::When(Condition { origin: Origin::Document, way: &["linux", "namespaces"], holds: false, check: Predicate::ListsItem("type", &["user"], &[], &[]) }), Step::Member("linux")],
         Test::Absent("uidMappings") },
     rule! { "mapping-needs-user", Host, "runtime config-linux.md#user-namespace-mappings", "no mappings without a user namespace", Platforms::Every,
-        [Step::When(Condition { origin: Origin::Document, way: &["linux", "namespaces"], holds: false, check: Check::ListsItem("type", &["user"], &[], &[]) }), Step::Member("linux")],
+        [Step::When(Condition { origin: Origin::Document, way: &["linux", "namespaces"], holds: false, check: Predicate::ListsItem("type", &["user"], &[], &[]) }), Step::Member("linux")],
         Test::Absent("gidMappings") },
     rule! { "user-namespace-mapped", Host, "runtime config-linux.md#user-namespace-mappings", "mappings, where a new user namespace is asked for", Platforms::Every,
-        [Step::When(Condition { origin: Origin::Document, way: &["linux", "namespaces"], holds: true, check: Check::ListsItem("type", &["user"], &[], &["path"]) }), Step::Member("linux")],
+        [Step::When(Condition { origin: Origin::Document, way: &["linux", "namespaces"], holds: true, check: Predicate::ListsItem("type", &["user"], &[], &["path"]) }), Step::Member("linux")],
         Test::There("uidMappings") },
 ];
 
 static RULES_8: [Rule<'static>; 3] = [
     rule! { "user-namespace-mapped", Host, "runtime config-linux.md#user-namespace-mappings", "mappings, where a new user namespace is asked for", Platforms::Every,
-        [Step::When(Condition { origin: Origin::Document, way: &["linux", "namespaces"], holds: true, check: Check::ListsItem("type", &["user"], &[], &["path"]) }), Step::Member("linux")],
+        [Step::When(Condition { origin: Origin::Document, way: &["linux", "namespaces"], holds: true, check: Predicate::ListsItem("type", &["user"], &[], &["path"]) }), Step::Member("linux")],
         Test::There("gidMappings") },
     rule! { "user-namespace-one-way", Host, "runtime config-linux.md#user-namespace-mappings", "no mappings, where a user namespace is joined", Platforms::Every,
-        [Step::When(Condition { origin: Origin::Document, way: &["linux", "namespaces"], holds: true, check: Check::ListsItem("type", &["user"], &["path"], &[]) }), Step::Member("linux")],
+        [Step::When(Condition { origin: Origin::Document, way: &["linux", "namespaces"], holds: true, check: Predicate::ListsItem("type", &["user"], &["path"], &[]) }), Step::Member("linux")],
         Test::Absent("uidMappings") },
     rule! { "user-namespace-one-way", Host, "runtime config-linux.md#user-namespace-mappings", "no mappings, where a user namespace is joined", Platforms::Every,
-        [Step::When(Condition { origin: Origin::Document, way: &["linux", "namespaces"], holds: true, check: Check::ListsItem("type", &["user"], &["path"], &[]) }), Step::Member("linux")],
+        [Step::When(Condition { origin: Origin::Document, way: &["linux", "namespaces"], holds: true, check: Predicate::ListsItem("type", &["user"], &["path"], &[]) }), Step::Member("linux")],
         Test::Absent("gidMappings") },
 ];
 

@@ -6,7 +6,7 @@ ghost use Rattle.oci_rules.specs.Tables.{rule_of};
 ghost use Rattle.oci_rule_books.specs.Linux as defined;
 
 use oci_grammars::Grammar;
-use oci_rules::{Check, Condition, Key, Level, Origin, Platforms, Rule, Step, Test};
+use oci_rules::{Condition, Key, Level, Origin, Platforms, Predicate, Rule, Step, Test};
 
 static RULES_1: [Rule<'static>; 3] = [
     rule! { "cgroup-device-allow-there", Must, "runtime config-linux.md#allowed-device-list", "whether access is allowed", Platforms::Every,
@@ -52,19 +52,19 @@ static RULES_4: [Rule<'static>; 3] = [
         [Step::Member("linux"), Step::Member("resources"), Step::Member("memory"), Step::Member("swappiness")],
         Test::Within(0, 100) },
     rule! { "memory-limit-at-most-swap", Host, "cgroup v1 memory", "a limit that is at most that of memory and swap", Platforms::Every,
-        [Step::Member("linux"), Step::Member("resources"), Step::Member("memory"), Step::When(Condition { origin: Origin::Part, way: &["swap"], holds: true, check: Check::Within(0, 9223372036854775807) })],
+        [Step::Member("linux"), Step::Member("resources"), Step::Member("memory"), Step::When(Condition { origin: Origin::Part, way: &["swap"], holds: true, check: Predicate::Within(0, 9223372036854775807) })],
         Test::AtMost("limit", "swap") },
 ];
 
 static RULES_5: [Rule<'static>; 3] = [
     rule! { "memory-reservation-at-most-limit", Host, "cgroup v1 memory", "a soft limit that is at most the hard one", Platforms::Every,
-        [Step::Member("linux"), Step::Member("resources"), Step::Member("memory"), Step::When(Condition { origin: Origin::Part, way: &["limit"], holds: true, check: Check::Within(0, 9223372036854775807) })],
+        [Step::Member("linux"), Step::Member("resources"), Step::Member("memory"), Step::When(Condition { origin: Origin::Part, way: &["limit"], holds: true, check: Predicate::Within(0, 9223372036854775807) })],
         Test::AtMost("reservation", "limit") },
     rule! { "memory-swap-needs-limit", Host, "common practice", "a limit of memory, where one of swap stands", Platforms::Every,
-        [Step::Member("linux"), Step::Member("resources"), Step::Member("memory"), Step::When(Condition { origin: Origin::Part, way: &["swap"], holds: true, check: Check::There })],
+        [Step::Member("linux"), Step::Member("resources"), Step::Member("memory"), Step::When(Condition { origin: Origin::Part, way: &["swap"], holds: true, check: Predicate::There })],
         Test::There("limit") },
     rule! { "cpu-burst-at-most-quota", Must, "runtime config-linux.md#cpu", "a burst that is at most the quota", Platforms::Every,
-        [Step::Member("linux"), Step::Member("resources"), Step::Member("cpu"), Step::When(Condition { origin: Origin::Part, way: &["quota"], holds: true, check: Check::Within(1, 9223372036854775807) })],
+        [Step::Member("linux"), Step::Member("resources"), Step::Member("cpu"), Step::When(Condition { origin: Origin::Part, way: &["quota"], holds: true, check: Predicate::Within(1, 9223372036854775807) })],
         Test::AtMost("burst", "quota") },
 ];
 

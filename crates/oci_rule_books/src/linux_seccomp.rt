@@ -6,14 +6,14 @@ ghost use Rattle.oci_rules.specs.Tables.{rule_of};
 ghost use Rattle.oci_rule_books.specs.Linux as defined;
 
 use oci_grammars::Grammar;
-use oci_rules::{Check, Condition, Key, Level, Origin, Platforms, Rule, Step, Test};
+use oci_rules::{Condition, Key, Level, Origin, Platforms, Predicate, Rule, Step, Test};
 
 static RULES_1: [Rule<'static>; 3] = [
     rule! { "seccomp-default-errno", Must, "runtime config-linux.md#seccomp", "SCMP_ACT_ERRNO or SCMP_ACT_TRACE, where an error number stands", Platforms::Every,
-        [Step::Member("linux"), Step::Member("seccomp"), Step::When(Condition { origin: Origin::Part, way: &["defaultErrnoRet"], holds: true, check: Check::There }), Step::Member("defaultAction")],
+        [Step::Member("linux"), Step::Member("seccomp"), Step::When(Condition { origin: Origin::Part, way: &["defaultErrnoRet"], holds: true, check: Predicate::There }), Step::Member("defaultAction")],
         Test::OneOf(&["SCMP_ACT_ERRNO", "SCMP_ACT_TRACE"]) },
     rule! { "seccomp-errno", Must, "runtime config-linux.md#seccomp", "SCMP_ACT_ERRNO or SCMP_ACT_TRACE, where an error number stands", Platforms::Every,
-        [Step::Member("linux"), Step::Member("seccomp"), Step::Member("syscalls"), Step::EachItem, Step::When(Condition { origin: Origin::Part, way: &["errnoRet"], holds: true, check: Check::There }), Step::Member("action")],
+        [Step::Member("linux"), Step::Member("seccomp"), Step::Member("syscalls"), Step::EachItem, Step::When(Condition { origin: Origin::Part, way: &["errnoRet"], holds: true, check: Predicate::There }), Step::Member("action")],
         Test::OneOf(&["SCMP_ACT_ERRNO", "SCMP_ACT_TRACE"]) },
     rule! { "seccomp-errno-range", Host, "errno(3)", "an integer from 0 to 4095", Platforms::Every,
         [Step::Member("linux"), Step::Member("seccomp"), Step::Member("defaultErrnoRet")],
@@ -34,13 +34,13 @@ static RULES_2: [Rule<'static>; 3] = [
 
 static RULES_3: [Rule<'static>; 3] = [
     rule! { "seccomp-metadata-needs-path", Must, "runtime config-linux.md#seccomp", "the path of a listener, where metadata stands", Platforms::Every,
-        [Step::Member("linux"), Step::Member("seccomp"), Step::When(Condition { origin: Origin::Part, way: &["listenerMetadata"], holds: true, check: Check::There })],
+        [Step::Member("linux"), Step::Member("seccomp"), Step::When(Condition { origin: Origin::Part, way: &["listenerMetadata"], holds: true, check: Predicate::There })],
         Test::There("listenerPath") },
     rule! { "seccomp-notify-needs-path", Host, "runtime config-linux.md#seccomp", "the path of a listener, where SCMP_ACT_NOTIFY stands", Platforms::Every,
-        [Step::Member("linux"), Step::Member("seccomp"), Step::When(Condition { origin: Origin::Part, way: &["syscalls"], holds: true, check: Check::ListsItem("action", &["SCMP_ACT_NOTIFY"], &[], &[]) })],
+        [Step::Member("linux"), Step::Member("seccomp"), Step::When(Condition { origin: Origin::Part, way: &["syscalls"], holds: true, check: Predicate::ListsItem("action", &["SCMP_ACT_NOTIFY"], &[], &[]) })],
         Test::There("listenerPath") },
     rule! { "seccomp-notify-needs-path", Host, "runtime config-linux.md#seccomp", "the path of a listener, where SCMP_ACT_NOTIFY stands", Platforms::Every,
-        [Step::Member("linux"), Step::Member("seccomp"), Step::When(Condition { origin: Origin::Part, way: &["defaultAction"], holds: true, check: Check::OneOf(&["SCMP_ACT_NOTIFY"]) })],
+        [Step::Member("linux"), Step::Member("seccomp"), Step::When(Condition { origin: Origin::Part, way: &["defaultAction"], holds: true, check: Predicate::OneOf(&["SCMP_ACT_NOTIFY"]) })],
         Test::There("listenerPath") },
 ];
 
@@ -52,16 +52,16 @@ static RULES_4: [Rule<'static>; 3] = [
         [Step::Member("linux"), Step::Member("seccomp"), Step::Member("defaultAction")],
         Test::NoneOf(&["SCMP_ACT_NOTIFY"]) },
     rule! { "seccomp-notify-write", Host, "common practice", "another call than write, for SCMP_ACT_NOTIFY", Platforms::Every,
-        [Step::Member("linux"), Step::Member("seccomp"), Step::Member("syscalls"), Step::EachItem, Step::When(Condition { origin: Origin::Part, way: &["action"], holds: true, check: Check::OneOf(&["SCMP_ACT_NOTIFY"]) }), Step::Member("names"), Step::EachItem],
+        [Step::Member("linux"), Step::Member("seccomp"), Step::Member("syscalls"), Step::EachItem, Step::When(Condition { origin: Origin::Part, way: &["action"], holds: true, check: Predicate::OneOf(&["SCMP_ACT_NOTIFY"]) }), Step::Member("names"), Step::EachItem],
         Test::NoneOf(&["write"]) },
 ];
 
 static RULES_5: [Rule<'static>; 3] = [
     rule! { "seccomp-kill-useless", Stated, "runtime config-linux.md#seccomp", "at least one rule, where the default action kills", Platforms::Every,
-        [Step::Member("linux"), Step::Member("seccomp"), Step::When(Condition { origin: Origin::Part, way: &["defaultAction"], holds: true, check: Check::OneOf(&["SCMP_ACT_KILL", "SCMP_ACT_KILL_THREAD", "SCMP_ACT_KILL_PROCESS"]) })],
+        [Step::Member("linux"), Step::Member("seccomp"), Step::When(Condition { origin: Origin::Part, way: &["defaultAction"], holds: true, check: Predicate::OneOf(&["SCMP_ACT_KILL", "SCMP_ACT_KILL_THREAD", "SCMP_ACT_KILL_PROCESS"]) })],
         Test::There("syscalls") },
     rule! { "seccomp-kill-useless", Stated, "runtime config-linux.md#seccomp", "at least one rule, where the default action kills", Platforms::Every,
-        [Step::Member("linux"), Step::Member("seccomp"), Step::When(Condition { origin: Origin::Part, way: &["defaultAction"], holds: true, check: Check::OneOf(&["SCMP_ACT_KILL", "SCMP_ACT_KILL_THREAD", "SCMP_ACT_KILL_PROCESS"]) }), Step::Member("syscalls")],
+        [Step::Member("linux"), Step::Member("seccomp"), Step::When(Condition { origin: Origin::Part, way: &["defaultAction"], holds: true, check: Predicate::OneOf(&["SCMP_ACT_KILL", "SCMP_ACT_KILL_THREAD", "SCMP_ACT_KILL_PROCESS"]) }), Step::Member("syscalls")],
         Test::NotEmpty },
     rule! { "seccomp-argument-index", Host, "seccomp(2)", "an integer from 0 to 5", Platforms::Every,
         [Step::Member("linux"), Step::Member("seccomp"), Step::Member("syscalls"), Step::EachItem, Step::Member("args"), Step::EachItem, Step::Member("index")],
@@ -70,7 +70,7 @@ static RULES_5: [Rule<'static>; 3] = [
 
 static RULES_6: [Rule<'static>; 3] = [
     rule! { "seccomp-second-value", Host, "seccomp_rule_add(3)", "SCMP_CMP_MASKED_EQ, where a second value stands", Platforms::Every,
-        [Step::Member("linux"), Step::Member("seccomp"), Step::Member("syscalls"), Step::EachItem, Step::Member("args"), Step::EachItem, Step::When(Condition { origin: Origin::Part, way: &["valueTwo"], holds: true, check: Check::There }), Step::Member("op")],
+        [Step::Member("linux"), Step::Member("seccomp"), Step::Member("syscalls"), Step::EachItem, Step::Member("args"), Step::EachItem, Step::When(Condition { origin: Origin::Part, way: &["valueTwo"], holds: true, check: Predicate::There }), Step::Member("op")],
         Test::OneOf(&["SCMP_CMP_MASKED_EQ"]) },
     rule! { "seccomp-architecture-once", Host, "common practice", "each once", Platforms::Every,
         [Step::Member("linux"), Step::Member("seccomp"), Step::Member("architectures")],

@@ -6,26 +6,26 @@ ghost use Rattle.oci_rules.specs.Tables.{rule_of};
 ghost use Rattle.oci_rule_books.specs.Linux as defined;
 
 use crate::lists::IPC_SYSCTLS;
-use oci_rules::{Check, Condition, Level, Origin, Platforms, Rule, Step, Test};
+use oci_rules::{Condition, Level, Origin, Platforms, Predicate, Rule, Step, Test};
 
 static RULES_1: [Rule<'static>; 3] = [
     rule! { "sysctl-network", Host, "runtime config-linux.md#sysctl", "no parameter of the network without a network namespace of its own", Platforms::Every,
-        [Step::When(Condition { origin: Origin::Document, way: &["linux", "namespaces"], holds: false, check: Check::ListsItem("type", &["network"], &[], &["path"]) }), Step::Member("linux"), Step::Member("sysctl"), Step::EachName],
+        [Step::When(Condition { origin: Origin::Document, way: &["linux", "namespaces"], holds: false, check: Predicate::ListsItem("type", &["network"], &[], &["path"]) }), Step::Member("linux"), Step::Member("sysctl"), Step::EachName],
         Test::Reserved("net.", &[]) },
     rule! { "sysctl-network", Host, "runtime config-linux.md#sysctl", "no parameter of the network without a network namespace of its own", Platforms::Every,
-        [Step::When(Condition { origin: Origin::Document, way: &["linux", "namespaces"], holds: false, check: Check::ListsItem("type", &["network"], &[], &["path"]) }), Step::Member("linux"), Step::Member("sysctl"), Step::EachName],
+        [Step::When(Condition { origin: Origin::Document, way: &["linux", "namespaces"], holds: false, check: Predicate::ListsItem("type", &["network"], &[], &["path"]) }), Step::Member("linux"), Step::Member("sysctl"), Step::EachName],
         Test::Reserved("net/", &[]) },
     rule! { "sysctl-ipc", Host, "runtime config-linux.md#sysctl", "no parameter of IPC without an IPC namespace of its own", Platforms::Every,
-        [Step::When(Condition { origin: Origin::Document, way: &["linux", "namespaces"], holds: false, check: Check::ListsItem("type", &["ipc"], &[], &["path"]) }), Step::Member("linux"), Step::Member("sysctl"), Step::EachName],
+        [Step::When(Condition { origin: Origin::Document, way: &["linux", "namespaces"], holds: false, check: Predicate::ListsItem("type", &["ipc"], &[], &["path"]) }), Step::Member("linux"), Step::Member("sysctl"), Step::EachName],
         Test::Reserved("fs.mqueue.", &[]) },
 ];
 
 static RULES_2: [Rule<'static>; 3] = [
     rule! { "sysctl-ipc", Host, "runtime config-linux.md#sysctl", "no parameter of IPC without an IPC namespace of its own", Platforms::Every,
-        [Step::When(Condition { origin: Origin::Document, way: &["linux", "namespaces"], holds: false, check: Check::ListsItem("type", &["ipc"], &[], &["path"]) }), Step::Member("linux"), Step::Member("sysctl"), Step::EachName],
+        [Step::When(Condition { origin: Origin::Document, way: &["linux", "namespaces"], holds: false, check: Predicate::ListsItem("type", &["ipc"], &[], &["path"]) }), Step::Member("linux"), Step::Member("sysctl"), Step::EachName],
         Test::NoneOf(IPC_SYSCTLS) },
     rule! { "sysctl-domainname", Host, "runtime config-linux.md#sysctl", "no name of a domain without a UTS namespace of its own", Platforms::Every,
-        [Step::When(Condition { origin: Origin::Document, way: &["linux", "namespaces"], holds: false, check: Check::ListsItem("type", &["uts"], &[], &["path"]) }), Step::Member("linux"), Step::Member("sysctl")],
+        [Step::When(Condition { origin: Origin::Document, way: &["linux", "namespaces"], holds: false, check: Predicate::ListsItem("type", &["uts"], &[], &["path"]) }), Step::Member("linux"), Step::Member("sysctl")],
         Test::Absent("kernel.domainname") },
     rule! { "sysctl-hostname", Host, "runtime config-linux.md#sysctl", "the member hostname instead of this parameter", Platforms::Every,
         [Step::Member("linux"), Step::Member("sysctl")],

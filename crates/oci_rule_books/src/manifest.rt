@@ -7,7 +7,7 @@ ghost use Rattle.oci_rule_books.specs.Manifest as defined;
 
 use crate::lists::{LAYER_TYPES, NONDISTRIBUTABLE_TYPES, SUBJECT_TYPES};
 use oci_grammars::Grammar;
-use oci_rules::{Check, Condition, Level, Origin, Platforms, Rule, Step, Test};
+use oci_rules::{Condition, Level, Origin, Platforms, Predicate, Rule, Step, Test};
 
 static RULES_1: [Rule<'static>; 3] = [
     rule! { "manifest-schema-version", Must, "image manifest.md#image-manifest-property-descriptions", "2", Platforms::Every,
@@ -26,10 +26,10 @@ static RULES_2: [Rule<'static>; 3] = [
         [Step::Member("artifactType")],
         Test::Text(Grammar::MediaType) },
     rule! { "manifest-artifact-type-there", Must, "image manifest.md#image-manifest-property-descriptions", "the type of the artifact, where the configuration is empty", Platforms::Every,
-        [Step::When(Condition { origin: Origin::Part, way: &["config", "mediaType"], holds: true, check: Check::OneOf(&["application/vnd.oci.empty.v1+json"]) })],
+        [Step::When(Condition { origin: Origin::Part, way: &["config", "mediaType"], holds: true, check: Predicate::OneOf(&["application/vnd.oci.empty.v1+json"]) })],
         Test::There("artifactType") },
     rule! { "manifest-config-type-known", Should, "image manifest.md#image-manifest-property-descriptions", "application/vnd.oci.image.config.v1+json, where no type of artifact stands", Platforms::Every,
-        [Step::When(Condition { origin: Origin::Part, way: &["artifactType"], holds: false, check: Check::There }), Step::Member("config"), Step::Member("mediaType")],
+        [Step::When(Condition { origin: Origin::Part, way: &["artifactType"], holds: false, check: Predicate::There }), Step::Member("config"), Step::Member("mediaType")],
         Test::OneOf(&["application/vnd.oci.image.config.v1+json"]) },
 ];
 
@@ -38,7 +38,7 @@ static RULES_3: [Rule<'static>; 3] = [
         [Step::Member("layers")],
         Test::NotEmpty },
     rule! { "manifest-layer-type-known", Should, "image manifest.md#image-manifest-property-descriptions", "a type of layer that every implementation supports", Platforms::Every,
-        [Step::When(Condition { origin: Origin::Part, way: &["config", "mediaType"], holds: true, check: Check::OneOf(&["application/vnd.oci.image.config.v1+json"]) }), Step::Member("layers"), Step::EachItem, Step::Member("mediaType")],
+        [Step::When(Condition { origin: Origin::Part, way: &["config", "mediaType"], holds: true, check: Predicate::OneOf(&["application/vnd.oci.image.config.v1+json"]) }), Step::Member("layers"), Step::EachItem, Step::Member("mediaType")],
         Test::OneOf(LAYER_TYPES) },
     rule! { "manifest-layer-distributable", Should, "image layer.md#non-distributable-layers", "a type of layer that may be distributed", Platforms::Every,
         [Step::Member("layers"), Step::EachItem, Step::Member("mediaType")],
@@ -47,10 +47,10 @@ static RULES_3: [Rule<'static>; 3] = [
 
 static RULES_4: [Rule<'static>; 3] = [
     rule! { "manifest-artifact-layer-some", Should, "image manifest.md#guidelines-for-artifact-usage", "a layer of an artifact that is not empty", Platforms::Every,
-        [Step::When(Condition { origin: Origin::Part, way: &["config", "mediaType"], holds: true, check: Check::OneOf(&["application/vnd.oci.empty.v1+json"]) }), Step::Member("layers"), Step::EachItem, Step::Member("size")],
+        [Step::When(Condition { origin: Origin::Part, way: &["config", "mediaType"], holds: true, check: Predicate::OneOf(&["application/vnd.oci.empty.v1+json"]) }), Step::Member("layers"), Step::EachItem, Step::Member("size")],
         Test::Within(1, 18446744073709551615) },
     rule! { "manifest-artifact-layer-some", Should, "image manifest.md#guidelines-for-artifact-usage", "a layer of an artifact that is not empty", Platforms::Every,
-        [Step::When(Condition { origin: Origin::Part, way: &["artifactType"], holds: true, check: Check::There }), Step::Member("layers"), Step::EachItem, Step::Member("size")],
+        [Step::When(Condition { origin: Origin::Part, way: &["artifactType"], holds: true, check: Predicate::There }), Step::Member("layers"), Step::EachItem, Step::Member("size")],
         Test::Within(1, 18446744073709551615) },
     rule! { "manifest-subject-type", Stated, "image manifest.md#image-manifest-property-descriptions", "the media type of a manifest or index", Platforms::Every,
         [Step::Member("subject"), Step::Member("mediaType")],

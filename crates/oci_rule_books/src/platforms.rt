@@ -6,7 +6,7 @@ ghost use Rattle.oci_rules.specs.Tables.{rule_of};
 ghost use Rattle.oci_rule_books.specs.Platforms as defined;
 
 use oci_grammars::Grammar;
-use oci_rules::{Check, Condition, Level, Origin, Platforms, Rule, Step, Test};
+use oci_rules::{Condition, Level, Origin, Platforms, Predicate, Rule, Step, Test};
 
 static RULES_1: [Rule<'static>; 3] = [
     rule! { "windows-layers-there", Must, "runtime config-windows.md#layerfolders", "folders of layers", Platforms::Every,
@@ -22,19 +22,19 @@ static RULES_1: [Rule<'static>; 3] = [
 
 static RULES_2: [Rule<'static>; 3] = [
     rule! { "windows-device-id", Stated, "runtime config-windows.md#devices", "a GUID", Platforms::Every,
-        [Step::Member("windows"), Step::Member("devices"), Step::EachItem, Step::When(Condition { origin: Origin::Part, way: &["idType"], holds: true, check: Check::OneOf(&["class"]) }), Step::Member("id")],
+        [Step::Member("windows"), Step::Member("devices"), Step::EachItem, Step::When(Condition { origin: Origin::Part, way: &["idType"], holds: true, check: Predicate::OneOf(&["class"]) }), Step::Member("id")],
         Test::Text(Grammar::Guid) },
     rule! { "windows-cpu-one", Stated, "runtime config-windows.md#cpu", "one of count, shares and maximum", Platforms::Every,
-        [Step::Member("windows"), Step::Member("resources"), Step::Member("cpu"), Step::When(Condition { origin: Origin::Part, way: &["count"], holds: true, check: Check::There })],
+        [Step::Member("windows"), Step::Member("resources"), Step::Member("cpu"), Step::When(Condition { origin: Origin::Part, way: &["count"], holds: true, check: Predicate::There })],
         Test::Absent("shares") },
     rule! { "windows-cpu-one", Stated, "runtime config-windows.md#cpu", "one of count, shares and maximum", Platforms::Every,
-        [Step::Member("windows"), Step::Member("resources"), Step::Member("cpu"), Step::When(Condition { origin: Origin::Part, way: &["count"], holds: true, check: Check::There })],
+        [Step::Member("windows"), Step::Member("resources"), Step::Member("cpu"), Step::When(Condition { origin: Origin::Part, way: &["count"], holds: true, check: Predicate::There })],
         Test::Absent("maximum") },
 ];
 
 static RULES_3: [Rule<'static>; 3] = [
     rule! { "windows-cpu-one", Stated, "runtime config-windows.md#cpu", "one of count, shares and maximum", Platforms::Every,
-        [Step::Member("windows"), Step::Member("resources"), Step::Member("cpu"), Step::When(Condition { origin: Origin::Part, way: &["shares"], holds: true, check: Check::There })],
+        [Step::Member("windows"), Step::Member("resources"), Step::Member("cpu"), Step::When(Condition { origin: Origin::Part, way: &["shares"], holds: true, check: Predicate::There })],
         Test::Absent("maximum") },
     rule! { "windows-cpu-shares", Stated, "runtime config-windows.md#cpu", "an integer from 0 to 10000", Platforms::Every,
         [Step::Member("windows"), Step::Member("resources"), Step::Member("cpu"), Step::Member("shares")],
@@ -46,19 +46,19 @@ static RULES_3: [Rule<'static>; 3] = [
 
 static RULES_4: [Rule<'static>; 3] = [
     rule! { "windows-network-alone", Stated, "runtime config-windows.md#network", "no other member beside networkNamespace", Platforms::Every,
-        [Step::Member("windows"), Step::Member("network"), Step::When(Condition { origin: Origin::Part, way: &["networkNamespace"], holds: true, check: Check::There })],
+        [Step::Member("windows"), Step::Member("network"), Step::When(Condition { origin: Origin::Part, way: &["networkNamespace"], holds: true, check: Predicate::There })],
         Test::Absent("endpointList") },
     rule! { "windows-network-alone", Stated, "runtime config-windows.md#network", "no other member beside networkNamespace", Platforms::Every,
-        [Step::Member("windows"), Step::Member("network"), Step::When(Condition { origin: Origin::Part, way: &["networkNamespace"], holds: true, check: Check::There })],
+        [Step::Member("windows"), Step::Member("network"), Step::When(Condition { origin: Origin::Part, way: &["networkNamespace"], holds: true, check: Predicate::There })],
         Test::Absent("allowUnqualifiedDNSQuery") },
     rule! { "windows-network-alone", Stated, "runtime config-windows.md#network", "no other member beside networkNamespace", Platforms::Every,
-        [Step::Member("windows"), Step::Member("network"), Step::When(Condition { origin: Origin::Part, way: &["networkNamespace"], holds: true, check: Check::There })],
+        [Step::Member("windows"), Step::Member("network"), Step::When(Condition { origin: Origin::Part, way: &["networkNamespace"], holds: true, check: Predicate::There })],
         Test::Absent("DNSSearchList") },
 ];
 
 static RULES_5: [Rule<'static>; 3] = [
     rule! { "windows-network-alone", Stated, "runtime config-windows.md#network", "no other member beside networkNamespace", Platforms::Every,
-        [Step::Member("windows"), Step::Member("network"), Step::When(Condition { origin: Origin::Part, way: &["networkNamespace"], holds: true, check: Check::There })],
+        [Step::Member("windows"), Step::Member("network"), Step::When(Condition { origin: Origin::Part, way: &["networkNamespace"], holds: true, check: Predicate::There })],
         Test::Absent("networkSharedContainerName") },
     rule! { "vm-path-absolute", Must, "runtime config-vm.md#hypervisor-object", "an absolute path", Platforms::Every,
         [Step::Member("vm"), Step::Member("hypervisor"), Step::Member("path")],

@@ -7,13 +7,15 @@ ghost use Rattle.oci_rule_books.specs.Process as defined;
 
 use crate::lists::{POSIX, POSIX_RLIMITS};
 use oci_grammars::Grammar;
-use oci_rules::{Check, Condition, Key, Level, Origin, Platform, Platforms, Rule, Step, Test};
+use oci_rules::{
+    Condition, Key, Level, Origin, Platforms, Predicate, Rule, RuntimePlatform, Step, Test,
+};
 
 static RULES_1: [Rule<'static>; 3] = [
     rule! { "process-cwd-absolute", Must, "runtime config.md#process", "an absolute path", Platforms::These(POSIX),
         [Step::Member("process"), Step::Member("cwd")],
         Test::Text(Grammar::AbsolutePath) },
-    rule! { "process-cwd-absolute", Must, "runtime config.md#process", "an absolute path", Platforms::These(&[Platform::Windows]),
+    rule! { "process-cwd-absolute", Must, "runtime config.md#process", "an absolute path", Platforms::These(&[RuntimePlatform::Windows]),
         [Step::Member("process"), Step::Member("cwd")],
         Test::Text(Grammar::WindowsPath) },
     rule! { "process-args-some", Must, "runtime config.md#process", "at least one argument", Platforms::These(POSIX),
@@ -25,7 +27,7 @@ static RULES_2: [Rule<'static>; 3] = [
     rule! { "process-args-some", Must, "runtime config.md#process", "at least one argument", Platforms::These(POSIX),
         [Step::Member("process"), Step::Member("args")],
         Test::NotEmpty },
-    rule! { "process-command-line", Must, "runtime config.md#process", "a command line or arguments", Platforms::These(&[Platform::Windows]),
+    rule! { "process-command-line", Must, "runtime config.md#process", "a command line or arguments", Platforms::These(&[RuntimePlatform::Windows]),
         [Step::Member("process")],
         Test::Either(&["args", "commandLine"]) },
     rule! { "process-env", Stated, "runtime config.md#process", "a name, =, and a value", Platforms::Every,
@@ -50,7 +52,7 @@ static RULES_4: [Rule<'static>; 3] = [
         [Step::Member("process"), Step::Member("consoleSize")],
         Test::There("width") },
     rule! { "console-size-terminal", Host, "runtime config.md#process", "no size without a terminal", Platforms::Every,
-        [Step::Member("process"), Step::When(Condition { origin: Origin::Part, way: &["terminal"], holds: false, check: Check::Boolean(true) })],
+        [Step::Member("process"), Step::When(Condition { origin: Origin::Part, way: &["terminal"], holds: false, check: Predicate::Boolean(true) })],
         Test::Absent("consoleSize") },
     rule! { "user-ids-there", Must, "runtime config.md#user", "the ID of a user and that of a group", Platforms::These(POSIX),
         [Step::Member("process"), Step::Member("user")],
@@ -88,7 +90,7 @@ static RULES_7: [Rule<'static>; 3] = [
     rule! { "rlimit-soft-at-most-hard", Host, "getrlimit(2)", "a soft limit that is at most the hard one", Platforms::Every,
         [Step::Member("process"), Step::Member("rlimits"), Step::EachItem],
         Test::AtMost("soft", "hard") },
-    rule! { "rlimit-type-solaris", Must, "runtime config.md#posix-process", "a resource that POSIX limits", Platforms::These(&[Platform::Solaris]),
+    rule! { "rlimit-type-solaris", Must, "runtime config.md#posix-process", "a resource that POSIX limits", Platforms::These(&[RuntimePlatform::Solaris]),
         [Step::Member("process"), Step::Member("rlimits"), Step::EachItem, Step::Member("type")],
         Test::OneOf(POSIX_RLIMITS) },
 ];

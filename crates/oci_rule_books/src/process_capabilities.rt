@@ -6,7 +6,7 @@ ghost use Rattle.oci_rules.specs.Tables.{rule_of};
 ghost use Rattle.oci_rule_books.specs.Process as defined;
 
 use crate::lists::CAPABILITIES;
-use oci_rules::{Check, Condition, Key, Level, Origin, Platforms, Rule, Step, Test};
+use oci_rules::{Condition, Key, Level, Origin, Platforms, Predicate, Rule, Step, Test};
 
 static RULES_1: [Rule<'static>; 3] = [
     rule! { "capability-effective-permitted", Host, "capabilities(7)", "a capability that is permitted", Platforms::Every,
@@ -73,34 +73,34 @@ static RULES_6: [Rule<'static>; 3] = [
         [Step::Member("process"), Step::Member("scheduler"), Step::Member("nice")],
         Test::Within(-20, 19) },
     rule! { "scheduler-nice-policy", Host, "sched(7)", "0 but for SCHED_OTHER and SCHED_BATCH", Platforms::Every,
-        [Step::Member("process"), Step::Member("scheduler"), Step::When(Condition { origin: Origin::Part, way: &["policy"], holds: false, check: Check::OneOf(&["SCHED_OTHER", "SCHED_BATCH"]) }), Step::Member("nice")],
+        [Step::Member("process"), Step::Member("scheduler"), Step::When(Condition { origin: Origin::Part, way: &["policy"], holds: false, check: Predicate::OneOf(&["SCHED_OTHER", "SCHED_BATCH"]) }), Step::Member("nice")],
         Test::Within(0, 0) },
     rule! { "scheduler-priority-policy", Stated, "runtime config.md#linux-process", "0 but for SCHED_FIFO and SCHED_RR", Platforms::Every,
-        [Step::Member("process"), Step::Member("scheduler"), Step::When(Condition { origin: Origin::Part, way: &["policy"], holds: false, check: Check::OneOf(&["SCHED_FIFO", "SCHED_RR"]) }), Step::Member("priority")],
+        [Step::Member("process"), Step::Member("scheduler"), Step::When(Condition { origin: Origin::Part, way: &["policy"], holds: false, check: Predicate::OneOf(&["SCHED_FIFO", "SCHED_RR"]) }), Step::Member("priority")],
         Test::Within(0, 0) },
 ];
 
 static RULES_7: [Rule<'static>; 3] = [
     rule! { "scheduler-priority-range", Host, "sched(7)", "an integer from 1 to 99, for SCHED_FIFO and SCHED_RR", Platforms::Every,
-        [Step::Member("process"), Step::Member("scheduler"), Step::When(Condition { origin: Origin::Part, way: &["policy"], holds: true, check: Check::OneOf(&["SCHED_FIFO", "SCHED_RR"]) }), Step::Member("priority")],
+        [Step::Member("process"), Step::Member("scheduler"), Step::When(Condition { origin: Origin::Part, way: &["policy"], holds: true, check: Predicate::OneOf(&["SCHED_FIFO", "SCHED_RR"]) }), Step::Member("priority")],
         Test::Within(1, 99) },
     rule! { "scheduler-deadline-policy", Stated, "runtime config.md#linux-process", "0 but for SCHED_DEADLINE", Platforms::Every,
-        [Step::Member("process"), Step::Member("scheduler"), Step::When(Condition { origin: Origin::Part, way: &["policy"], holds: false, check: Check::OneOf(&["SCHED_DEADLINE"]) }), Step::Member("runtime")],
+        [Step::Member("process"), Step::Member("scheduler"), Step::When(Condition { origin: Origin::Part, way: &["policy"], holds: false, check: Predicate::OneOf(&["SCHED_DEADLINE"]) }), Step::Member("runtime")],
         Test::Within(0, 0) },
     rule! { "scheduler-deadline-policy", Stated, "runtime config.md#linux-process", "0 but for SCHED_DEADLINE", Platforms::Every,
-        [Step::Member("process"), Step::Member("scheduler"), Step::When(Condition { origin: Origin::Part, way: &["policy"], holds: false, check: Check::OneOf(&["SCHED_DEADLINE"]) }), Step::Member("deadline")],
+        [Step::Member("process"), Step::Member("scheduler"), Step::When(Condition { origin: Origin::Part, way: &["policy"], holds: false, check: Predicate::OneOf(&["SCHED_DEADLINE"]) }), Step::Member("deadline")],
         Test::Within(0, 0) },
 ];
 
 static RULES_8: [Rule<'static>; 3] = [
     rule! { "scheduler-deadline-policy", Stated, "runtime config.md#linux-process", "0 but for SCHED_DEADLINE", Platforms::Every,
-        [Step::Member("process"), Step::Member("scheduler"), Step::When(Condition { origin: Origin::Part, way: &["policy"], holds: false, check: Check::OneOf(&["SCHED_DEADLINE"]) }), Step::Member("period")],
+        [Step::Member("process"), Step::Member("scheduler"), Step::When(Condition { origin: Origin::Part, way: &["policy"], holds: false, check: Predicate::OneOf(&["SCHED_DEADLINE"]) }), Step::Member("period")],
         Test::Within(0, 0) },
     rule! { "scheduler-deadline-order", Host, "sched_setattr(2)", "a runtime that is at most the deadline, and that at most the period", Platforms::Every,
         [Step::Member("process"), Step::Member("scheduler")],
         Test::AtMost("runtime", "deadline") },
     rule! { "scheduler-deadline-order", Host, "sched_setattr(2)", "a runtime that is at most the deadline, and that at most the period", Platforms::Every,
-        [Step::Member("process"), Step::Member("scheduler"), Step::When(Condition { origin: Origin::Part, way: &["period"], holds: true, check: Check::Within(1, 18446744073709551615) })],
+        [Step::Member("process"), Step::Member("scheduler"), Step::When(Condition { origin: Origin::Part, way: &["period"], holds: true, check: Predicate::Within(1, 18446744073709551615) })],
         Test::AtMost("deadline", "period") },
 ];
 

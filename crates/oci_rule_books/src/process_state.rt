@@ -7,7 +7,9 @@ ghost use Rattle.oci_rule_books.specs.State as defined;
 
 use crate::lists::{LABEL_SCHEMA_KEYS, OPENCONTAINERS_KEYS};
 use oci_grammars::Grammar;
-use oci_rules::{Check, Condition, Key, Level, Origin, Platform, Platforms, Rule, Step, Test};
+use oci_rules::{
+    Condition, Key, Level, Origin, Platforms, Predicate, Rule, RuntimePlatform, Step, Test,
+};
 
 static RULES_1: [Rule<'static>; 3] = [
     rule! { "process-state-members-there", Must, "runtime config-linux.md#the-container-process-state", "a version, the ID of a process and a state", Platforms::Every,
@@ -61,8 +63,8 @@ static RULES_5: [Rule<'static>; 3] = [
     rule! { "state-id-some", Stated, "runtime runtime.md#state", "an ID that is not empty", Platforms::Every,
         [Step::Member("state"), Step::Member("id")],
         Test::NotEmpty },
-    rule! { "state-pid-there", Must, "runtime runtime.md#state", "the ID of the process, of a container that was created or runs", Platforms::These(&[Platform::Linux]),
-        [Step::Member("state"), Step::When(Condition { origin: Origin::Part, way: &["status"], holds: true, check: Check::OneOf(&["created", "running"]) })],
+    rule! { "state-pid-there", Must, "runtime runtime.md#state", "the ID of the process, of a container that was created or runs", Platforms::These(&[RuntimePlatform::Linux]),
+        [Step::Member("state"), Step::When(Condition { origin: Origin::Part, way: &["status"], holds: true, check: Predicate::OneOf(&["created", "running"]) })],
         Test::There("pid") },
     rule! { "state-pid-range", Stated, "runtime runtime.md#state", "an ID that is not negative, and positive of a container that was created or runs", Platforms::Every,
         [Step::Member("state"), Step::Member("pid")],
@@ -71,7 +73,7 @@ static RULES_5: [Rule<'static>; 3] = [
 
 static RULES_6: [Rule<'static>; 3] = [
     rule! { "state-pid-range", Stated, "runtime runtime.md#state", "an ID that is not negative, and positive of a container that was created or runs", Platforms::Every,
-        [Step::Member("state"), Step::When(Condition { origin: Origin::Part, way: &["status"], holds: true, check: Check::OneOf(&["created", "running"]) }), Step::Member("pid")],
+        [Step::Member("state"), Step::When(Condition { origin: Origin::Part, way: &["status"], holds: true, check: Predicate::OneOf(&["created", "running"]) }), Step::Member("pid")],
         Test::Within(1, 18446744073709551615) },
     rule! { "state-bundle-absolute", Stated, "runtime runtime.md#state", "an absolute path", Platforms::Every,
         [Step::Member("state"), Step::Member("bundle")],
@@ -89,13 +91,13 @@ static RULES_7: [Rule<'static>; 3] = [
         [Step::Member("state"), Step::Member("annotations"), Step::EachName],
         Test::Reserved("org.opencontainers.", OPENCONTAINERS_KEYS) },
     rule! { "annotation-as-image", Must, "runtime config.md#annotations", "a date and time (RFC 3339), as in an image configuration", Platforms::Every,
-        [Step::Member("state"), Step::Member("annotations"), Step::Member("org.opencontainers.image.created"), Step::When(Condition { origin: Origin::Part, way: &[], holds: false, check: Check::OneOf(&[""]) })],
+        [Step::Member("state"), Step::Member("annotations"), Step::Member("org.opencontainers.image.created"), Step::When(Condition { origin: Origin::Part, way: &[], holds: false, check: Predicate::OneOf(&[""]) })],
         Test::Text(Grammar::DateTime) },
 ];
 
 static RULES_8: [Rule<'static>; 2] = [
     rule! { "annotation-stop-signal", Must, "runtime config.md#annotations", "a signal's name, as SIGKILL or SIGRTMIN+3, or its number from 1 to 64", Platforms::Every,
-        [Step::Member("state"), Step::Member("annotations"), Step::Member("org.opencontainers.image.stopSignal"), Step::When(Condition { origin: Origin::Part, way: &[], holds: false, check: Check::OneOf(&[""]) })],
+        [Step::Member("state"), Step::Member("annotations"), Step::Member("org.opencontainers.image.stopSignal"), Step::When(Condition { origin: Origin::Part, way: &[], holds: false, check: Predicate::OneOf(&[""]) })],
         Test::Text(Grammar::Signal) },
     rule! { "annotation-label-schema", Host, "image annotations.md#back-compatibility-with-label-schema", "the key below org.opencontainers.image that superseded this one", Platforms::Every,
         [Step::Member("state"), Step::Member("annotations"), Step::EachName],

@@ -7,7 +7,9 @@ ghost use Rattle.oci_rule_books.specs.Spec as defined;
 
 use crate::lists::{LABEL_SCHEMA_KEYS, OPENCONTAINERS_KEYS, POSIX};
 use oci_grammars::Grammar;
-use oci_rules::{Check, Condition, Level, Origin, Platform, Platforms, Rule, Step, Test};
+use oci_rules::{
+    Condition, Level, Origin, Platforms, Predicate, Rule, RuntimePlatform, Step, Test,
+};
 
 static RULES_1: [Rule<'static>; 3] = [
     rule! { "spec-version-there", Must, "runtime config.md#specification-version", "the version of the specification", Platforms::Every,
@@ -25,55 +27,55 @@ static RULES_2: [Rule<'static>; 3] = [
     rule! { "spec-process-there", Host, "runtime config.md#process", "a process to start", Platforms::Every,
         [],
         Test::There("process") },
-    rule! { "spec-windows-there", Must, "runtime config.md#platform-specific-configuration", "the configuration for Windows", Platforms::These(&[Platform::Windows]),
+    rule! { "spec-windows-there", Must, "runtime config.md#platform-specific-configuration", "the configuration for Windows", Platforms::These(&[RuntimePlatform::Windows]),
         [],
         Test::There("windows") },
-    rule! { "spec-one-platform", Stated, "runtime config.md#platform-specific-configuration", "no configuration for another platform", Platforms::These(&[Platform::Linux, Platform::FreeBsd, Platform::Vm]),
+    rule! { "spec-one-platform", Stated, "runtime config.md#platform-specific-configuration", "no configuration for another platform", Platforms::These(&[RuntimePlatform::Linux, RuntimePlatform::FreeBsd, RuntimePlatform::Vm]),
         [],
         Test::Absent("windows") },
 ];
 
 static RULES_3: [Rule<'static>; 3] = [
-    rule! { "spec-one-platform", Stated, "runtime config.md#platform-specific-configuration", "no configuration for another platform", Platforms::These(&[Platform::Linux, Platform::FreeBsd, Platform::Vm]),
+    rule! { "spec-one-platform", Stated, "runtime config.md#platform-specific-configuration", "no configuration for another platform", Platforms::These(&[RuntimePlatform::Linux, RuntimePlatform::FreeBsd, RuntimePlatform::Vm]),
         [],
         Test::Absent("solaris") },
-    rule! { "spec-one-platform", Stated, "runtime config.md#platform-specific-configuration", "no configuration for another platform", Platforms::These(&[Platform::Linux, Platform::FreeBsd, Platform::Vm]),
+    rule! { "spec-one-platform", Stated, "runtime config.md#platform-specific-configuration", "no configuration for another platform", Platforms::These(&[RuntimePlatform::Linux, RuntimePlatform::FreeBsd, RuntimePlatform::Vm]),
         [],
         Test::Absent("zos") },
-    rule! { "spec-one-platform", Stated, "runtime config.md#platform-specific-configuration", "no configuration for another platform", Platforms::These(&[Platform::Windows]),
+    rule! { "spec-one-platform", Stated, "runtime config.md#platform-specific-configuration", "no configuration for another platform", Platforms::These(&[RuntimePlatform::Windows]),
         [],
         Test::Absent("linux") },
 ];
 
 static RULES_4: [Rule<'static>; 3] = [
-    rule! { "spec-one-platform", Stated, "runtime config.md#platform-specific-configuration", "no configuration for another platform", Platforms::These(&[Platform::Windows]),
+    rule! { "spec-one-platform", Stated, "runtime config.md#platform-specific-configuration", "no configuration for another platform", Platforms::These(&[RuntimePlatform::Windows]),
         [],
         Test::Absent("solaris") },
-    rule! { "spec-one-platform", Stated, "runtime config.md#platform-specific-configuration", "no configuration for another platform", Platforms::These(&[Platform::Windows]),
+    rule! { "spec-one-platform", Stated, "runtime config.md#platform-specific-configuration", "no configuration for another platform", Platforms::These(&[RuntimePlatform::Windows]),
         [],
         Test::Absent("zos") },
-    rule! { "spec-one-platform", Stated, "runtime config.md#platform-specific-configuration", "no configuration for another platform", Platforms::These(&[Platform::Solaris]),
+    rule! { "spec-one-platform", Stated, "runtime config.md#platform-specific-configuration", "no configuration for another platform", Platforms::These(&[RuntimePlatform::Solaris]),
         [],
         Test::Absent("linux") },
 ];
 
 static RULES_5: [Rule<'static>; 3] = [
-    rule! { "spec-one-platform", Stated, "runtime config.md#platform-specific-configuration", "no configuration for another platform", Platforms::These(&[Platform::Solaris]),
+    rule! { "spec-one-platform", Stated, "runtime config.md#platform-specific-configuration", "no configuration for another platform", Platforms::These(&[RuntimePlatform::Solaris]),
         [],
         Test::Absent("windows") },
-    rule! { "spec-one-platform", Stated, "runtime config.md#platform-specific-configuration", "no configuration for another platform", Platforms::These(&[Platform::Solaris]),
+    rule! { "spec-one-platform", Stated, "runtime config.md#platform-specific-configuration", "no configuration for another platform", Platforms::These(&[RuntimePlatform::Solaris]),
         [],
         Test::Absent("zos") },
-    rule! { "spec-one-platform", Stated, "runtime config.md#platform-specific-configuration", "no configuration for another platform", Platforms::These(&[Platform::Zos]),
+    rule! { "spec-one-platform", Stated, "runtime config.md#platform-specific-configuration", "no configuration for another platform", Platforms::These(&[RuntimePlatform::Zos]),
         [],
         Test::Absent("linux") },
 ];
 
 static RULES_6: [Rule<'static>; 3] = [
-    rule! { "spec-one-platform", Stated, "runtime config.md#platform-specific-configuration", "no configuration for another platform", Platforms::These(&[Platform::Zos]),
+    rule! { "spec-one-platform", Stated, "runtime config.md#platform-specific-configuration", "no configuration for another platform", Platforms::These(&[RuntimePlatform::Zos]),
         [],
         Test::Absent("windows") },
-    rule! { "spec-one-platform", Stated, "runtime config.md#platform-specific-configuration", "no configuration for another platform", Platforms::These(&[Platform::Zos]),
+    rule! { "spec-one-platform", Stated, "runtime config.md#platform-specific-configuration", "no configuration for another platform", Platforms::These(&[RuntimePlatform::Zos]),
         [],
         Test::Absent("solaris") },
     rule! { "root-there", Must, "runtime config.md#root", "a root file system", Platforms::These(POSIX),
@@ -82,11 +84,11 @@ static RULES_6: [Rule<'static>; 3] = [
 ];
 
 static RULES_7: [Rule<'static>; 3] = [
-    rule! { "root-there", Must, "runtime config.md#root", "a root file system", Platforms::These(&[Platform::Windows]),
-        [Step::When(Condition { origin: Origin::Part, way: &["windows", "hyperv"], holds: false, check: Check::There })],
+    rule! { "root-there", Must, "runtime config.md#root", "a root file system", Platforms::These(&[RuntimePlatform::Windows]),
+        [Step::When(Condition { origin: Origin::Part, way: &["windows", "hyperv"], holds: false, check: Predicate::There })],
         Test::There("root") },
     rule! { "root-absent-hyperv", Must, "runtime config.md#root", "no root file system for a Hyper-V container", Platforms::Every,
-        [Step::When(Condition { origin: Origin::Part, way: &["windows", "hyperv"], holds: true, check: Check::There })],
+        [Step::When(Condition { origin: Origin::Part, way: &["windows", "hyperv"], holds: true, check: Predicate::There })],
         Test::Absent("root") },
     rule! { "root-path-there", Must, "runtime config.md#root", "a path that is not empty", Platforms::Every,
         [Step::Member("root")],
@@ -97,7 +99,7 @@ static RULES_8: [Rule<'static>; 3] = [
     rule! { "root-path-there", Must, "runtime config.md#root", "a path that is not empty", Platforms::Every,
         [Step::Member("root"), Step::Member("path")],
         Test::NotEmpty },
-    rule! { "root-path-volume", Must, "runtime config.md#root", "a volume GUID path", Platforms::These(&[Platform::Windows]),
+    rule! { "root-path-volume", Must, "runtime config.md#root", "a volume GUID path", Platforms::These(&[RuntimePlatform::Windows]),
         [Step::Member("root"), Step::Member("path")],
         Test::Text(Grammar::VolumeGuidPath) },
     rule! { "root-path-rootfs", Should, "runtime config.md#root", "a path that ends in rootfs", Platforms::These(POSIX),
@@ -106,7 +108,7 @@ static RULES_8: [Rule<'static>; 3] = [
 ];
 
 static RULES_9: [Rule<'static>; 3] = [
-    rule! { "root-readonly-windows", Must, "runtime config.md#root", "false, or no such member", Platforms::These(&[Platform::Windows]),
+    rule! { "root-readonly-windows", Must, "runtime config.md#root", "false, or no such member", Platforms::These(&[RuntimePlatform::Windows]),
         [Step::Member("root"), Step::Member("readonly")],
         Test::Boolean(false) },
     rule! { "annotation-key-not-empty", Must, "runtime config.md#annotations", "a key that is not empty", Platforms::Every,
@@ -122,10 +124,10 @@ static RULES_10: [Rule<'static>; 3] = [
         [Step::Member("annotations"), Step::EachName],
         Test::Reserved("org.opencontainers.", OPENCONTAINERS_KEYS) },
     rule! { "annotation-as-image", Must, "runtime config.md#annotations", "a date and time (RFC 3339), as in an image configuration", Platforms::Every,
-        [Step::Member("annotations"), Step::Member("org.opencontainers.image.created"), Step::When(Condition { origin: Origin::Part, way: &[], holds: false, check: Check::OneOf(&[""]) })],
+        [Step::Member("annotations"), Step::Member("org.opencontainers.image.created"), Step::When(Condition { origin: Origin::Part, way: &[], holds: false, check: Predicate::OneOf(&[""]) })],
         Test::Text(Grammar::DateTime) },
     rule! { "annotation-stop-signal", Must, "runtime config.md#annotations", "a signal's name, as SIGKILL or SIGRTMIN+3, or its number from 1 to 64", Platforms::Every,
-        [Step::Member("annotations"), Step::Member("org.opencontainers.image.stopSignal"), Step::When(Condition { origin: Origin::Part, way: &[], holds: false, check: Check::OneOf(&[""]) })],
+        [Step::Member("annotations"), Step::Member("org.opencontainers.image.stopSignal"), Step::When(Condition { origin: Origin::Part, way: &[], holds: false, check: Predicate::OneOf(&[""]) })],
         Test::Text(Grammar::Signal) },
 ];
 

@@ -7,7 +7,9 @@ ghost use Rattle.oci_rule_books.specs.Spec as defined;
 
 use crate::lists::POSIX;
 use oci_grammars::Grammar;
-use oci_rules::{Check, Condition, Level, Origin, Platform, Platforms, Rule, Step, Test};
+use oci_rules::{
+    Condition, Level, Origin, Platforms, Predicate, Rule, RuntimePlatform, Step, Test,
+};
 
 static RULES_1: [Rule<'static>; 3] = [
     rule! { "hook-path-absolute", Must, "runtime config.md#posix-platform-hooks", "an absolute path", Platforms::These(POSIX),
@@ -109,17 +111,17 @@ static RULES_9: [Rule<'static>; 3] = [
     rule! { "hook-prestart-deprecated", Should, "runtime config.md#posix-platform-hooks", "no such member, which is deprecated", Platforms::Every,
         [Step::Member("hooks")],
         Test::Absent("prestart") },
-    rule! { "hook-on-posix", Stated, "runtime config.md#posix-platform-hooks", "no hooks on Windows", Platforms::These(&[Platform::Windows]),
+    rule! { "hook-on-posix", Stated, "runtime config.md#posix-platform-hooks", "no hooks on Windows", Platforms::These(&[RuntimePlatform::Windows]),
         [],
         Test::Absent("hooks") },
-    rule! { "hostname-needs-uts", Host, "runtime config.md#hostname", "no name of a host without a UTS namespace of its own", Platforms::These(&[Platform::Linux]),
-        [Step::When(Condition { origin: Origin::Document, way: &["linux", "namespaces"], holds: false, check: Check::ListsItem("type", &["uts"], &[], &["path"]) })],
+    rule! { "hostname-needs-uts", Host, "runtime config.md#hostname", "no name of a host without a UTS namespace of its own", Platforms::These(&[RuntimePlatform::Linux]),
+        [Step::When(Condition { origin: Origin::Document, way: &["linux", "namespaces"], holds: false, check: Predicate::ListsItem("type", &["uts"], &[], &["path"]) })],
         Test::Absent("hostname") },
 ];
 
 static RULES_10: [Rule<'static>; 3] = [
-    rule! { "domainname-needs-uts", Host, "runtime config.md#domainname", "no name of a domain without a UTS namespace of its own", Platforms::These(&[Platform::Linux]),
-        [Step::When(Condition { origin: Origin::Document, way: &["linux", "namespaces"], holds: false, check: Check::ListsItem("type", &["uts"], &[], &["path"]) })],
+    rule! { "domainname-needs-uts", Host, "runtime config.md#domainname", "no name of a domain without a UTS namespace of its own", Platforms::These(&[RuntimePlatform::Linux]),
+        [Step::When(Condition { origin: Origin::Document, way: &["linux", "namespaces"], holds: false, check: Predicate::ListsItem("type", &["uts"], &[], &["path"]) })],
         Test::Absent("domainname") },
     rule! { "hostname-length", Host, "sethostname(2)", "at most 64 bytes", Platforms::Every,
         [Step::Member("hostname")],

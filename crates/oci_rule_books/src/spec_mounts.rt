@@ -6,53 +6,55 @@ ghost use Rattle.oci_rules.specs.Tables.{rule_of};
 ghost use Rattle.oci_rule_books.specs.Spec as defined;
 
 use oci_grammars::Grammar;
-use oci_rules::{Check, Condition, Level, Origin, Platform, Platforms, Rule, Step, Test};
+use oci_rules::{
+    Condition, Level, Origin, Platforms, Predicate, Rule, RuntimePlatform, Step, Test,
+};
 
 static RULES_1: [Rule<'static>; 3] = [
-    rule! { "mount-destination-absolute", Should, "runtime config.md#mounts", "an absolute path", Platforms::These(&[Platform::Linux]),
+    rule! { "mount-destination-absolute", Should, "runtime config.md#mounts", "an absolute path", Platforms::These(&[RuntimePlatform::Linux]),
         [Step::Member("mounts"), Step::EachItem, Step::Member("destination")],
         Test::Text(Grammar::AbsolutePath) },
-    rule! { "mount-destination-absolute-other", Must, "runtime config.md#mounts", "an absolute path", Platforms::These(&[Platform::Solaris, Platform::Zos, Platform::Vm, Platform::FreeBsd]),
+    rule! { "mount-destination-absolute-other", Must, "runtime config.md#mounts", "an absolute path", Platforms::These(&[RuntimePlatform::Solaris, RuntimePlatform::Zos, RuntimePlatform::Vm, RuntimePlatform::FreeBsd]),
         [Step::Member("mounts"), Step::EachItem, Step::Member("destination")],
         Test::Text(Grammar::AbsolutePath) },
-    rule! { "mount-destination-absolute-other", Must, "runtime config.md#mounts", "an absolute path", Platforms::These(&[Platform::Windows]),
+    rule! { "mount-destination-absolute-other", Must, "runtime config.md#mounts", "an absolute path", Platforms::These(&[RuntimePlatform::Windows]),
         [Step::Member("mounts"), Step::EachItem, Step::Member("destination")],
         Test::Text(Grammar::WindowsPath) },
 ];
 
 static RULES_2: [Rule<'static>; 3] = [
-    rule! { "mount-source-windows", Stated, "runtime config.md#mounts", "a local directory", Platforms::These(&[Platform::Windows]),
+    rule! { "mount-source-windows", Stated, "runtime config.md#mounts", "a local directory", Platforms::These(&[RuntimePlatform::Windows]),
         [Step::Member("mounts"), Step::EachItem, Step::Member("source")],
         Test::Text(Grammar::LocalDirectory) },
     rule! { "mount-mappings-both", Must, "runtime config.md#posix-platform-mounts", "mappings of users and of groups, or none", Platforms::Every,
-        [Step::Member("mounts"), Step::EachItem, Step::When(Condition { origin: Origin::Part, way: &["uidMappings"], holds: true, check: Check::There })],
+        [Step::Member("mounts"), Step::EachItem, Step::When(Condition { origin: Origin::Part, way: &["uidMappings"], holds: true, check: Predicate::There })],
         Test::There("gidMappings") },
     rule! { "mount-mappings-both", Must, "runtime config.md#posix-platform-mounts", "mappings of users and of groups, or none", Platforms::Every,
-        [Step::Member("mounts"), Step::EachItem, Step::When(Condition { origin: Origin::Part, way: &["gidMappings"], holds: true, check: Check::There })],
+        [Step::Member("mounts"), Step::EachItem, Step::When(Condition { origin: Origin::Part, way: &["gidMappings"], holds: true, check: Predicate::There })],
         Test::There("uidMappings") },
 ];
 
 static RULES_3: [Rule<'static>; 3] = [
     rule! { "mount-mappings-option", Should, "runtime config.md#posix-platform-mounts", "the option idmap or ridmap, where mappings stand", Platforms::Every,
-        [Step::Member("mounts"), Step::EachItem, Step::When(Condition { origin: Origin::Part, way: &["uidMappings"], holds: true, check: Check::There })],
+        [Step::Member("mounts"), Step::EachItem, Step::When(Condition { origin: Origin::Part, way: &["uidMappings"], holds: true, check: Predicate::There })],
         Test::There("options") },
     rule! { "mount-mappings-option", Should, "runtime config.md#posix-platform-mounts", "the option idmap or ridmap, where mappings stand", Platforms::Every,
-        [Step::Member("mounts"), Step::EachItem, Step::When(Condition { origin: Origin::Part, way: &["uidMappings"], holds: true, check: Check::There }), Step::Member("options")],
+        [Step::Member("mounts"), Step::EachItem, Step::When(Condition { origin: Origin::Part, way: &["uidMappings"], holds: true, check: Predicate::There }), Step::Member("options")],
         Test::Lists(&["idmap", "ridmap"]) },
     rule! { "mount-idmap-possible", Must, "runtime config.md#linux-mount-options", "mappings, where the option idmap or ridmap stands and no user namespace", Platforms::Every,
-        [Step::When(Condition { origin: Origin::Document, way: &["linux", "namespaces"], holds: false, check: Check::ListsItem("type", &["user"], &[], &[]) }), Step::Member("mounts"), Step::EachItem, Step::When(Condition { origin: Origin::Part, way: &["options"], holds: true, check: Check::Lists(&["idmap", "ridmap"]) })],
+        [Step::When(Condition { origin: Origin::Document, way: &["linux", "namespaces"], holds: false, check: Predicate::ListsItem("type", &["user"], &[], &[]) }), Step::Member("mounts"), Step::EachItem, Step::When(Condition { origin: Origin::Part, way: &["options"], holds: true, check: Predicate::Lists(&["idmap", "ridmap"]) })],
         Test::Either(&["uidMappings", "gidMappings"]) },
 ];
 
 static RULES_4: [Rule<'static>; 3] = [
     rule! { "mount-tmpcopyup", Stated, "runtime config.md#linux-mount-options", "the type tmpfs, where the option tmpcopyup stands", Platforms::Every,
-        [Step::Member("mounts"), Step::EachItem, Step::When(Condition { origin: Origin::Part, way: &["options"], holds: true, check: Check::Lists(&["tmpcopyup"]) })],
+        [Step::Member("mounts"), Step::EachItem, Step::When(Condition { origin: Origin::Part, way: &["options"], holds: true, check: Predicate::Lists(&["tmpcopyup"]) })],
         Test::There("type") },
     rule! { "mount-tmpcopyup", Stated, "runtime config.md#linux-mount-options", "the type tmpfs, where the option tmpcopyup stands", Platforms::Every,
-        [Step::Member("mounts"), Step::EachItem, Step::When(Condition { origin: Origin::Part, way: &["options"], holds: true, check: Check::Lists(&["tmpcopyup"]) }), Step::Member("type")],
+        [Step::Member("mounts"), Step::EachItem, Step::When(Condition { origin: Origin::Part, way: &["options"], holds: true, check: Predicate::Lists(&["tmpcopyup"]) }), Step::Member("type")],
         Test::OneOf(&["tmpfs"]) },
-    rule! { "mount-type-there", Host, "mount(2)", "a type, where no bind mount is asked for", Platforms::These(&[Platform::Linux]),
-        [Step::Member("mounts"), Step::EachItem, Step::When(Condition { origin: Origin::Part, way: &["options"], holds: false, check: Check::Lists(&["bind", "rbind"]) })],
+    rule! { "mount-type-there", Host, "mount(2)", "a type, where no bind mount is asked for", Platforms::These(&[RuntimePlatform::Linux]),
+        [Step::Member("mounts"), Step::EachItem, Step::When(Condition { origin: Origin::Part, way: &["options"], holds: false, check: Predicate::Lists(&["bind", "rbind"]) })],
         Test::There("type") },
 ];
 
@@ -70,42 +72,42 @@ static RULES_5: [Rule<'static>; 3] = [
 
 static RULES_6: [Rule<'static>; 3] = [
     rule! { "mount-options-agree", Host, "mount(8)", "no option that takes another one back", Platforms::Every,
-        [Step::Member("mounts"), Step::EachItem, Step::Member("options"), Step::When(Condition { origin: Origin::Part, way: &[], holds: true, check: Check::Lists(&["ro"]) }), Step::EachItem],
+        [Step::Member("mounts"), Step::EachItem, Step::Member("options"), Step::When(Condition { origin: Origin::Part, way: &[], holds: true, check: Predicate::Lists(&["ro"]) }), Step::EachItem],
         Test::NoneOf(&["rw"]) },
     rule! { "mount-options-agree", Host, "mount(8)", "no option that takes another one back", Platforms::Every,
-        [Step::Member("mounts"), Step::EachItem, Step::Member("options"), Step::When(Condition { origin: Origin::Part, way: &[], holds: true, check: Check::Lists(&["suid"]) }), Step::EachItem],
+        [Step::Member("mounts"), Step::EachItem, Step::Member("options"), Step::When(Condition { origin: Origin::Part, way: &[], holds: true, check: Predicate::Lists(&["suid"]) }), Step::EachItem],
         Test::NoneOf(&["nosuid"]) },
     rule! { "mount-options-agree", Host, "mount(8)", "no option that takes another one back", Platforms::Every,
-        [Step::Member("mounts"), Step::EachItem, Step::Member("options"), Step::When(Condition { origin: Origin::Part, way: &[], holds: true, check: Check::Lists(&["dev"]) }), Step::EachItem],
+        [Step::Member("mounts"), Step::EachItem, Step::Member("options"), Step::When(Condition { origin: Origin::Part, way: &[], holds: true, check: Predicate::Lists(&["dev"]) }), Step::EachItem],
         Test::NoneOf(&["nodev"]) },
 ];
 
 static RULES_7: [Rule<'static>; 3] = [
     rule! { "mount-options-agree", Host, "mount(8)", "no option that takes another one back", Platforms::Every,
-        [Step::Member("mounts"), Step::EachItem, Step::Member("options"), Step::When(Condition { origin: Origin::Part, way: &[], holds: true, check: Check::Lists(&["exec"]) }), Step::EachItem],
+        [Step::Member("mounts"), Step::EachItem, Step::Member("options"), Step::When(Condition { origin: Origin::Part, way: &[], holds: true, check: Predicate::Lists(&["exec"]) }), Step::EachItem],
         Test::NoneOf(&["noexec"]) },
     rule! { "mount-options-agree", Host, "mount(8)", "no option that takes another one back", Platforms::Every,
-        [Step::Member("mounts"), Step::EachItem, Step::Member("options"), Step::When(Condition { origin: Origin::Part, way: &[], holds: true, check: Check::Lists(&["sync"]) }), Step::EachItem],
+        [Step::Member("mounts"), Step::EachItem, Step::Member("options"), Step::When(Condition { origin: Origin::Part, way: &[], holds: true, check: Predicate::Lists(&["sync"]) }), Step::EachItem],
         Test::NoneOf(&["async"]) },
-    rule! { "mount-default-filesystems", Should, "runtime config-linux.md#default-filesystems", "mounts of /proc, /sys, /dev/pts and /dev/shm", Platforms::These(&[Platform::Linux]),
+    rule! { "mount-default-filesystems", Should, "runtime config-linux.md#default-filesystems", "mounts of /proc, /sys, /dev/pts and /dev/shm", Platforms::These(&[RuntimePlatform::Linux]),
         [],
         Test::There("mounts") },
 ];
 
 static RULES_8: [Rule<'static>; 3] = [
-    rule! { "mount-default-filesystems", Should, "runtime config-linux.md#default-filesystems", "mounts of /proc, /sys, /dev/pts and /dev/shm", Platforms::These(&[Platform::Linux]),
+    rule! { "mount-default-filesystems", Should, "runtime config-linux.md#default-filesystems", "mounts of /proc, /sys, /dev/pts and /dev/shm", Platforms::These(&[RuntimePlatform::Linux]),
         [Step::Member("mounts")],
         Test::ListsItem("destination", "/proc") },
-    rule! { "mount-default-filesystems", Should, "runtime config-linux.md#default-filesystems", "mounts of /proc, /sys, /dev/pts and /dev/shm", Platforms::These(&[Platform::Linux]),
+    rule! { "mount-default-filesystems", Should, "runtime config-linux.md#default-filesystems", "mounts of /proc, /sys, /dev/pts and /dev/shm", Platforms::These(&[RuntimePlatform::Linux]),
         [Step::Member("mounts")],
         Test::ListsItem("destination", "/sys") },
-    rule! { "mount-default-filesystems", Should, "runtime config-linux.md#default-filesystems", "mounts of /proc, /sys, /dev/pts and /dev/shm", Platforms::These(&[Platform::Linux]),
+    rule! { "mount-default-filesystems", Should, "runtime config-linux.md#default-filesystems", "mounts of /proc, /sys, /dev/pts and /dev/shm", Platforms::These(&[RuntimePlatform::Linux]),
         [Step::Member("mounts")],
         Test::ListsItem("destination", "/dev/pts") },
 ];
 
 static RULES_9: [Rule<'static>; 1] = [
-    rule! { "mount-default-filesystems", Should, "runtime config-linux.md#default-filesystems", "mounts of /proc, /sys, /dev/pts and /dev/shm", Platforms::These(&[Platform::Linux]),
+    rule! { "mount-default-filesystems", Should, "runtime config-linux.md#default-filesystems", "mounts of /proc, /sys, /dev/pts and /dev/shm", Platforms::These(&[RuntimePlatform::Linux]),
         [Step::Member("mounts")],
         Test::ListsItem("destination", "/dev/shm") },
 ];

@@ -7,7 +7,9 @@ ghost use Rattle.oci_rule_books.specs.State as defined;
 
 use crate::lists::{LABEL_SCHEMA_KEYS, OPENCONTAINERS_KEYS};
 use oci_grammars::Grammar;
-use oci_rules::{Check, Condition, Level, Origin, Platform, Platforms, Rule, Step, Test};
+use oci_rules::{
+    Condition, Level, Origin, Platforms, Predicate, Rule, RuntimePlatform, Step, Test,
+};
 
 static RULES_1: [Rule<'static>; 3] = [
     rule! { "state-members-there", Must, "runtime runtime.md#state", "a version, an ID, a status and a bundle", Platforms::Every,
@@ -34,14 +36,14 @@ static RULES_2: [Rule<'static>; 3] = [
 ];
 
 static RULES_3: [Rule<'static>; 3] = [
-    rule! { "state-pid-there", Must, "runtime runtime.md#state", "the ID of the process, of a container that was created or runs", Platforms::These(&[Platform::Linux]),
-        [Step::When(Condition { origin: Origin::Part, way: &["status"], holds: true, check: Check::OneOf(&["created", "running"]) })],
+    rule! { "state-pid-there", Must, "runtime runtime.md#state", "the ID of the process, of a container that was created or runs", Platforms::These(&[RuntimePlatform::Linux]),
+        [Step::When(Condition { origin: Origin::Part, way: &["status"], holds: true, check: Predicate::OneOf(&["created", "running"]) })],
         Test::There("pid") },
     rule! { "state-pid-range", Stated, "runtime runtime.md#state", "an ID that is not negative, and positive of a container that was created or runs", Platforms::Every,
         [Step::Member("pid")],
         Test::Within(0, 18446744073709551615) },
     rule! { "state-pid-range", Stated, "runtime runtime.md#state", "an ID that is not negative, and positive of a container that was created or runs", Platforms::Every,
-        [Step::When(Condition { origin: Origin::Part, way: &["status"], holds: true, check: Check::OneOf(&["created", "running"]) }), Step::Member("pid")],
+        [Step::When(Condition { origin: Origin::Part, way: &["status"], holds: true, check: Predicate::OneOf(&["created", "running"]) }), Step::Member("pid")],
         Test::Within(1, 18446744073709551615) },
 ];
 
@@ -62,10 +64,10 @@ static RULES_5: [Rule<'static>; 3] = [
         [Step::Member("annotations"), Step::EachName],
         Test::Reserved("org.opencontainers.", OPENCONTAINERS_KEYS) },
     rule! { "annotation-as-image", Must, "runtime config.md#annotations", "a date and time (RFC 3339), as in an image configuration", Platforms::Every,
-        [Step::Member("annotations"), Step::Member("org.opencontainers.image.created"), Step::When(Condition { origin: Origin::Part, way: &[], holds: false, check: Check::OneOf(&[""]) })],
+        [Step::Member("annotations"), Step::Member("org.opencontainers.image.created"), Step::When(Condition { origin: Origin::Part, way: &[], holds: false, check: Predicate::OneOf(&[""]) })],
         Test::Text(Grammar::DateTime) },
     rule! { "annotation-stop-signal", Must, "runtime config.md#annotations", "a signal's name, as SIGKILL or SIGRTMIN+3, or its number from 1 to 64", Platforms::Every,
-        [Step::Member("annotations"), Step::Member("org.opencontainers.image.stopSignal"), Step::When(Condition { origin: Origin::Part, way: &[], holds: false, check: Check::OneOf(&[""]) })],
+        [Step::Member("annotations"), Step::Member("org.opencontainers.image.stopSignal"), Step::When(Condition { origin: Origin::Part, way: &[], holds: false, check: Predicate::OneOf(&[""]) })],
         Test::Text(Grammar::Signal) },
 ];
 

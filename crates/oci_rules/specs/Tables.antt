@@ -4,14 +4,14 @@ use Rattle.std.specs.Borrow.{Bor}
 use Rattle.oci_rules.specs.Rules as rules
 use Rattle.oci_rules.specs.declared.rule.Level.{Level}
 use Rattle.oci_rules.specs.declared.rule.Level.TheVariants as level
-use Rattle.oci_rules.specs.declared.rule.Platform.{Platform}
-use Rattle.oci_rules.specs.declared.rule.Platform.TheVariants as platform
+use Rattle.oci_rules.specs.declared.rule.RuntimePlatform.{RuntimePlatform}
+use Rattle.oci_rules.specs.declared.rule.RuntimePlatform.TheVariants as platform
 use Rattle.oci_rules.specs.declared.rule.Platforms.{Platforms}
 use Rattle.oci_rules.specs.declared.rule.Platforms.TheVariants as platforms
 use Rattle.oci_rules.specs.declared.rule.Origin.{Origin}
 use Rattle.oci_rules.specs.declared.rule.Origin.TheVariants as origin
-use Rattle.oci_rules.specs.declared.rule.Check.{Check}
-use Rattle.oci_rules.specs.declared.rule.Check.TheVariants as check
+use Rattle.oci_rules.specs.declared.rule.Predicate.{Predicate}
+use Rattle.oci_rules.specs.declared.rule.Predicate.TheVariants as check
 use Rattle.oci_rules.specs.declared.rule.Condition.{Condition}
 use Rattle.oci_rules.specs.declared.rule.Step.{Step}
 use Rattle.oci_rules.specs.declared.rule.Step.TheVariants as step
@@ -36,7 +36,7 @@ level_of level.Stated = rules.stated
 level_of level.Should = rules.should
 level_of level.Host = rules.host
 
-abbrev pub platform_of : Platform → rules.Platform
+abbrev pub platform_of : RuntimePlatform → rules.Platform
 platform_of platform.Linux = rules.linux
 platform_of platform.Windows = rules.windows
 platform_of platform.Solaris = rules.solaris
@@ -48,7 +48,7 @@ abbrev pub origin_of : Origin → rules.Origin
 origin_of origin.Part = rules.the_part
 origin_of origin.Document = rules.the_document
 
-abbrev pub check_of : Check → rules.Check
+abbrev pub check_of : Predicate → rules.Check
 check_of check.There = rules.is_there
 check_of (check.OneOf ts) = rules.is_text (texts_of ts.now)
 check_of (check.Boolean b) = rules.is_truth b

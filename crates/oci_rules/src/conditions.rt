@@ -7,7 +7,7 @@ ghost use Rattle.oci_rules.specs.Decided.{has as does_have, lacks as does_lack, 
 ghost use Rattle.oci_rules.specs.Tables.{texts_of, check_of, condition_of};
 
 use crate::parts::{has, led, text_at, whole};
-use crate::rule::{Check, Condition, Origin};
+use crate::rule::{Condition, Origin, Predicate};
 use serde_json::Value;
 
 /// Whether the condition holds of a part of the document.
@@ -25,25 +25,25 @@ pub fn holds(document: &Value, condition: &Condition, part: &Value) -> bool
 }
 
 /// Whether the check is so of the value.
-fn is_so(check: &Check, value: &Value) -> bool
+fn is_so(check: &Predicate, value: &Value) -> bool
     ensures { result ≡ comes_so (check_of check.now) (view value.now) }
 {
     match check {
-        Check::There => true,
-        Check::OneOf(texts) => is_one_of(texts, value),
-        Check::Boolean(boolean) => match value.as_bool() {
+        Predicate::There => true,
+        Predicate::OneOf(texts) => is_one_of(texts, value),
+        Predicate::Boolean(boolean) => match value.as_bool() {
             Some(found) => *boolean == found,
             None => false,
         },
-        Check::Within(low, high) => match whole(value) {
+        Predicate::Within(low, high) => match whole(value) {
             Some(number) => is_in(*low, *high, number),
             None => false,
         },
-        Check::Lists(texts) => match value.as_array() {
+        Predicate::Lists(texts) => match value.as_array() {
             Some(items) => has_text(texts, items),
             None => false,
         },
-        Check::ListsItem(name, texts, with, without) => match value.as_array() {
+        Predicate::ListsItem(name, texts, with, without) => match value.as_array() {
             Some(items) => has_item(name, texts, with, without, items),
             None => false,
         },

@@ -11,7 +11,7 @@ ghost use Rattle.oci_rules.specs.Tables.{told, rule_of, platform_of};
 
 use crate::find::broken;
 use crate::parts::has;
-use crate::rule::{Broken, Platform, Rule};
+use crate::rule::{Broken, Rule, RuntimePlatform};
 use oci_base::Result;
 use oci_model::OciRecord;
 use serde_json::Value;
@@ -19,21 +19,21 @@ use std::alloc::Global;
 
 /// The platform that the configuration of a container is for, as its parts say: that of `windows`, `zos`, `solaris` or `freebsd`
 /// where one is there, that of `vm` where `linux` is not beside it, else Linux.
-pub fn platform_of_document(document: &Value) -> Platform
+pub fn platform_of_document(document: &Value) -> RuntimePlatform
     ensures { platform_of result ≡ platform_in (view document.now) }
 {
     if has(document, "windows") {
-        Platform::Windows
+        RuntimePlatform::Windows
     } else if has(document, "zos") {
-        Platform::Zos
+        RuntimePlatform::Zos
     } else if has(document, "solaris") {
-        Platform::Solaris
+        RuntimePlatform::Solaris
     } else if has(document, "freebsd") {
-        Platform::FreeBsd
+        RuntimePlatform::FreeBsd
     } else if has(document, "vm") && !has(document, "linux") {
-        Platform::Vm
+        RuntimePlatform::Vm
     } else {
-        Platform::Linux
+        RuntimePlatform::Linux
     }
 }
 
@@ -41,7 +41,7 @@ pub fn platform_of_document(document: &Value) -> Platform
 /// Fails with `SerDe(Schema)` if the record is not serializable, else only with `Memory`.
 pub fn broken_in<'a, T: OciRecord>(
     rules: &'a [Rule<'a>],
-    platform: Platform,
+    platform: RuntimePlatform,
     document: &T,
     alloc: Global,
 ) -> Result<Vec<Broken<'a>>>

@@ -11,7 +11,7 @@ use crate::conditions::holds;
 use crate::items::{add_items_broken, push};
 use crate::parts::present;
 use crate::passes::{passes, pointer_of};
-use crate::rule::{Broken, Platform, Platforms, Rule, Step};
+use crate::rule::{Broken, Platforms, Rule, RuntimePlatform, Step};
 use oci_schema::place::{under_index, under_name};
 use serde_json::{Map, Value};
 use std::alloc::{AllocError, Global};
@@ -19,7 +19,7 @@ use std::alloc::{AllocError, Global};
 /// What breaks the rules for the platform in the value, rule by rule and part by part.
 pub fn broken<'a>(
     rules: &'a [Rule<'a>],
-    platform: Platform,
+    platform: RuntimePlatform,
     value: &Value,
     alloc: Global,
 ) -> Result<Vec<Broken<'a>>, AllocError>
@@ -34,7 +34,7 @@ pub fn broken<'a>(
 
 fn add_rules<'a>(
     rules: &'a [Rule<'a>],
-    platform: Platform,
+    platform: RuntimePlatform,
     value: &Value,
     found: &mut Vec<Broken<'a>>,
     alloc: Global,
@@ -49,7 +49,7 @@ fn add_rules<'a>(
 
 fn add_rule<'a>(
     rule: &'a Rule<'a>,
-    platform: Platform,
+    platform: RuntimePlatform,
     value: &Value,
     found: &mut Vec<Broken<'a>>,
     alloc: Global,
@@ -65,7 +65,7 @@ fn add_rule<'a>(
 
 /// Whether the platform is one of those of a rule.
 #[tactic(auto, using(crate::proofs::AllPlatforms::each_is_one))]
-fn is_for(platform: Platform, platforms: &Platforms<'_>) -> bool
+fn is_for(platform: RuntimePlatform, platforms: &Platforms<'_>) -> bool
     ensures { result ≡ is_among (platform_of platform) (platforms_of platforms.now) }
 {
     match platforms {
@@ -75,7 +75,7 @@ fn is_for(platform: Platform, platforms: &Platforms<'_>) -> bool
 }
 
 /// Whether the platform is one of these.
-fn is_listed(platform: Platform, platforms: &[Platform]) -> bool
+fn is_listed(platform: RuntimePlatform, platforms: &[RuntimePlatform]) -> bool
     ensures { result ≡ is_among (platform_of platform) (map platform_of platforms.now) }
 {
     for other in platforms {
@@ -86,16 +86,16 @@ fn is_listed(platform: Platform, platforms: &[Platform]) -> bool
     false
 }
 
-fn is_same(platform: Platform, other: Platform) -> bool
+fn is_same(platform: RuntimePlatform, other: RuntimePlatform) -> bool
     ensures { result ≡ is_platform (platform_of platform) (platform_of other) }
 {
     match (platform, other) {
-        (Platform::Linux, Platform::Linux)
-        | (Platform::Windows, Platform::Windows)
-        | (Platform::Solaris, Platform::Solaris)
-        | (Platform::Vm, Platform::Vm)
-        | (Platform::Zos, Platform::Zos)
-        | (Platform::FreeBsd, Platform::FreeBsd) => true,
+        (RuntimePlatform::Linux, RuntimePlatform::Linux)
+        | (RuntimePlatform::Windows, RuntimePlatform::Windows)
+        | (RuntimePlatform::Solaris, RuntimePlatform::Solaris)
+        | (RuntimePlatform::Vm, RuntimePlatform::Vm)
+        | (RuntimePlatform::Zos, RuntimePlatform::Zos)
+        | (RuntimePlatform::FreeBsd, RuntimePlatform::FreeBsd) => true,
         _ => false,
     }
 }

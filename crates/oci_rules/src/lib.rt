@@ -15,5 +15,5 @@ mod words;
 pub use document::{broken_in, platform_of_document};
 pub use find::broken;
 pub use rule::{
-    Broken, Check, Condition, Key, Level, Origin, Platform, Platforms, Rule, Step, Test,
+    Broken, Condition, Key, Level, Origin, Platforms, Predicate, Rule, RuntimePlatform, Step, Test,
 };

@@ -16,7 +16,7 @@ pub enum Level {
 
 /// A platform that a document is for.
 #[derive(Clone, Copy)]
-pub enum Platform {
+pub enum RuntimePlatform {
     /// Linux.
     Linux,
     /// Windows.
@@ -37,7 +37,7 @@ pub enum Platforms<'a> {
     /// All of them.
     Every,
     /// These.
-    These(&'a [Platform]),
+    These(&'a [RuntimePlatform]),
 }
 
 /// From where a condition looks.
@@ -51,7 +51,7 @@ pub enum Origin {
 
 /// What may be so of the value that a way of names leads to. Nothing is so of no value, and null is none.
 #[derive(Clone, Copy)]
-pub enum Check<'a> {
+pub enum Predicate<'a> {
     /// There is a value.
     There,
     /// It is one of these strings.
@@ -77,7 +77,7 @@ pub struct Condition<'a> {
     /// Whether the check has to be so, or has not to be.
     pub holds: bool,
     /// What is checked there.
-    pub check: Check<'a>,
+    pub check: Predicate<'a>,
 }
 
 /// One step from a value to its parts.

@@ -3,7 +3,7 @@ ghost use Rattle.std.specs.Prelude.{◌≡◌, Some, option_map};
 ghost use Rattle.oci_rules.specs.Tables.{level_of, platform_of};
 ghost use Rattle.oci_rules.specs.Words.{level_named, platform_named};
 
-use crate::rule::{Level, Platform};
+use crate::rule::{Level, RuntimePlatform};
 
 impl Level {
     /// The level that a word names, if there is one.
@@ -32,18 +32,18 @@ impl Level {
     }
 }
 
-impl Platform {
+impl RuntimePlatform {
     /// The platform that a word names, if there is one.
-    pub fn from_word(word: &str) -> Option<Platform>
+    pub fn from_word(word: &str) -> Option<RuntimePlatform>
         ensures { option_map platform_of result ≡ platform_named word.now }
     {
         match word {
-            "linux" => Some(Platform::Linux),
-            "windows" => Some(Platform::Windows),
-            "solaris" => Some(Platform::Solaris),
-            "vm" => Some(Platform::Vm),
-            "zos" => Some(Platform::Zos),
-            "freebsd" => Some(Platform::FreeBsd),
+            "linux" => Some(RuntimePlatform::Linux),
+            "windows" => Some(RuntimePlatform::Windows),
+            "solaris" => Some(RuntimePlatform::Solaris),
+            "vm" => Some(RuntimePlatform::Vm),
+            "zos" => Some(RuntimePlatform::Zos),
+            "freebsd" => Some(RuntimePlatform::FreeBsd),
             _ => None,
         }
     }
@@ -53,12 +53,12 @@ impl Platform {
         ensures { platform_named result.now ≡ Some (platform_of self) }
     {
         match self {
-            Platform::Linux => "linux",
-            Platform::Windows => "windows",
-            Platform::Solaris => "solaris",
-            Platform::Vm => "vm",
-            Platform::Zos => "zos",
-            Platform::FreeBsd => "freebsd",
+            RuntimePlatform::Linux => "linux",
+            RuntimePlatform::Windows => "windows",
+            RuntimePlatform::Solaris => "solaris",
+            RuntimePlatform::Vm => "vm",
+            RuntimePlatform::Zos => "zos",
+            RuntimePlatform::FreeBsd => "freebsd",
         }
     }
 }

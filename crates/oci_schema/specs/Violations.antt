@@ -9,8 +9,8 @@ use Rattle.oci_schema.specs.Allows.{allows}
 use Rattle.oci_schema.specs.Places.{under_name, under_index}
 use Rattle.oci_schema.specs.Shapes.{scalar_shape, schema_shape, presence_of, alias_of}
 use Rattle.oci_schema.specs.declared.record.Member.{Member}
-use Rattle.oci_schema.specs.declared.violation.Kind.{Kind}
-use Rattle.oci_schema.specs.declared.violation.Kind.TheVariants as kind
+use Rattle.oci_schema.specs.declared.violation.ExpectedKind.{ExpectedKind}
+use Rattle.oci_schema.specs.declared.violation.ExpectedKind.TheVariants as kind
 use Rattle.oci_schema.specs.declared.violation.Violation.{Violation}
 use Rattle.oci_schema.specs.declared.violation.Expected.{Expected}
 use Rattle.oci_schema.specs.declared.violation.Expected.TheVariants as expected
@@ -43,7 +43,7 @@ is_of_kind (a_scalar s) d = allows s d
 is_of_kind an_array d = is_some (as_array d)
 is_of_kind an_object d = is_some (as_object d)
 
-abbrev pub value_kind : Kind → ValueKind
+abbrev pub value_kind : ExpectedKind → ValueKind
 value_kind (kind.Scalar s) = a_scalar (scalar_shape s)
 value_kind kind.Array = an_array
 value_kind kind.Object = an_object

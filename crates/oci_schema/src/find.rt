@@ -9,7 +9,7 @@ use crate::member::is_null_absent;
 use crate::place::{under_index, under_name};
 use crate::scalar::scalar_allows;
 use crate::violation::expected_kind;
-use crate::{Expected, Kind, Member, Part, Presence, Records, Scalar, Schema, Violation};
+use crate::{Expected, ExpectedKind, Member, Part, Presence, Records, Scalar, Schema, Violation};
 use serde_json::{Map, Value};
 use std::alloc::{AllocError, Global};
 
@@ -27,7 +27,12 @@ fn push(
 }
 
 /// Adds that a value of this kind is expected at this place.
-fn reject(kind: Kind, at: &str, found: &mut Vec<Violation>, alloc: Global) -> Result<(), AllocError>
+fn reject(
+    kind: ExpectedKind,
+    at: &str,
+    found: &mut Vec<Violation>,
+    alloc: Global,
+) -> Result<(), AllocError>
     ensures { OnOk result (map reported found.new.items ≡ map reported found.old.items ++ (at.now, a_value (value_kind kind)) ∷ []) }
 {
     push(at, Expected::Value(kind), found, alloc)
@@ -45,7 +50,7 @@ fn add_scalar(
     if scalar_allows(scalar, value) {
         return Ok(());
     }
-    reject(Kind::Scalar(*scalar), at, found, alloc)
+    reject(ExpectedKind::Scalar(*scalar), at, found, alloc)
 }
 
 /// Adds all violations of the schema by the value at this place, in the order of the schema's members.
@@ -64,11 +69,11 @@ pub fn add_violations<T: Records>(
         Schema::One(part) => add_part(records, part, value, at, found, alloc),
         Schema::List(part) => match value.as_array() {
             Some(items) => add_items(records, part, items, at, found, alloc),
-            None => reject(Kind::Array, at, found, alloc),
+            None => reject(ExpectedKind::Array, at, found, alloc),
         },
         Schema::Map(part) => match value.as_object() {
             Some(entries) => add_entries(records, part, entries, at, found, alloc),
-            None => reject(Kind::Object, at, found, alloc),
+            None => reject(ExpectedKind::Object, at, found, alloc),
         },
     }
 }
@@ -105,7 +110,7 @@ fn add_record<T: Records>(
     if value.is_object() {
         add_members(records, record.members, value, at, found, alloc)
     } else {
-        reject(Kind::Object, at, found, alloc)
+        reject(ExpectedKind::Object, at, found, alloc)
     }
 }
 

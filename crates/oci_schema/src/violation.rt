@@ -9,7 +9,7 @@ use std::fmt;
 
 /// A kind of values. The items and members of a value have violations of their own.
 #[derive(Clone, Copy)]
-pub enum Kind {
+pub enum ExpectedKind {
     /// A scalar.
     Scalar(Scalar),
     /// An array.
@@ -22,9 +22,9 @@ pub enum Kind {
 #[derive(Clone, Copy)]
 pub enum Expected {
     /// A value of this kind, which the value there is not.
-    Value(Kind),
+    Value(ExpectedKind),
     /// A member of this kind, which is missing.
-    Member(Kind),
+    Member(ExpectedKind),
     /// No member of this alias, since one of its own name is there.
     NoAlias(&'static str),
 }
@@ -39,17 +39,17 @@ pub struct Violation {
 }
 
 /// The kind of the values that the schema allows.
-pub fn expected_kind<T: Records>(records: &T, schema: &Schema) -> Kind
+pub fn expected_kind<T: Records>(records: &T, schema: &Schema) -> ExpectedKind
     ensures { value_kind result ≡ kind_of (schema_shape (T.shape_at records.now) schema.now) }
 {
     match schema {
         Schema::One(part) => part_kind(records, part),
-        Schema::List(_) => Kind::Array,
-        Schema::Map(_) => Kind::Object,
+        Schema::List(_) => ExpectedKind::Array,
+        Schema::Map(_) => ExpectedKind::Object,
     }
 }
 
-fn part_kind<T: Records>(records: &T, part: &Part) -> Kind
+fn part_kind<T: Records>(records: &T, part: &Part) -> ExpectedKind
     ensures { value_kind result ≡ kind_of (part_shape (T.shape_at records.now) part.now) }
 {
     match part {
@@ -58,21 +58,21 @@ fn part_kind<T: Records>(records: &T, part: &Part) -> Kind
     }
 }
 
-fn scalar_kind(scalar: &Scalar) -> Kind
+fn scalar_kind(scalar: &Scalar) -> ExpectedKind
     ensures { value_kind result ≡ kind_of (scalar_shape scalar.now) }
 {
-    Kind::Scalar(*scalar)
+    ExpectedKind::Scalar(*scalar)
 }
 
 /// An object. The look-up is for its contract, which says that the shape at this place is that of an object.
-fn record_kind<T: Records>(records: &T, place: usize) -> Kind
+fn record_kind<T: Records>(records: &T, place: usize) -> ExpectedKind
     ensures { value_kind result ≡ kind_of (T.shape_at records.now place) }
 {
     let _record = records.record(place);
-    Kind::Object
+    ExpectedKind::Object
 }
 
-impl fmt::Display for Kind {
+impl fmt::Display for ExpectedKind {
     ghost use Rattle.std.specs.Prelude.{Some};
     ghost use Rattle.oci_schema.specs.Lines.{kind_text};
     ghost use Rattle.oci_schema.specs.Violations.{value_kind};
@@ -81,9 +81,9 @@ impl fmt::Display for Kind {
 
     fn fmt<W: fmt::Write>(&self, f: &mut fmt::Formatter<W>) -> fmt::Result {
         match self {
-            Kind::Scalar(scalar) => write!(f, "{scalar}"),
-            Kind::Array => f.write_str("an array"),
-            Kind::Object => f.write_str("an object"),
+            ExpectedKind::Scalar(scalar) => write!(f, "{scalar}"),
+            ExpectedKind::Array => f.write_str("an array"),
+            ExpectedKind::Object => f.write_str("an object"),
         }
     }
 }

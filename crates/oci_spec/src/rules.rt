@@ -4,8 +4,8 @@ pub use oci_grammars::Grammar;
 pub use oci_policies::{Bump, Policy, PolicyError, Reason};
 pub use oci_rule_books::rules_of;
 pub use oci_rules::{
-    Broken, Check, Condition, Key, Level, Origin, Platform, Platforms, Rule, Step, Test, broken,
-    broken_in, platform_of_document,
+    Broken, Condition, Key, Level, Origin, Platforms, Predicate, Rule, RuntimePlatform, Step, Test,
+    broken, broken_in, platform_of_document,
 };
 pub use oci_schema::{UnknownMember, repeated_names, suggestion, unknown_members};
 pub use oci_schemas::Kind;

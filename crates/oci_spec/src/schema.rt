@@ -11,7 +11,7 @@ pub use oci_schema::bytes::{
     violations_in_bytes,
 };
 pub use oci_schema::{
-    DefaultValue, Expected, Kind, Member, Part, Presence, Record, Records, Scalar, Schema,
+    DefaultValue, Expected, ExpectedKind, Member, Part, Presence, Record, Records, Scalar, Schema,
     Violation, is_valid, normal_value_from_reader, normalize_pretty, normalize_value,
     violation_lines, violations,
 };

@@ -1,7 +1,7 @@
 //! What breaks the rules of a kind of documents.
 use anyhow::{Context, Result, bail};
 use oci_rule_books::rules_of;
-use oci_rules::{Broken, Platform, broken, platform_of_document};
+use oci_rules::{Broken, RuntimePlatform, broken, platform_of_document};
 use oci_schemas::Kind;
 use serde_json::Value;
 use std::alloc::Global;
@@ -9,7 +9,7 @@ use std::alloc::Global;
 /// What breaks the rules of a kind of documents.
 pub fn broken_of(
     kind: &str,
-    platform: Platform,
+    platform: RuntimePlatform,
     value: &Value,
     alloc: Global,
 ) -> Result<Vec<Broken<'static>>> {
@@ -24,14 +24,14 @@ pub fn broken_of(
 }
 
 /// The platform of a word, or for `-` the one that the document's parts say.
-pub fn platform_of(word: &str, value: &Value) -> Result<Platform> {
+pub fn platform_of(word: &str, value: &Value) -> Result<RuntimePlatform> {
     Ok(match word {
-        "linux" => Platform::Linux,
-        "windows" => Platform::Windows,
-        "solaris" => Platform::Solaris,
-        "vm" => Platform::Vm,
-        "zos" => Platform::Zos,
-        "freebsd" => Platform::FreeBsd,
+        "linux" => RuntimePlatform::Linux,
+        "windows" => RuntimePlatform::Windows,
+        "solaris" => RuntimePlatform::Solaris,
+        "vm" => RuntimePlatform::Vm,
+        "zos" => RuntimePlatform::Zos,
+        "freebsd" => RuntimePlatform::FreeBsd,
         "-" => platform_of_document(value),
         _ => bail!("no platform"),
     })

@@ -2,7 +2,7 @@
 use crate::rules::rows::{compare, count_rows, line_of, parts, read};
 use anyhow::{Context, Result, bail};
 use oci_policies::{Bump, Policy};
-use oci_rules::{Platform, broken};
+use oci_rules::{RuntimePlatform, broken};
 use serde_json::Value;
 use std::alloc::Global;
 use std::fs;
@@ -40,7 +40,7 @@ fn check_row<R: Print + AllocGlobal>(rt: &R, name: &str, policy: &Policy, row: &
 /// What breaks the policy in the text of a document.
 fn listed(policy: &Policy, document: &str, alloc: Global) -> Result<String> {
     let value = Value::from_str(alloc, document)?;
-    let found = broken(policy.rules(), Platform::Linux, &value, alloc)?;
+    let found = broken(policy.rules(), RuntimePlatform::Linux, &value, alloc)?;
     line_of(&found, alloc)
 }
 

@@ -6,7 +6,7 @@ use Rattle.oci_commands.proofs.check.check_files.Given as goal
 
 abbrev pub invariant-loop-name : goal.invariant-loop-name
 invariant-loop-name g l = record {
-  right : l.tally.wrong ≡ false → l.tally.unread ≡ false → (k : ℕ) → k < l.name-index → HoldsAt (λ f. IfSome (g.S.Store.holds l.initial.store f.now) (IsRight (g.B.RuleBooks.rules l.books) l.asked)) l.asked.files.now k;
-  wrong : l.tally.wrong ≡ true → (i : ℕ) × (i < length l.asked.files.now) × HoldsAt (λ f. IfSome (g.S.Store.holds l.initial.store f.now) (IsWrong (g.B.RuleBooks.rules l.books) l.asked)) l.asked.files.now i;
-  kept : g.S.Store.holds l.store ≡ g.S.Store.holds l.initial.store;
+  right : l.tally.wrong ≡ false → l.tally.unread ≡ false → (k : ℕ) → k < l.name-index → HoldsAt (λ f. IfSome (g.S.Files.holds l.initial.store f.now) (IsRight (g.B.RuleBooks.rules l.books) l.asked)) l.asked.files.now k;
+  wrong : l.tally.wrong ≡ true → (i : ℕ) × (i < length l.asked.files.now) × HoldsAt (λ f. IfSome (g.S.Files.holds l.initial.store f.now) (IsWrong (g.B.RuleBooks.rules l.books) l.asked)) l.asked.files.now i;
+  kept : g.S.Files.holds l.store ≡ g.S.Files.holds l.initial.store;
 }

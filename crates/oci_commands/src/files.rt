@@ -18,7 +18,7 @@ pub enum Presence {
 }
 
 /// Files by name. The name `-` is that of standard input.
-pub trait Store {
+pub trait Files {
     /// The bytes under a name, where they are known.
     ghost holds: { Self → List ℕ → Option (List ℕ) } = { λ _ _. None };
 
