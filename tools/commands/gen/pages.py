@@ -59,8 +59,8 @@ def links(page, line):
 
 def used_commands(line):
     """The commands of tools/ in a line, also outside backticks, that are not there."""
-    for name, part in re.findall(r"(?<![\w/])tools/(\w+)(?: +([a-z_]+)\b)?", line):
     for name, part in re.findall(r"(?<![\w/])tools/(\w+)\b(?!\.\w)(?: +([a-z_]+)\b)?", line):
+        if f"tools/{name}" not in names.files():
             yield f"tools/{name}", "no such command"
         elif name in COMMANDS and part and not os.path.exists(at(f"tools/commands/{name}/{part}.py")):
             yield f"tools/{name} {part}", "the command has no such part"
