@@ -57,15 +57,29 @@ both_lines first second third e w empty one two =
     let step : zero + e ≡ e = omega arith in
     two e (subst (λ k. AreLines k second) step (one zero begun))
 
-pub kept_more : {X : Type 0} (p : X → Bool) (kept new yielded : List X) (x : X) → p x ≡ true → new ≡ kept ++ x ∷ [] → kept ≡ filter p yielded → new ≡ filter p (yielded ++ x ∷ [])
-kept_more p kept new yielded x yes is before =
-    let one : filter p (x ∷ []) ≡ x ∷ [] = rw yes refl in
-    is ∙ ap (λ q. q ++ x ∷ []) before ∙ ap (λ q. filter p yielded ++ q) (sym one) ∙ sym (filter-append p yielded (x ∷ []))
+pub one_kept : (new old : List Finding) (x : Finding) → is_error x ≡ true → new ≡ old ++ x ∷ [] → new ≡ old ++ filter is_error (x ∷ [])
+one_kept new old x yes is =
+    let one : filter is_error (x ∷ []) ≡ x ∷ [] = rw yes refl in
+    is ∙ ap (λ q. old ++ q) (sym one)
 
-pub passed_more : {X : Type 0} (p : X → Bool) (kept yielded : List X) (x : X) → p x ≡ false → kept ≡ filter p yielded → kept ≡ filter p (yielded ++ x ∷ [])
-passed_more p kept yielded x no before =
-    let one : filter p (x ∷ []) ≡ [] = rw no refl in
-    before ∙ sym (append-nil (filter p yielded)) ∙ ap (λ q. filter p yielded ++ q) (sym one) ∙ sym (filter-append p yielded (x ∷ []))
+pub one_passed : (new old : List Finding) (x : Finding) → is_error x ≡ false → new ≡ old → new ≡ old ++ filter is_error (x ∷ [])
+one_passed new old x no is =
+    let one : filter is_error (x ∷ []) ≡ [] = rw no refl in
+    is ∙ sym (append-nil old) ∙ ap (λ q. old ++ q) (sym one)
+
+pub others_kept : (new old : List Finding) (x : Finding) → is_error x ≡ false → new ≡ old ++ x ∷ [] → new ≡ old ++ filter is_no_error (x ∷ [])
+others_kept new old x no is =
+    let one : filter is_no_error (x ∷ []) ≡ x ∷ [] = rw no refl in
+    is ∙ ap (λ q. old ++ q) (sym one)
+
+pub others_passed : (new old : List Finding) (x : Finding) → is_error x ≡ true → new ≡ old → new ≡ old ++ filter is_no_error (x ∷ [])
+others_passed new old x yes is =
+    let one : filter is_no_error (x ∷ []) ≡ [] = rw yes refl in
+    is ∙ sym (append-nil old) ∙ ap (λ q. old ++ q) (sym one)
+
+pub sorted_more : (p : Finding → Bool) (kept new yielded : List Finding) (x : Finding) → new ≡ kept ++ filter p (x ∷ []) → kept ≡ filter p yielded → new ≡ filter p (yielded ++ x ∷ [])
+sorted_more p kept new yielded x is before =
+    is ∙ ap (λ q. q ++ filter p (x ∷ [])) before ∙ sym (filter-append p yielded (x ∷ []))
 
 pub drained : {X : Type 0} (taken rest all : List X) → all ≡ taken ++ rest → length rest ≡ 0 → all ≡ taken
 drained taken [] all e h = e ∙ append-nil taken

@@ -1,5 +1,5 @@
 -- What is said of files of an image layout.
-use Rattle.std.specs.Prelude.{ℕ, List, ◌++◌, codes, string_bytes, String, Option, Some, None}
+use Rattle.std.specs.Prelude.{ℕ, List, [], ◌++◌, codes, string_bytes, String, Option, Some, None}
 use Rattle.std.specs.declared.alloc.Global.{Global}
 use Rattle.std.specs.Fmt.{decimal}
 use Rattle.oci_content.specs.Content.{checksum_text}

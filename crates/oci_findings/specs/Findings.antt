@@ -1,6 +1,5 @@
 -- What is said of what is wrong.
-use Rattle.std.specs.Prelude.{ℕ, List, [], ◌++◌, codes, string_bytes, String, Option, Some, None}
-use Rattle.std.specs.declared.alloc.Global.{Global}
+use Rattle.std.specs.Prelude.{ℕ, List, ◌++◌, codes, string_bytes, Option, Some, None}
 use Rattle.oci_rules.specs.Breaks.{Told}
 use Rattle.oci_rules.specs.Tables.{rule_of}
 use Rattle.oci_schema.specs.Violations.{Report, Expectation, expectation_of, reported}

@@ -1,5 +1,5 @@
 //! What was found out about a document or a file of an image layout.
-ghost use Rattle.std.specs.Prelude.{◌≡◌, IfOk};
+ghost use Rattle.std.specs.Prelude.{◌≡◌, ◌++◌, ◌∷◌, [], IfOk, OnOk};
 ghost use Rattle.std.specs.List.{filter};
 ghost use Rattle.oci_findings.specs.Lines.{is_error, is_no_error};
 
@@ -54,11 +54,7 @@ impl<'a> Report<'a> {
     {
         let (mut errors, mut warnings) = (Vec::new(alloc), Vec::new(alloc));
         'sorted: for finding in found {
-            if finding.is_error() {
-                errors.push(finding)?;
-            } else {
-                warnings.push(finding)?;
-            }
+            sort_in(finding, &mut errors, &mut warnings)?;
         }
         let places = match text {
             Some(bytes) => Some(places_of(&errors, &warnings, bytes.as_slice(), alloc)?),
@@ -83,6 +79,24 @@ impl<'a> Report<'a> {
             }
         }
     }
+}
+
+/// Adds a finding to the errors, or to the others.
+#[tactic(auto, using(crate::proofs::Facts::one_kept, crate::proofs::Facts::one_passed, crate::proofs::Facts::others_passed, crate::proofs::Facts::others_kept))]
+fn sort_in<'a>(
+    finding: Finding<'a>,
+    errors: &mut Vec<Finding<'a>>,
+    warnings: &mut Vec<Finding<'a>>,
+) -> Result<(), AllocError>
+    ensures errors { OnOk result (errors.new.items ≡ errors.old.items ++ filter is_error (finding.entry ∷ [])) }
+    ensures warnings { OnOk result (warnings.new.items ≡ warnings.old.items ++ filter is_no_error (finding.entry ∷ [])) }
+{
+    if finding.is_error() {
+        errors.push(finding)?;
+    } else {
+        warnings.push(finding)?;
+    }
+    Ok(())
 }
 
 /// Where findings are in the text; nowhere if there is none.

@@ -2,7 +2,7 @@
 ghost use Rattle.std.specs.Prelude.{◌≡◌, ◌⊎◌, ◌<◌, false, codes, length, IsTrue, IfOk, string_bytes};
 ghost use Rattle.oci_base.specs.Escaped.{IsLine};
 ghost use Rattle.oci_layout.specs.Sound.{IsSoundLayout, IsSoundFrom, IsFileOf};
-ghost use Rattle.oci_layout.specs.Looks.{Contents, Shows};
+ghost use Rattle.oci_layout.specs.Looks.{Contents};
 ghost use Rattle.oci_layout.specs.Walk.{IsWalk};
 
 use crate::verify::marker::marker_report;
@@ -14,8 +14,8 @@ use oci_base::{OciSpecError, Result, line_of};
 use oci_findings::{Claims, FileFault, Report, Reporter, content_report, document_findings};
 use oci_json::write_text;
 use oci_layout::{
-    Claim, Detail, Fault, ImageLayout, Kind, Layout, Seen, Top, Walk, blob_path, is_sound_walk,
-    read_document, read_top, walk_all,
+    Claim, Detail, Fault, ImageLayout, Kind, Layout, Seen, Shown, Top, Walk, blob_path,
+    is_sound_walk, read_document, read_top, walk_all,
 };
 use std::alloc::{AllocError, Global};
 use std::io::{ErrorKind, Write};
@@ -128,7 +128,10 @@ impl<'a, L: ImageLayout, C: Watch> Verification<'a, L, C> {
             self.options.limit,
             buffer,
         )? {
-            Top::Bytes(index) => self.verify_index(index.as_slice(), buffer, &mut output),
+            Top::Bytes(index) => {
+                let index = index.as_slice();
+                self.verify_index(index, buffer, &mut output)
+            }
             Top::TooLarge => {
                 output.add_fault("index.json", FileFault::TooLarge)?;
                 output.finish(0, 0)?;
@@ -214,7 +217,12 @@ impl<'a, L: ImageLayout, C: Watch> Verification<'a, L, C> {
         ensures { IfOk result (λ sound. IsTrue sound
             → IsSoundFrom self.now.options.now.quick self.now.options.now.limit (L.contents self.now.layout.now) fault first.items) }
     {
-        let walk = self.look_at_all(first, buffer, output)?;
+        let shown = Layout {
+            store: self.layout,
+            limit: self.options.limit,
+            quick: self.options.quick,
+        };
+        let walk = self.look_at_all(&shown, first, buffer, output)?;
         output.report_progress()?;
         self.report_unreferenced(&walk, output)?;
         output.finish(walk.claims.len() as u64, bytes_of(&walk))?;
@@ -231,37 +239,23 @@ impl<'a, L: ImageLayout, C: Watch> Verification<'a, L, C> {
     }
 
     /// Looks at all claims that are reached from the first ones, and reports what is found at each as it is found.
-    fn look_at_all<W: Write, E: Write>(
+    fn look_at_all<S: Shown, W: Write, E: Write>(
         &self,
+        shown: &S,
         first: Vec<Claim>,
         buffer: &mut [u8],
         output: &mut Output<'_, W, E>,
     ) -> Result<Walk>
         requires { 0 < length buffer.old }
-        ensures { IfOk result (λ w. IsWalk (Shows self.now.options.now.quick self.now.options.now.limit (L.contents self.now.layout.now))
-            first.items w.claims.items w.faults.items) }
+        ensures { IfOk result (λ w. IsWalk (S.shows shown.now) first.items w.claims.items w.faults.items) }
     {
-        let shown = self.shown(self.options.quick);
         let mut walk = Walk::begin(self.alloc, first)?;
-        'looks: while walk.step(&shown, self.alloc, buffer)? {
+        'looks: while walk.step(shown, self.alloc, buffer)? {
             let place = walk.faults.len() - 1;
             self.report_place(&walk, place, output)?;
             walk.drop_text();
         }
         Ok(walk)
-    }
-
-    /// The contents of the layout, as they are looked at.
-    fn shown(&self, quick: bool) -> Layout<'a, L>
-        ensures store { result.store.now ≡ self.now.layout.now }
-        ensures limit { result.limit ≡ self.now.options.now.limit }
-        ensures quick { result.quick ≡ quick }
-    {
-        Layout {
-            store: self.layout,
-            limit: self.options.limit,
-            quick,
-        }
     }
 
     /// Reports what was found at a claim.
@@ -303,7 +297,12 @@ impl<'a, L: ImageLayout, C: Watch> Verification<'a, L, C> {
             return Ok(None);
         }
         let seen = read_document(self.alloc, Kind::Index, index)?;
-        let walk = walk_all(&self.shown(true), self.alloc, seen.claims, buffer)?;
+        let shown = Layout {
+            store: self.layout,
+            limit: self.options.limit,
+            quick: true,
+        };
+        let walk = walk_all(&shown, self.alloc, seen.claims, buffer)?;
         let (contents, bytes) = (walk.claims.len() as u64, bytes_of(&walk));
         Ok(Some(Progress::of(contents, bytes)))
     }
