@@ -10,7 +10,8 @@ use Rattle.oci_model.specs.Shape.{Presence, required, defaulted, optional, nulla
 use Rattle.oci_schema.specs.Allows.{allows}
 use Rattle.oci_schema.specs.Leads.{Step, to_member, to_item, spelled, Have}
 use Rattle.oci_schema.specs.Places.{under_name, under_index}
-use Rattle.oci_schema.specs.Violations.{Expectation, Report, kind_of, is_of_kind, an_object, a_value, a_member, no_alias, unless, each_violations, items_violations, each_member_violations, members_violations, member_violations, either_violations, row_violations, violations, rows_violations}
+use Rattle.oci_schema.specs.EachPart.{of_each, of_each_member}
+use Rattle.oci_schema.specs.Violations.{Expectation, Report, kind_of, is_of_kind, an_object, a_value, a_member, no_alias, unless, items_violations, members_violations, member_violations, either_violations, row_violations, violations, rows_violations}
 use Rattle.oci_schema.specs.Wants.{HasRow, Lists, StandsUnder, is_as_absent, StepsTo, Wants, IsWrong, IsViolationAt}
 
 one : (x : Report) → Contains (x ∷ []) x
@@ -126,25 +127,25 @@ here s at d p (no_alias other) wrong =
 
 -- ---- what is listed of a part is listed of the whole
 
-each_has : (f : Listing) (at : List ℕ) (c : Data) (x : Report) (i j : ℕ) (ds : Items) → get_item i ds ≡ Some c → Contains (f (under_index at (j + i)) c) x → Contains (each_violations f at j ds) x
+each_has : (f : Listing) (at : List ℕ) (c : Data) (x : Report) (i j : ℕ) (ds : Items) → get_item i ds ≡ Some c → Contains (f (under_index at (j + i)) c) x → Contains (of_each f at j ds) x
 each_has f at c x i j no_items e has = cc
 each_has f at c x zero j (item d ds) e has =
     let same : c ≡ d = cc in
     let index : j + 0 ≡ j = omega arith in
-    Contains-append_left (f (under_index at j) d) (each_violations f at (j + 1) ds) x
+    Contains-append_left (f (under_index at j) d) (of_each f at (j + 1) ds) x
     (subst (λ b. Contains (f (under_index at j) b) x) same (subst (λ n. Contains (f (under_index at n) c) x) index has))
 each_has f at c x (suc i) j (item d ds) e has =
     let index : j + suc i ≡ (j + 1) + i = omega arith in
-    Contains-append_right (f (under_index at j) d) (each_violations f at (j + 1) ds) x
+    Contains-append_right (f (under_index at j) d) (of_each f at (j + 1) ds) x
     (each_has f at c x i (j + 1) ds e (subst (λ n. Contains (f (under_index at n) c) x) index has))
 
-each_member_has : (f : Listing) (at key : List ℕ) (c : Data) (x : Report) (ms : Members) → Have ms key c → Contains (f (under_name at key) c) x → Contains (each_member_violations f at ms) x
+each_member_has : (f : Listing) (at key : List ℕ) (c : Data) (x : Report) (ms : Members) → Have ms key c → Contains (f (under_name at key) c) x → Contains (of_each_member f at ms) x
 each_member_has f at key c x no_members e has = absurd e
 each_member_has f at key c x (member k d ms) (inl same) has =
-    Contains-append_left (f (under_name at k) d) (each_member_violations f at ms) x
+    Contains-append_left (f (under_name at k) d) (of_each_member f at ms) x
     (subst (λ b. Contains (f (under_name at k) b) x) same.1 (subst (λ n. Contains (f (under_name at n) c) x) same.0 has))
 each_member_has f at key c x (member k d ms) (inr e) has =
-    Contains-append_right (f (under_name at k) d) (each_member_violations f at ms) x (each_member_has f at key c x ms e has)
+    Contains-append_right (f (under_name at k) d) (of_each_member f at ms) x (each_member_has f at key c x ms e has)
 
 null_has : (f : Listing) (at : List ℕ) (c : Data) (x : Report) (b : Bool) → b ≡ false → Contains (f at c) x → Contains (cond b [] (f at c)) x
 null_has f at c x true e has = cc

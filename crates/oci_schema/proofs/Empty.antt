@@ -9,7 +9,8 @@ use Rattle.oci_model.specs.Shape as shape
 use Rattle.oci_model.specs.Shape.{Presence, required, defaulted, optional, nullable, unless_empty, Shape, text, truth, whole, named, open_name, digest_text, cpu_text, cap_set, list, key_set, detail, free_map, rows, Rows, no_rows, row}
 use Rattle.oci_schema.specs.Allows.{allows, rows_allow, each_allowed, items_allowed, each_member_allowed, members_allowed, member_allowed, either_allowed}
 use Rattle.oci_schema.specs.Places.{under_name, under_index}
-use Rattle.oci_schema.specs.Violations.{Report, unless, each_violations, items_violations, each_member_violations, members_violations, member_violations, either_violations, row_violations, violations, rows_violations}
+use Rattle.oci_schema.specs.EachPart.{of_each, of_each_member}
+use Rattle.oci_schema.specs.Violations.{Report, unless, items_violations, members_violations, member_violations, either_violations, row_violations, violations, rows_violations}
 use Rattle.oci_schema.proofs.Decides.{both, first_of, later_of, decides}
 
 abbrev Listing : Type 0
@@ -45,11 +46,11 @@ unless_full false at s e = not_empty _ _ e
 
 -- ---- each part
 
-each_none : (f : Listing) (g : Data → Bool) → Sound f g → (at : List ℕ) (i : ℕ) (ds : Items) → each_allowed g ds ≡ true → each_violations f at i ds ≡ []
+each_none : (f : Listing) (g : Data → Bool) → Sound f g → (at : List ℕ) (i : ℕ) (ds : Items) → each_allowed g ds ≡ true → of_each f at i ds ≡ []
 each_none f g sound at i no_items e = refl
 each_none f g sound at i (item d ds) e = no_more _ _ (sound (under_index at i) d (first_of (g d) _ e)) (each_none f g sound at (i + 1) ds (later_of (g d) _ e))
 
-each_full : (f : Listing) (g : Data → Bool) → Full f g → (at : List ℕ) (i : ℕ) (ds : Items) → each_violations f at i ds ≡ [] → each_allowed g ds ≡ true
+each_full : (f : Listing) (g : Data → Bool) → Full f g → (at : List ℕ) (i : ℕ) (ds : Items) → of_each f at i ds ≡ [] → each_allowed g ds ≡ true
 each_full f g full at i no_items e = refl
 each_full f g full at i (item d ds) e =
     both (g d) _ (full (under_index at i) d (none_first (f (under_index at i) d) _ e)) (each_full f g full at (i + 1) ds (none_later (f (under_index at i) d) _ e))
@@ -62,11 +63,11 @@ items_full : (s : Shape) (f : Listing) (g : Data → Bool) → Full f g → (at 
 items_full s f g full at None e = not_empty _ _ e
 items_full s f g full at (Some ds) e = each_full f g full at 0 ds e
 
-each_member_none : (f : Listing) (g : Data → Bool) → Sound f g → (at : List ℕ) (ms : Members) → each_member_allowed g ms ≡ true → each_member_violations f at ms ≡ []
+each_member_none : (f : Listing) (g : Data → Bool) → Sound f g → (at : List ℕ) (ms : Members) → each_member_allowed g ms ≡ true → of_each_member f at ms ≡ []
 each_member_none f g sound at no_members e = refl
 each_member_none f g sound at (member k d ms) e = no_more _ _ (sound (under_name at k) d (first_of (g d) _ e)) (each_member_none f g sound at ms (later_of (g d) _ e))
 
-each_member_full : (f : Listing) (g : Data → Bool) → Full f g → (at : List ℕ) (ms : Members) → each_member_violations f at ms ≡ [] → each_member_allowed g ms ≡ true
+each_member_full : (f : Listing) (g : Data → Bool) → Full f g → (at : List ℕ) (ms : Members) → of_each_member f at ms ≡ [] → each_member_allowed g ms ≡ true
 each_member_full f g full at no_members e = refl
 each_member_full f g full at (member k d ms) e =
     both (g d) _ (full (under_name at k) d (none_first (f (under_name at k) d) _ e)) (each_member_full f g full at ms (none_later (f (under_name at k) d) _ e))

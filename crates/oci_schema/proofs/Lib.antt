@@ -6,6 +6,7 @@ pub mod Complete
 pub mod Decides
 pub mod DefaultValues
 pub mod Documents
+pub mod EachPart
 pub mod Empty
 pub mod Exits
 pub mod FieldWalk
@@ -32,6 +33,7 @@ pub mod Presences
 pub mod Repeats
 pub mod Replacing
 pub mod Sets
+pub mod Sinks
 pub mod Sizes
 pub mod Slots
 pub mod Sound

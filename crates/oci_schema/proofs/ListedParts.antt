@@ -8,7 +8,8 @@ use Rattle.oci_model.specs.Shape.{Shape}
 use Rattle.oci_schema.specs.Shapes.{members_in}
 use Rattle.oci_schema.specs.declared.record.Member.{Member}
 use Rattle.oci_schema.specs.Places.{under_index, under_name}
-use Rattle.oci_schema.specs.Violations.{Report, each_violations, each_member_violations, rows_violations, known_violations}
+use Rattle.oci_schema.specs.EachPart.{of_each, of_each_member}
+use Rattle.oci_schema.specs.Violations.{Report, rows_violations, known_violations}
 use Rattle.oci_schema.proofs.Moved.{past}
 use Rattle.oci_schema.proofs.Steps.{items_left, members_left}
 
@@ -16,26 +17,26 @@ use Rattle.oci_schema.proofs.Steps.{items_left, members_left}
 
 module _ (f : List ℕ → Data → List Report) (at : List ℕ) (old new : List Report) (place : List ℕ) (v : Value) (added : new ≡ old ++ f place (view v)) where
   pub item_more : (i : ℕ) (vs us : List Value) → vs ≡ us → i < length vs → v ≡ slice_index_or vs i v → place ≡ under_index at i
-      → new ++ each_violations f at (i + 1) (items_view (drop (i + 1) us)) ≡ old ++ each_violations f at i (items_view (drop i us))
+      → new ++ of_each f at (i + 1) (items_view (drop (i + 1) us)) ≡ old ++ of_each f at i (items_view (drop i us))
   item_more i vs us same below is there =
-      let rest = each_violations f at (i + 1) (items_view (drop (i + 1) us)) in
+      let rest = of_each f at (i + 1) (items_view (drop (i + 1) us)) in
       let cut : items_view (drop i us) ≡ item (view v) (items_view (drop (i + 1) us)) =
       subst (λ ws. items_view (drop i ws) ≡ item (view v) (items_view (drop (i + 1) ws))) same (items_left vs i v below is) in
       ap (λ rs. rs ++ rest) added ∙ append_assoc old (f place (view v)) rest ∙ ap (λ p. old ++ (f p (view v) ++ rest)) there
-      ∙ ap (λ ds. old ++ each_violations f at i ds) (sym cut)
+      ∙ ap (λ ds. old ++ of_each f at i ds) (sym cut)
 
   pub entry_more : (k : List ℕ) (ms left : Members) → ms ≡ member k (view v) left → place ≡ under_name at k
-      → new ++ each_member_violations f at left ≡ old ++ each_member_violations f at ms
+      → new ++ of_each_member f at left ≡ old ++ of_each_member f at ms
   entry_more k ms left cut there =
-      let rest = each_member_violations f at left in
+      let rest = of_each_member f at left in
       ap (λ rs. rs ++ rest) added ∙ append_assoc old (f place (view v)) rest ∙ ap (λ p. old ++ (f p (view v) ++ rest)) there
-      ∙ ap (λ es. old ++ each_member_violations f at es) (sym cut)
+      ∙ ap (λ es. old ++ of_each_member f at es) (sym cut)
 
 pub no_item_more : (f : List ℕ → Data → List Report) (at : List ℕ) (old : List Report) (i : ℕ) (vs us : List Value) → vs ≡ us → length vs ≤ i
-    → old ≡ old ++ each_violations f at i (items_view (drop i us))
+    → old ≡ old ++ of_each f at i (items_view (drop i us))
 no_item_more f at old i vs us same end =
     let none : drop i us ≡ [] = subst (λ ws. drop i ws ≡ []) same (past vs i end) in
-    sym (ap (λ ws. old ++ each_violations f at i (items_view ws)) none ∙ append-nil old)
+    sym (ap (λ ws. old ++ of_each f at i (items_view ws)) none ∙ append-nil old)
 
 -- ---- members of records
 

@@ -5,10 +5,7 @@ use Rattle.std.proofs.lemmas.Slice.Eq.{bytes_eq-Decides}
 use Rattle.oci_base.specs.Names.{is_listed, no_text_twice}
 use Rattle.oci_model.specs.Shape.{with_second}
 use Rattle.oci_schema.proofs.Decides.{later_of}
-
-pub or_right : (a b : Bool) → b ≡ true → (a || b) ≡ true
-or_right true b e = refl
-or_right false b e = e
+use Rattle.oci_schema.proofs.Texts.{or_right}
 
 pub is_itself : (name : List ℕ) → bytes_eq name name ≡ true
 is_itself name = (bytes_eq-Decides name name).1 refl

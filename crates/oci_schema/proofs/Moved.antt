@@ -14,7 +14,8 @@ use Rattle.oci_schema.specs.Normalized.{accepts, rows_accept, known_accepted, ch
 use Rattle.oci_schema.specs.Shapes.{presence_of, alias_of, schema_shape, members_in}
 use Rattle.oci_schema.specs.declared.record.Member.{Member}
 use Rattle.oci_schema.proofs.Decides.{first_of, later_of, refuted}
-use Rattle.oci_schema.proofs.Listings.{or_right, listed_first, later_listed, rest_once}
+use Rattle.oci_schema.proofs.Texts.{or_right}
+use Rattle.oci_schema.proofs.Listings.{listed_first, later_listed, rest_once}
 use Rattle.oci_schema.proofs.Listed.{drop_at}
 
 -- ---- names

@@ -22,7 +22,7 @@ use Rattle.oci_schema.proofs.NormalParts.{object_kept}
 
 -- ---- values that are written as they were read
 
-string_kept : (d : Data) (t : List ℕ) → as_str d ≡ Some t → d ≡ string t
+pub string_kept : (d : Data) (t : List ℕ) → as_str d ≡ Some t → d ≡ string t
 string_kept null t e = cc
 string_kept (boolean b) t e = cc
 string_kept (number n) t e = cc
@@ -30,7 +30,7 @@ string_kept (string s) t e = cc
 string_kept (array ds) t e = cc
 string_kept (object ms) t e = cc
 
-truth_kept : (d : Data) (b : Bool) → as_bool d ≡ Some b → d ≡ boolean b
+pub truth_kept : (d : Data) (b : Bool) → as_bool d ≡ Some b → d ≡ boolean b
 truth_kept null t e = cc
 truth_kept (boolean b) t e = cc
 truth_kept (number n) t e = cc

@@ -20,7 +20,8 @@ use Rattle.oci_schema.specs.Allows.{member_allowed, either_allowed}
 use Rattle.oci_schema.specs.Normalized.{accepts, rows_accept, chosen, normalized, normalized_member, normalized_rows}
 use Rattle.oci_schema.specs.Normal.{AreNormalMembers, is_always_written, IsNormalMember, IsNormalEntry, AreNormalEntries, HasAll}
 use Rattle.oci_schema.proofs.Decides.{both, first_of, later_of, refuted}
-use Rattle.oci_schema.proofs.Listings.{or_right, listed_first, later_listed, rest_once}
+use Rattle.oci_schema.proofs.Texts.{or_right}
+use Rattle.oci_schema.proofs.Listings.{listed_first, later_listed, rest_once}
 
 -- ---- objects with their names in order are equal where they are equal at each name
 

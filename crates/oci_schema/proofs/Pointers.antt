@@ -21,6 +21,7 @@ use Rattle.serde_json.proofs.Paths.{Lacks, walk_part, walk_last}
 use Rattle.oci_json.specs.Readable.{IsBefore, IsInOrder}
 use Rattle.oci_schema.specs.Places.{escaped, under_name, under_index}
 use Rattle.oci_schema.specs.Leads.{Step, to_member, to_item, spelled, Have, HasMember, HasItem, Goes, LeadsTo, IsOrderly, AreOrderly, HoldOrderly}
+use Rattle.oci_schema.proofs.EachPart.{no_some}
 
 -- ---- names
 
@@ -101,9 +102,6 @@ index_back n h =
 
 -- ---- one step
 
-none_some : {A P : Type 0} (x : A) → None ≡ Some x → P
-none_some x e = cc
-
 same_text : (xs : List ℕ) → slice_cmp nat_cmp xs xs ≡ Equal
 same_text xs = (Equal-is (slice_cmp nat_cmp xs xs)).0 (is_eq-slice_cmp xs xs ∙ (bytes_eq-Decides xs xs).1 refl)
 
@@ -129,11 +127,11 @@ member_found name c (member k d ms) order orderly (inr has) =
     (passes name k d c ms (slice_cmp nat_cmp name k) refl (not_after k name c ms order.0 has) later.0, later.1)
 
 to_the_member : (name : List ℕ) (d c : Data) → IsOrderly d → HasMember d name c → (step (escaped name) d ≡ Some c) × IsOrderly c
-to_the_member name null c orderly has = let (ms, is, have) = has in none_some ms is
-to_the_member name (boolean b) c orderly has = let (ms, is, have) = has in none_some ms is
-to_the_member name (number n) c orderly has = let (ms, is, have) = has in none_some ms is
-to_the_member name (string t) c orderly has = let (ms, is, have) = has in none_some ms is
-to_the_member name (array ds) c orderly has = let (ms, is, have) = has in none_some ms is
+to_the_member name null c orderly has = let (ms, is, have) = has in no_some ms is
+to_the_member name (boolean b) c orderly has = let (ms, is, have) = has in no_some ms is
+to_the_member name (number n) c orderly has = let (ms, is, have) = has in no_some ms is
+to_the_member name (string t) c orderly has = let (ms, is, have) = has in no_some ms is
+to_the_member name (array ds) c orderly has = let (ms, is, have) = has in no_some ms is
 to_the_member name (object ns) c orderly has =
     let (ms, is, have) = has in
     let same : ms ≡ ns = cc in
@@ -141,16 +139,16 @@ to_the_member name (object ns) c orderly has =
     (ap (λ t. get_member t ns) (name_back name) ∙ there.0, there.1)
 
 item_found : (i : ℕ) (c : Data) (ds : Items) → AreOrderly ds → get_item i ds ≡ Some c → (i < items_len ds) × IsOrderly c
-item_found i c no_items orderly e = none_some c e
+item_found i c no_items orderly e = no_some c e
 item_found zero c (item d ds) orderly e = let same : d ≡ c = cc in (omega arith, subst IsOrderly same orderly.0)
 item_found (suc i) c (item d ds) orderly e = let later = item_found i c ds orderly.1 e in let less : i < items_len ds = later.0 in (omega arith, later.1)
 
 to_the_item : (i : ℕ) (d c : Data) → IsOrderly d → HasItem d i c → (i < 2 ^ 64) × (step (decimal i) d ≡ Some c) × IsOrderly c
-to_the_item i null c orderly has = let (ds, is, e) = has in none_some ds is
-to_the_item i (boolean b) c orderly has = let (ds, is, e) = has in none_some ds is
-to_the_item i (number n) c orderly has = let (ds, is, e) = has in none_some ds is
-to_the_item i (string t) c orderly has = let (ds, is, e) = has in none_some ds is
-to_the_item i (object ms) c orderly has = let (ds, is, e) = has in none_some ds is
+to_the_item i null c orderly has = let (ds, is, e) = has in no_some ds is
+to_the_item i (boolean b) c orderly has = let (ds, is, e) = has in no_some ds is
+to_the_item i (number n) c orderly has = let (ds, is, e) = has in no_some ds is
+to_the_item i (string t) c orderly has = let (ds, is, e) = has in no_some ds is
+to_the_item i (object ms) c orderly has = let (ds, is, e) = has in no_some ds is
 to_the_item i (array es) c orderly has =
     let (ds, is, e) = has in
     let same : ds ≡ es = cc in

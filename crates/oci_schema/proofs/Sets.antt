@@ -6,7 +6,6 @@ use Rattle.std.specs.BTreeSet.{BTreeSet, UpdatesBy, contains_text}
 use Rattle.std.proofs.lemmas.Bool.Decides.{same_from_decides}
 use Rattle.std.proofs.lemmas.Map.Text.{btree_set_updates_text}
 use Rattle.std.proofs.lemmas.Slice.Eq.{bytes_eq-Decides}
-use Rattle.oci_schema.specs.Twice.{with_name}
 
 -- equality goes both ways
 turned : (xs ys : List ℕ) → bytes_eq xs ys ≡ bytes_eq ys xs
@@ -21,7 +20,7 @@ cond_or false c = refl
 
 -- after one more text
 pub one_more : (k : String Global) (t : List ℕ) (s n : BTreeSet (String Global)) → string_bytes k ≡ t → UpdatesBy string_cmp (string_cmp k) s n true → (q : List ℕ)
-    → contains_text n q ≡ with_name t (contains_text s) q
+    → contains_text n q ≡ (bytes_eq q t || contains_text s q)
 one_more k t s n is updates q =
     btree_set_updates_text (string_bytes k) s n true updates q
     ∙ cond_or (bytes_eq (string_bytes k) q) (contains_text s q) ∙ ap (λ b. b || contains_text s q) (turned (string_bytes k) q) ∙ ap (λ z. bytes_eq q z || contains_text s q) is

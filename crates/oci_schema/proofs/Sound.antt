@@ -10,7 +10,8 @@ use Rattle.oci_model.specs.Shape.{Presence, required, defaulted, optional, nulla
 use Rattle.oci_schema.specs.Allows.{allows}
 use Rattle.oci_schema.specs.Leads.{to_member, to_item, Have}
 use Rattle.oci_schema.specs.Places.{under_name, under_index}
-use Rattle.oci_schema.specs.Violations.{Report, kind_of, is_of_kind, an_object, a_value, a_member, no_alias, unless, each_violations, items_violations, each_member_violations, members_violations, member_violations, either_violations, row_violations, violations, rows_violations}
+use Rattle.oci_schema.specs.EachPart.{of_each, of_each_member}
+use Rattle.oci_schema.specs.Violations.{Report, kind_of, is_of_kind, an_object, a_value, a_member, no_alias, unless, items_violations, members_violations, member_violations, either_violations, row_violations, violations, rows_violations}
 use Rattle.oci_schema.specs.Wants.{HasRow, Lists, StandsUnder, is_as_absent, StepsTo, IsWrong, IsViolationAt}
 
 -- ---- lists
@@ -51,12 +52,12 @@ unless_sound at s d x false e has = wrong_kind at s d x e has
 -- ---- items and members of maps
 
 each_sound : (s : Shape) (f : Listing) → Sound s f → (at : List ℕ) (d : Data) (all : Items) → as_array d ≡ Some all → (x : Report) (i : ℕ) (ds : Items)
-    → ((j : ℕ) (c : Data) → get_item j ds ≡ Some c → get_item (i + j) all ≡ Some c) → Contains (each_violations f at i ds) x → IsViolationAt at (list s) d x
+    → ((j : ℕ) (c : Data) → get_item j ds ≡ Some c → get_item (i + j) all ≡ Some c) → Contains (of_each f at i ds) x → IsViolationAt at (list s) d x
 each_sound s f sound at d all is x i no_items within has = absurd (none_of x has)
 each_sound s f sound at d all is x i (item c ds) within has =
     let same : i + 0 ≡ i = omega arith in
     let first : get_item i all ≡ Some c = ap (λ n. get_item n all) (sym same) ∙ within 0 c refl in
-    elim (Contains-append_cases (f (under_index at i) c) (each_violations f at (i + 1) ds) x has) as (λ _. IsViolationAt at (list s) d x) [
+    elim (Contains-append_cases (f (under_index at i) c) (of_each f at (i + 1) ds) x has) as (λ _. IsViolationAt at (list s) d x) [
       | inl h ↦ to_an_item at i (list s) s d c x (refl, (all, is, first)) (sound (under_index at i) c x h)
       | inr h ↦ each_sound s f sound at d all is x (i + 1) ds (λ j b e. shifted i j all b (within (suc j) b e)) h
     ]
@@ -72,10 +73,10 @@ items_sound s f sound at d x (Some ds) is has = each_sound s f sound at d ds is 
     from_first j c e = let same : 0 + j ≡ j = omega arith in ap (λ n. get_item n ds) same ∙ e
 
 each_member_sound : (s : Shape) (f : Listing) → Sound s f → (at : List ℕ) (d : Data) (all : Members) → as_object d ≡ Some all → (x : Report) (ms : Members)
-    → ((name : List ℕ) (c : Data) → Have ms name c → Have all name c) → Contains (each_member_violations f at ms) x → IsViolationAt at (shape.map s) d x
+    → ((name : List ℕ) (c : Data) → Have ms name c → Have all name c) → Contains (of_each_member f at ms) x → IsViolationAt at (shape.map s) d x
 each_member_sound s f sound at d all is x no_members within has = absurd (none_of x has)
 each_member_sound s f sound at d all is x (member k c ms) within has =
-    elim (Contains-append_cases (f (under_name at k) c) (each_member_violations f at ms) x has) as (λ _. IsViolationAt at (shape.map s) d x) [
+    elim (Contains-append_cases (f (under_name at k) c) (of_each_member f at ms) x has) as (λ _. IsViolationAt at (shape.map s) d x) [
       | inl h ↦ to_a_member at k (shape.map s) s d c x (inl (refl, (all, is, within k c (inl (refl, refl))))) (sound (under_name at k) c x h)
       | inr h ↦ each_member_sound s f sound at d all is x ms (λ name b e. within name b (inr e)) h
     ]

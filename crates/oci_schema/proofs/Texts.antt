@@ -13,6 +13,10 @@ use Rattle.oci_text.specs.CpuScan.{is_cpu_text}
 use Rattle.oci_text.proofs.CpuLists.{cpu_list_decides}
 use Rattle.oci_schema.specs.Allows.{is_digest_text, any_up_to, is_spelled, is_capability}
 
+pub or_right : (a b : Bool) → b ≡ true → (a || b) ≡ true
+or_right true b e = refl
+or_right false b e = e
+
 -- two computations that decide one thing are one
 pub same_decided : {P : Type 0} (a b : Bool) → (a ≡ true) ↔ P → (b ≡ true) ↔ P → a ≡ b
 same_decided true b h k = sym (k.1 (h.0 refl))
@@ -50,10 +54,6 @@ any_found f (suc n) e = here (f (suc n)) refl e (any_found f n)
     here true is e later = (suc n, is)
     here false is e later = later e
 
-either_true : (a b : Bool) → b ≡ true → (a || b) ≡ true
-either_true true b e = refl
-either_true false b e = e
-
 first_true : (a b : Bool) → a ≡ true → (a || b) ≡ true
 first_true a b e = rw e refl
 
@@ -61,7 +61,7 @@ first_true a b e = rw e refl
 any_below : (f : ℕ → Bool) (n k m : ℕ) → k + m ≡ n → f k ≡ true → any_up_to f n ≡ true
 any_below f zero k m e h = subst (λ i. f i ≡ true) (omega arith) h
 any_below f (suc n) k zero e h = first_true (f (suc n)) (any_up_to f n) (subst (λ i. f i ≡ true) (omega arith) h)
-any_below f (suc n) k (suc m) e h = either_true (f (suc n)) (any_up_to f n) (any_below f n k m (omega arith) h)
+any_below f (suc n) k (suc m) e h = or_right (f (suc n)) (any_up_to f n) (any_below f n k m (omega arith) h)
 
 -- it is no shorter than what it repeats
 as_long : (n : ℕ) (name : List ℕ) → n ≤ length (repeated n cap ++ name)
@@ -86,7 +86,7 @@ of_first : (t name : List ℕ) (table : List (List ℕ)) → CapText t name → 
 of_first t name table m = (name, first_true (bytes_eq name name) (is_listed table name) ((bytes_eq-Decides name name).1 refl), m)
 
 of_later : (t name : List ℕ) (table : List (List ℕ)) → OfTable table t → OfTable (name ∷ table) t
-of_later t name table m = (m.0, either_true (bytes_eq m.0 name) (is_listed table m.0) m.1, m.2)
+of_later t name table m = (m.0, or_right (bytes_eq m.0 name) (is_listed table m.0) m.1, m.2)
 
 names_one : (table : List (List ℕ)) (t : List ℕ) → list_any (is_spelled t) table ≡ true → OfTable table t
 names_one [] t e = absurd (true≢false (sym e))
@@ -103,7 +103,7 @@ names_back (n ∷ table) t name is m = here (bytes_eq name n) refl is (λ e. nam
     here : (b : Bool) → bytes_eq name n ≡ b → (b || is_listed table name) ≡ true → (is_listed table name ≡ true → list_any (is_spelled t) table ≡ true)
         → (is_spelled t n || list_any (is_spelled t) table) ≡ true
     here true same e later = first_true (is_spelled t n) (list_any (is_spelled t) table) ((spelled_decides t n).1 (subst (CapText t) ((bytes_eq-Decides name n).0 same) m))
-    here false other e later = either_true (is_spelled t n) (list_any (is_spelled t) table) (later e)
+    here false other e later = or_right (is_spelled t n) (list_any (is_spelled t) table) (later e)
 
 pub capability_decides : (table : List (List ℕ)) (t : List ℕ) → (is_capability table t ≡ true) ↔ OfTable table t
 unfolding is_capability

@@ -34,7 +34,7 @@ have : (name : List ℕ) (ms : Members) (c : Data) → get_member name ms ≡ So
 have name no_members c e = cc
 have name (member k d ms) c e = have_by name k d c ms (slice_cmp nat_cmp name k) refl (λ h. have name ms c h) e
 
-has : (name : List ℕ) (d c : Data) → get name d ≡ Some c → HasMember d name c
+pub has : (name : List ℕ) (d c : Data) → get name d ≡ Some c → HasMember d name c
 has name null c e = cc
 has name (boolean b) c e = cc
 has name (number n) c e = cc

@@ -1,5 +1,6 @@
 pub mod Allows
 pub mod Canonical
+pub mod EachPart
 pub mod Fields
 pub mod Given
 pub mod Leads

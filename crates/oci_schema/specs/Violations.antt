@@ -1,12 +1,13 @@
 -- The violations of a shape by a value: each place, and what is expected there, in the order of the members.
 use Rattle.std.specs.Prelude.{ℕ, ◌+◌, List, [], ◌∷◌, ◌++◌, Bool, if◌then◌else◌, Option, Some, None, is_some, string_bytes}
-use Rattle.serde_json.specs.Data.{Data, Items, no_items, item, Members, no_members, member}
+use Rattle.serde_json.specs.Data.{Data, Items, Members}
 use Rattle.serde_json.specs.Find.{as_array, as_object, as_null, get}
 use Rattle.oci_model.specs.Means.{is_object}
 use Rattle.oci_model.specs.Shape.{Presence, required, defaulted, optional, nullable, unless_empty, Shape, text, truth, whole, named, open_name, digest_text, cpu_text, cap_set, list, key_set, detail, free_map, rows, Rows, no_rows, row}
 use Rattle.oci_model.specs.Shape as shape
 use Rattle.oci_schema.specs.Allows.{allows}
-use Rattle.oci_schema.specs.Places.{under_name, under_index}
+use Rattle.oci_schema.specs.EachPart.{of_each, of_each_member}
+use Rattle.oci_schema.specs.Places.{under_name}
 use Rattle.oci_schema.specs.Shapes.{scalar_shape, schema_shape, presence_of, alias_of}
 use Rattle.oci_schema.specs.declared.record.Member.{Member}
 use Rattle.oci_schema.specs.declared.violation.ExpectedKind.{ExpectedKind}
@@ -74,21 +75,13 @@ unless allowed at s = if allowed then [] else (at, a_value (kind_of s)) ∷ []
 
 -- ---- each part at its place
 
-abbrev pub each_violations : (List ℕ → Data → List Report) → List ℕ → ℕ → Items → List Report
-each_violations f at i no_items = []
-each_violations f at i (item d ds) = f (under_index at i) d ++ each_violations f at (i + 1) ds
-
 abbrev pub items_violations : Shape → (List ℕ → Data → List Report) → List ℕ → Option Items → List Report
 items_violations s f at None = (at, a_value (kind_of s)) ∷ []
-items_violations s f at (Some ds) = each_violations f at 0 ds
-
-abbrev pub each_member_violations : (List ℕ → Data → List Report) → List ℕ → Members → List Report
-each_member_violations f at no_members = []
-each_member_violations f at (member k d ms) = f (under_name at k) d ++ each_member_violations f at ms
+items_violations s f at (Some ds) = of_each f at 0 ds
 
 abbrev pub members_violations : Shape → (List ℕ → Data → List Report) → List ℕ → Option Members → List Report
 members_violations s f at None = (at, a_value (kind_of s)) ∷ []
-members_violations s f at (Some ms) = each_member_violations f at ms
+members_violations s f at (Some ms) = of_each_member f at ms
 
 -- ---- members of records
 

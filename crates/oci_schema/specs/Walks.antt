@@ -19,6 +19,11 @@ use Rattle.oci_text.specs.Capability.{capability_table}
 use Rattle.oci_text.specs.CpuScan.{is_cpu_text}
 use Rattle.oci_schema.specs.Allows.{is_digest_text, is_in_range}
 use Rattle.oci_schema.specs.Normalized.{accepts, normalized}
+use Rattle.oci_schema.specs.Fields.{Field, FieldMeans, EachField, FieldIsAccepted, AreAccepted}
+
+-- Whatever tokens the sink held, it now holds some that are so related to them.
+pub record Writes {S : Type 0} (H : S → List Token → Type 0) (R : List Token → List Token → Type 0) (old new : S) : Type 0 where
+  pub each : (a : List Token) → H old a → (b : List Token) × H new b × R a b
 
 -- the tree, which is one that a text may be read as, was written
 abbrev pub WritesTree : Data → List Token → List Token → Type 0
@@ -31,6 +36,14 @@ WritesMembers ms old new = (new ≡ old ++ begin_object ∷ members_tokens (memb
 -- the value with which `ts` begins is accepted, and its normal form was written
 abbrev pub WritesNormal : Shape → List Token → List Token → List Token → Type 0
 WritesNormal s ts old new = (d : Data) → BeginsWithData ts d → (accepts s d ≡ true) × WritesTree (normalized s d) old new
+
+-- the field's value is accepted, and what it means was written
+abbrev pub WritesField : (ℕ → Shape) → Field → List Token → List Token → Type 0
+WritesField f e old new = FieldIsAccepted f e × ((n : Data) → FieldMeans f e n → WritesTree n old new)
+
+-- the fields' values are accepted, and an object of what they mean was written
+abbrev pub WritesFields : (ℕ → Shape) → List Field → List Token → List Token → Type 0
+WritesFields f es old new = AreAccepted f es × ((ms : Members) → EachField f es ms → WritesMembers ms old new)
 
 -- the name comes after the last one, by bytes
 abbrev pub IsAfter : List ℕ → Option (Bor (List ℕ)) → Type 0

@@ -11,6 +11,7 @@ pub mod laws;
 mod object;
 mod pretty;
 mod scalar;
+mod sink;
 mod streams;
 mod walk;
 

@@ -1,4 +1,4 @@
-//! Whether a schema allows a value.
+//! Whether a schema allows a value. A walk of its own: it allocates nothing, so it cannot fail, and ends at the first part that is wrong.
 ghost use Rattle.std.specs.Prelude.{◌≡◌, ◌↔◌, true, option_map};
 ghost use Rattle.serde_json.specs.View.{view, items_view, members_view};
 ghost use Rattle.oci_model.specs.Plain.{Plain};

@@ -1,12 +1,14 @@
-//! All violations of a schema by a value.
+//! All violations of a schema by a value. A walk of its own beside that of `crate::unknown_members`: a member is looked for under its
+//! name or under its alias, never under both, null may count as absent, and what is missing is listed too.
 ghost use Rattle.std.specs.Prelude.{◌≡◌, ◌∷◌, ◌++◌, [], None, map, option_map, OnOk};
 ghost use Rattle.serde_json.specs.View.{view, items_view, members_view};
 ghost use Rattle.oci_schema.specs.Shapes.{scalar_shape, part_shape, schema_shape, presence_of, members_in};
-ghost use Rattle.oci_schema.specs.Places.{under_name as under};
-ghost use Rattle.oci_schema.specs.Violations.{reported, violations as all_violations, each_violations, each_member_violations, rows_violations, known_violations, member_violations, expectation_of, value_kind, a_value, no_alias};
+ghost use Rattle.oci_schema.specs.Places.{pointer, under_name as under};
+ghost use Rattle.oci_schema.specs.EachPart.{of_each, of_each_member};
+ghost use Rattle.oci_schema.specs.Violations.{reported, violations as all_violations, rows_violations, known_violations, member_violations, expectation_of, value_kind, a_value, no_alias};
 
 use crate::member::is_null_absent;
-use crate::place::{under_index, under_name};
+use crate::place::{Place, pointer as pointer_of};
 use crate::scalar::scalar_allows;
 use crate::violation::expected_kind;
 use crate::{Expected, ExpectedKind, Member, Part, Presence, Records, Scalar, Schema, Violation};
@@ -14,14 +16,14 @@ use serde_json::{Map, Value};
 use std::alloc::{AllocError, Global};
 
 fn push(
-    at: &str,
+    at: &Place<'_>,
     expected: Expected,
     found: &mut Vec<Violation>,
     alloc: Global,
 ) -> Result<(), AllocError>
-    ensures { OnOk result (map reported found.new.items ≡ map reported found.old.items ++ (at.now, expectation_of expected) ∷ []) }
+    ensures { OnOk result (map reported found.new.items ≡ map reported found.old.items ++ (pointer at.now, expectation_of expected) ∷ []) }
 {
-    let pointer = String::from_str(alloc, at)?;
+    let pointer = pointer_of(at, alloc)?;
     found.push(Violation { pointer, expected })?;
     Ok(())
 }
@@ -29,11 +31,11 @@ fn push(
 /// Adds that a value of this kind is expected at this place.
 fn reject(
     kind: ExpectedKind,
-    at: &str,
+    at: &Place<'_>,
     found: &mut Vec<Violation>,
     alloc: Global,
 ) -> Result<(), AllocError>
-    ensures { OnOk result (map reported found.new.items ≡ map reported found.old.items ++ (at.now, a_value (value_kind kind)) ∷ []) }
+    ensures { OnOk result (map reported found.new.items ≡ map reported found.old.items ++ (pointer at.now, a_value (value_kind kind)) ∷ []) }
 {
     push(at, Expected::Value(kind), found, alloc)
 }
@@ -41,11 +43,11 @@ fn reject(
 fn add_scalar(
     scalar: &Scalar,
     value: &Value,
-    at: &str,
+    at: &Place<'_>,
     found: &mut Vec<Violation>,
     alloc: Global,
 ) -> Result<(), AllocError>
-    ensures { OnOk result (map reported found.new.items ≡ map reported found.old.items ++ all_violations (scalar_shape scalar.now) at.now (view value.now)) }
+    ensures { OnOk result (map reported found.new.items ≡ map reported found.old.items ++ all_violations (scalar_shape scalar.now) (pointer at.now) (view value.now)) }
 {
     if scalar_allows(scalar, value) {
         return Ok(());
@@ -59,11 +61,11 @@ pub fn add_violations<T: Records>(
     records: &T,
     schema: &Schema,
     value: &Value,
-    at: &str,
+    at: &Place<'_>,
     found: &mut Vec<Violation>,
     alloc: Global,
 ) -> Result<(), AllocError>
-    ensures { OnOk result (map reported found.new.items ≡ map reported found.old.items ++ all_violations (schema_shape (T.shape_at records.now) schema.now) at.now (view value.now)) }
+    ensures { OnOk result (map reported found.new.items ≡ map reported found.old.items ++ all_violations (schema_shape (T.shape_at records.now) schema.now) (pointer at.now) (view value.now)) }
 {
     match schema {
         Schema::One(part) => add_part(records, part, value, at, found, alloc),
@@ -83,11 +85,11 @@ fn add_part<T: Records>(
     records: &T,
     part: &Part,
     value: &Value,
-    at: &str,
+    at: &Place<'_>,
     found: &mut Vec<Violation>,
     alloc: Global,
 ) -> Result<(), AllocError>
-    ensures { OnOk result (map reported found.new.items ≡ map reported found.old.items ++ all_violations (part_shape (T.shape_at records.now) part.now) at.now (view value.now)) }
+    ensures { OnOk result (map reported found.new.items ≡ map reported found.old.items ++ all_violations (part_shape (T.shape_at records.now) part.now) (pointer at.now) (view value.now)) }
 {
     match part {
         Part::Scalar(scalar) => add_scalar(scalar, value, at, found, alloc),
@@ -100,11 +102,11 @@ fn add_record<T: Records>(
     records: &T,
     place: usize,
     value: &Value,
-    at: &str,
+    at: &Place<'_>,
     found: &mut Vec<Violation>,
     alloc: Global,
 ) -> Result<(), AllocError>
-    ensures { OnOk result (map reported found.new.items ≡ map reported found.old.items ++ all_violations (T.shape_at records.now place) at.now (view value.now)) }
+    ensures { OnOk result (map reported found.new.items ≡ map reported found.old.items ++ all_violations (T.shape_at records.now place) (pointer at.now) (view value.now)) }
 {
     let record = records.record(place);
     if value.is_object() {
@@ -119,15 +121,15 @@ fn add_items<T: Records>(
     records: &T,
     part: &Part,
     items: &Vec<Value>,
-    at: &str,
+    at: &Place<'_>,
     found: &mut Vec<Violation>,
     alloc: Global,
 ) -> Result<(), AllocError>
-    ensures { OnOk result (map reported found.new.items ≡ map reported found.old.items ++ each_violations (all_violations (part_shape (T.shape_at records.now) part.now)) at.now 0 (items_view items.now.items)) }
+    ensures { OnOk result (map reported found.new.items ≡ map reported found.old.items ++ of_each (all_violations (part_shape (T.shape_at records.now) part.now)) (pointer at.now) 0 (items_view items.now.items)) }
 {
     for (index, item) in items.iter().enumerate() {
-        let place = under_index(alloc, at, index)?;
-        add_part(records, part, item, place.as_str(), found, alloc)?;
+        let place = Place::Item(&*at, index);
+        add_part(records, part, item, &place, found, alloc)?;
     }
     Ok(())
 }
@@ -137,15 +139,15 @@ fn add_entries<T: Records>(
     records: &T,
     part: &Part,
     entries: &Map<String, Value>,
-    at: &str,
+    at: &Place<'_>,
     found: &mut Vec<Violation>,
     alloc: Global,
 ) -> Result<(), AllocError>
-    ensures { OnOk result (map reported found.new.items ≡ map reported found.old.items ++ each_member_violations (all_violations (part_shape (T.shape_at records.now) part.now)) at.now (members_view entries.now.entries)) }
+    ensures { OnOk result (map reported found.new.items ≡ map reported found.old.items ++ of_each_member (all_violations (part_shape (T.shape_at records.now) part.now)) (pointer at.now) (members_view entries.now.entries)) }
 {
     for (name, entry) in entries.iter() {
-        let place = under_name(alloc, at, name.as_str())?;
-        add_part(records, part, entry, place.as_str(), found, alloc)?;
+        let place = Place::Member(&*at, name.as_str());
+        add_part(records, part, entry, &place, found, alloc)?;
     }
     Ok(())
 }
@@ -155,11 +157,11 @@ fn add_members<T: Records>(
     records: &T,
     members: &[Member],
     value: &Value,
-    at: &str,
+    at: &Place<'_>,
     found: &mut Vec<Violation>,
     alloc: Global,
 ) -> Result<(), AllocError>
-    ensures { OnOk result (map reported found.new.items ≡ map reported found.old.items ++ rows_violations (members_in (T.shape_at records.now) members.now) at.now (view value.now)) }
+    ensures { OnOk result (map reported found.new.items ≡ map reported found.old.items ++ rows_violations (members_in (T.shape_at records.now) members.now) (pointer at.now) (view value.now)) }
 {
     for member in members {
         add_member(records, member, value, at, found, alloc)?;
@@ -172,11 +174,11 @@ fn add_member<T: Records>(
     records: &T,
     member: &Member,
     value: &Value,
-    at: &str,
+    at: &Place<'_>,
     found: &mut Vec<Violation>,
     alloc: Global,
 ) -> Result<(), AllocError>
-    ensures { OnOk result (map reported found.new.items ≡ map reported found.old.items ++ known_violations (T.shape_at records.now) member.now at.now (view value.now)) }
+    ensures { OnOk result (map reported found.new.items ≡ map reported found.old.items ++ known_violations (T.shape_at records.now) member.now (pointer at.now) (view value.now)) }
 {
     let there = value.get(member.name);
     let Some(alias) = member.alias else {
@@ -196,14 +198,14 @@ fn add_member<T: Records>(
 fn add_alias(
     member: &Member,
     alias: &'static str,
-    at: &str,
+    at: &Place<'_>,
     found: &mut Vec<Violation>,
     alloc: Global,
 ) -> Result<(), AllocError>
-    ensures { OnOk result (map reported found.new.items ≡ map reported found.old.items ++ (under at.now member.now.name.now, no_alias alias.now) ∷ []) }
+    ensures { OnOk result (map reported found.new.items ≡ map reported found.old.items ++ (under (pointer at.now) member.now.name.now, no_alias alias.now) ∷ []) }
 {
-    let place = under_name(alloc, at, member.name)?;
-    push(place.as_str(), Expected::NoAlias(alias), found, alloc)
+    let place = Place::Member(&*at, member.name);
+    push(&place, Expected::NoAlias(alias), found, alloc)
 }
 
 /// Adds the violations by what is found under this name of the member.
@@ -213,20 +215,20 @@ fn add_found<T: Records>(
     member: &Member,
     name: &'static str,
     there: Option<&Value>,
-    at: &str,
+    at: &Place<'_>,
     found: &mut Vec<Violation>,
     alloc: Global,
 ) -> Result<(), AllocError>
-    ensures { OnOk result (map reported found.new.items ≡ map reported found.old.items ++ member_violations (presence_of member.now.presence) (schema_shape (T.shape_at records.now) member.now.schema) (all_violations (schema_shape (T.shape_at records.now) member.now.schema)) (under at.now name.now) (option_map (λ v. view v.now) there.entry)) }
+    ensures { OnOk result (map reported found.new.items ≡ map reported found.old.items ++ member_violations (presence_of member.now.presence) (schema_shape (T.shape_at records.now) member.now.schema) (all_violations (schema_shape (T.shape_at records.now) member.now.schema)) (under (pointer at.now) name.now) (option_map (λ v. view v.now) there.entry)) }
 {
-    let place = under_name(alloc, at, name)?;
+    let place = Place::Member(&*at, name);
     match there {
-        None => add_missing(records, member, place.as_str(), found, alloc),
+        None => add_missing(records, member, &place, found, alloc),
         Some(value) => {
             if value.is_null() && is_null_absent(&member.presence) {
                 return Ok(());
             }
-            add_violations(records, &member.schema, value, place.as_str(), found, alloc)
+            add_violations(records, &member.schema, value, &place, found, alloc)
         }
     }
 }
@@ -235,11 +237,11 @@ fn add_found<T: Records>(
 fn add_missing<T: Records>(
     records: &T,
     member: &Member,
-    at: &str,
+    at: &Place<'_>,
     found: &mut Vec<Violation>,
     alloc: Global,
 ) -> Result<(), AllocError>
-    ensures { OnOk result (map reported found.new.items ≡ map reported found.old.items ++ member_violations (presence_of member.now.presence) (schema_shape (T.shape_at records.now) member.now.schema) (all_violations (schema_shape (T.shape_at records.now) member.now.schema)) at.now None) }
+    ensures { OnOk result (map reported found.new.items ≡ map reported found.old.items ++ member_violations (presence_of member.now.presence) (schema_shape (T.shape_at records.now) member.now.schema) (all_violations (schema_shape (T.shape_at records.now) member.now.schema)) (pointer at.now) None) }
 {
     match member.presence {
         Presence::Required => {

@@ -1,4 +1,5 @@
-//! Whether a value is its own normal form, so that it need not be built anew.
+//! Whether a value is its own normal form, so that it need not be built anew. A walk of its own: what it wants of a member depends on how
+//! the member is written, and not on whether it is allowed.
 ghost use Rattle.std.specs.Prelude.{◌≡◌, IfSome, IsTrue, is_some};
 ghost use Rattle.serde_json.specs.Data.{number, object, no_members};
 ghost use Rattle.serde_json.specs.Find.{of_integer, get_member};

@@ -10,6 +10,7 @@ ghost use Rattle.oci_schema.specs.Violations.{Report, reported, violations as al
 ghost use Rattle.oci_schema.specs.Wants.{IsViolation};
 
 use crate::find::add_violations;
+use crate::place::Place;
 use crate::{Records, Schema, Violation};
 use serde_json::Value;
 use std::alloc::{AllocError, Global};
@@ -31,7 +32,7 @@ pub fn violations<T: Records>(
     ensures none { IfOk result (λ v. (v.items ≡ []) ↔ ((p : Plain) × Means (schema_shape (T.shape_at records.now) schema.now) (view value.now) p)) }
 {
     let mut found = Vec::new(alloc);
-    add_violations(records, schema, value, "", &mut found, alloc)?;
+    add_violations(records, schema, value, &Place::Root, &mut found, alloc)?;
     Ok(found)
 }
 

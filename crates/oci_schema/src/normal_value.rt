@@ -1,4 +1,4 @@
-//! The normal form of a value.
+//! The normal form of a value. A walk of its own: it consumes the value, and takes the members of an object out of it one by one.
 ghost use Rattle.std.specs.Prelude.{◌≡◌, ◌≤◌, true, false, option_map, IfOk, IfErr, OnOk, IsTrue};
 ghost use Rattle.serde_json.specs.Data.{array, object};
 ghost use Rattle.serde_json.specs.Find.{get_member};

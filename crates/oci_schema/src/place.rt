@@ -4,6 +4,35 @@ ghost use Rattle.oci_schema.specs.Places as places;
 
 use std::alloc::{AllocError, Global};
 
+/// A place in a value: the steps that lead there, each borrowed by the next. A walk hands it on and makes a pointer of it only where
+/// it has something to list.
+#[derive(Clone, Copy)]
+pub enum Place<'a> {
+    /// The whole value.
+    Root,
+    /// The member of this name in the object at a place.
+    Member(&'a Place<'a>, &'a str),
+    /// The item at this index in the array at a place.
+    Item(&'a Place<'a>, usize),
+}
+
+/// The JSON pointer of the place. Fails if out of memory.
+pub fn pointer(place: &Place<'_>, alloc: Global) -> Result<String, AllocError>
+    ensures { IfOk result (λ t. string_bytes t ≡ places.pointer place.now) }
+{
+    match place {
+        Place::Root => Ok(String::new(alloc)),
+        Place::Member(above, name) => {
+            let at = pointer(above, alloc)?;
+            under_name(alloc, at.as_str(), name)
+        }
+        Place::Item(above, index) => {
+            let at = pointer(above, alloc)?;
+            under_index(alloc, at.as_str(), *index)
+        }
+    }
+}
+
 /// The member of this name.
 pub fn under_name(alloc: Global, at: &str, name: &str) -> Result<String, AllocError>
     ensures { IfOk result (λ t. string_bytes t ≡ places.under_name at.now name.now) }

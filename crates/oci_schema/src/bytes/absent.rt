@@ -6,17 +6,16 @@ ghost use Rattle.oci_model.specs.Shape.{Shape};
 ghost use Rattle.oci_model.specs.Value.{value as json_of};
 ghost use Rattle.oci_schema.specs.Shapes.{scalar_shape, default_plain};
 ghost use Rattle.oci_schema.specs.Fields.{written_for};
-ghost use Rattle.oci_schema.specs.Walks.{IfDone, WritesTree};
+ghost use Rattle.oci_schema.specs.Walks.{IfDone, Writes, WritesTree};
 
 use crate::bytes::scalar::{write_boolean, write_signed, write_string, write_unsigned};
+use crate::bytes::sink::Sink;
 use crate::{DefaultValue, Member, Part, Presence, Scalar, Schema};
-use oci_json_tape::CompactWriter;
 use std::alloc::AllocError;
 
 /// Writes what is written for the member where it is absent.
-pub fn write_absent(member: &Member, out: &mut CompactWriter) -> Result<bool, AllocError>
-    ensures { IfDone result ((f : ℕ → Shape) (n : Data) → written_for f member.now None ≡ Some n
-        → WritesTree n out.old out.new) }
+pub fn write_absent<K: Sink>(member: &Member, out: &mut K) -> Result<bool, AllocError>
+    ensures { IfDone result (Writes K.holds (λ a b. (f : ℕ → Shape) (n : Data) → written_for f member.now None ≡ Some n → WritesTree n a b) out.old out.new) }
 {
     match member.presence {
         Presence::Nullable => write_null(out),
@@ -31,20 +30,20 @@ pub fn write_absent(member: &Member, out: &mut CompactWriter) -> Result<bool, Al
     }
 }
 
-fn write_null(out: &mut CompactWriter) -> Result<bool, AllocError>
-    ensures { IfDone result (WritesTree null out.old out.new) }
+fn write_null<K: Sink>(out: &mut K) -> Result<bool, AllocError>
+    ensures { IfDone result (Writes K.holds (WritesTree null) out.old out.new) }
 {
     out.null()?;
     Ok(true)
 }
 
 /// Writes the default value of a scalar, if it is a string, a boolean or an integer.
-fn write_default(
+fn write_default<K: Sink>(
     scalar: &Scalar,
     default: &DefaultValue,
-    out: &mut CompactWriter,
+    out: &mut K,
 ) -> Result<bool, AllocError>
-    ensures { IfDone result (WritesTree (json_of (scalar_shape scalar.now) (default_plain default.now)) out.old out.new) }
+    ensures { IfDone result (Writes K.holds (WritesTree (json_of (scalar_shape scalar.now) (default_plain default.now))) out.old out.new) }
 {
     match scalar {
         Scalar::String => match default {
@@ -68,8 +67,8 @@ fn write_default(
 }
 
 /// Writes an integer of 64 bits.
-fn write_integer(integer: i128, out: &mut CompactWriter) -> Result<bool, AllocError>
-    ensures { IfDone result (WritesTree (number (of_integer integer)) out.old out.new) }
+fn write_integer<K: Sink>(integer: i128, out: &mut K) -> Result<bool, AllocError>
+    ensures { IfDone result (Writes K.holds (WritesTree (number (of_integer integer))) out.old out.new) }
 {
     match u64::try_from(integer) {
         Ok(n) => write_unsigned(n, out),

@@ -4,32 +4,33 @@ ghost use Rattle.std.specs.Prelude.{ℕ, IsTrue};
 ghost use Rattle.oci_model.specs.Shape.{Shape, map};
 ghost use Rattle.oci_schema.specs.Shapes.{part_shape, scalar_shape, schema_shape};
 ghost use Rattle.oci_schema.specs.Normalized.{IsSound};
-ghost use Rattle.oci_schema.specs.Walks.{IfDone, WritesNormal};
+ghost use Rattle.oci_schema.specs.Walks.{IfDone, Writes, WritesNormal};
 
+use crate::bytes::sink::Sink;
 use crate::normal_value::normal_value;
 use crate::{Part, Records, Scalar, Schema};
 use json::Element;
 use oci_base::OciSpecError;
-use oci_json_tape::{CompactWriter, value_of, write_value};
+use oci_json_tape::value_of;
 use std::alloc::{AllocError, Global};
 
 /// How deep such a value nests at most: no deeper than a text may.
 const DEPTH: usize = 127;
 
 /// Writes the normal form of what begins at the element by way of a value; `false` if the schema rejects it.
-pub fn write_by_value<T: Records>(
+pub fn write_by_value<T: Records, K: Sink>(
     records: &T,
     schema: &Schema,
     element: &Element<'_, '_>,
     alloc: Global,
-    out: &mut CompactWriter,
+    out: &mut K,
 ) -> Result<bool, AllocError>
     requires { IsSound (schema_shape (T.shape_at records.now) schema.now) }
-    ensures { IfDone result (WritesNormal (schema_shape (T.shape_at records.now) schema.now) element.now out.old out.new) }
+    ensures { IfDone result (Writes K.holds (WritesNormal (schema_shape (T.shape_at records.now) schema.now) element.now) out.old out.new) }
 {
     match value_of(element, DEPTH, alloc)? {
         Some(value) => match normal_value(records, schema, value, alloc) {
-            Ok(normal) => write_value(&normal, out),
+            Ok(normal) => out.value(&normal),
             Err(OciSpecError::Memory) => Err(AllocError),
             Err(_) => Ok(false),
         },

@@ -3,12 +3,13 @@ ghost use Rattle.std.specs.Prelude.{◌≡◌, Option, Some, IsTrue};
 ghost use Rattle.serde_json.specs.Data.{Data, string};
 ghost use Rattle.oci_model.specs.Shape.{text as any_text, list};
 ghost use Rattle.oci_json_tape.specs.Elements.{BeginsWithData, FindsData};
-ghost use Rattle.oci_schema.specs.Walks.{IfDone, WritesNormal, IsNormalSet};
+ghost use Rattle.oci_schema.specs.Walks.{IfDone, Writes, WritesNormal, IsNormalSet};
 
 use crate::Scalar;
 use crate::bytes::scalar::write_scalar;
+use crate::bytes::sink::Sink;
 use json::Element;
-use oci_json_tape::{CompactWriter, items, next_item, text};
+use oci_json_tape::{items, next_item, text};
 use oci_model::JsonName;
 use oci_text::capability::ALL;
 use std::alloc::AllocError;
@@ -47,8 +48,8 @@ fn is_string(item: &Option<Element<'_, '_>>, name: &str) -> bool
 }
 
 /// Writes an array of strings as it is; `false` if the element is none.
-pub fn write_strings(element: &Element<'_, '_>, out: &mut CompactWriter) -> Result<bool, AllocError>
-    ensures { IfDone result (WritesNormal (list any_text) element.now out.old out.new) }
+pub fn write_strings<K: Sink>(element: &Element<'_, '_>, out: &mut K) -> Result<bool, AllocError>
+    ensures { IfDone result (Writes K.holds (WritesNormal (list any_text) element.now) out.old out.new) }
 {
     let Some(mut rest) = items(element) else {
         return Ok(false);

@@ -1,5 +1,5 @@
 //! The normal form of a document straight from its bytes, where it can be had so.
-ghost use Rattle.std.specs.Prelude.{◌≡◌, true, Some, IfOk, IfSome, IsTrue};
+ghost use Rattle.std.specs.Prelude.{◌≡◌, true, Some, IfOk, IfSome};
 ghost use Rattle.serde_json.specs.Data.{Data};
 ghost use Rattle.serde_json.specs.Read.{read};
 ghost use Rattle.oci_json_tape.specs.Elements.{BeginsWithData};
@@ -7,7 +7,9 @@ ghost use Rattle.oci_json.specs.Engines.{ReadsAs};
 ghost use Rattle.oci_schema.specs.Shapes.{schema_shape};
 ghost use Rattle.oci_schema.specs.Normalized.{accepts};
 ghost use Rattle.oci_schema.specs.Canonical.{IsNormalText};
+ghost use Rattle.oci_schema.specs.Walks.{IfDone};
 
+use crate::bytes::sink::Nothing;
 use crate::bytes::walk::write_value;
 use crate::{Records, Schema};
 use json::{Error, Scratch, Tape};
@@ -53,20 +55,6 @@ pub fn normal_text<T: Records>(
     }
 }
 
-/// Whether the bytes are a document that has a normal form; `false` if that was not found out. Fails if out of memory.
-pub fn is_accepted<T: Records>(
-    records: &T,
-    schema: &Schema,
-    alloc: Global,
-    bytes: &[u8],
-    workspace: &mut Workspace,
-) -> Result<bool, AllocError>
-    ensures { IfOk result (λ b. IsTrue b → (d : Data) × ReadsAs bytes.now d × (accepts (schema_shape (T.shape_at records.now) schema.now) d ≡ true)) }
-{
-    let text = normal_text(records, schema, alloc, bytes, workspace)?;
-    Ok(text.is_some())
-}
-
 /// The same of a text.
 fn normal_text_of<T: Records>(
     records: &T,
@@ -105,4 +93,53 @@ fn write_tape<T: Records>(
         return Ok(None);
     }
     Ok(Some(out.into_bytes()))
+}
+
+/// Whether the bytes are a document that has a normal form; `false` if that was not found out. Fails if out of memory.
+pub fn is_accepted<T: Records>(
+    records: &T,
+    schema: &Schema,
+    alloc: Global,
+    bytes: &[u8],
+    workspace: &mut Workspace,
+) -> Result<bool, AllocError>
+    ensures { IfDone result ((d : Data) × ReadsAs bytes.now d × (accepts (schema_shape (T.shape_at records.now) schema.now) d ≡ true)) }
+{
+    match simdutf8::compat::from_utf8(bytes) {
+        Ok(text) => is_accepted_text(records, schema, alloc, text, &mut workspace.scratch),
+        Err(_) => Ok(false),
+    }
+}
+
+/// The same of a text.
+fn is_accepted_text<T: Records>(
+    records: &T,
+    schema: &Schema,
+    alloc: Global,
+    text: &str,
+    scratch: &mut Scratch,
+) -> Result<bool, AllocError>
+    ensures { IfDone result ((d : Data) × (read text.now ≡ Some d) × (accepts (schema_shape (T.shape_at records.now) schema.now) d ≡ true)) }
+{
+    match open(alloc, text, scratch) {
+        Ok(found) => match found {
+            Some(tape) => check_tape(records, schema, alloc, &tape),
+            None => Ok(false),
+        },
+        Err(Error::OutOfMemory) => Err(AllocError),
+        Err(_) => Ok(false),
+    }
+}
+
+/// The same of a tape: the walk, with nothing kept of what it writes.
+fn check_tape<T: Records>(
+    records: &T,
+    schema: &Schema,
+    alloc: Global,
+    tape: &Tape<'_>,
+) -> Result<bool, AllocError>
+    ensures { IfDone result ((d : Data) → BeginsWithData tape.now d → accepts (schema_shape (T.shape_at records.now) schema.now) d ≡ true) }
+{
+    let mut out = Nothing::new(alloc);
+    write_value(records, schema, &tape.root(), DEPTH, alloc, &mut out)
 }

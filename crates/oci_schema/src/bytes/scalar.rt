@@ -8,21 +8,22 @@ ghost use Rattle.oci_text.specs.CpuScan.{is_cpu_text};
 ghost use Rattle.oci_schema.specs.Shapes.{scalar_shape, names_of};
 ghost use Rattle.oci_schema.specs.Allows.{is_digest_text, is_in_range};
 ghost use Rattle.oci_json_tape.specs.Numbers.{num_of};
-ghost use Rattle.oci_schema.specs.Walks.{IfDone, WritesTree, WritesNormal, IsTextOf, WritesWhole};
+ghost use Rattle.oci_schema.specs.Walks.{IfDone, Writes, WritesTree, WritesNormal, IsTextOf, WritesWhole};
 
 use crate::Scalar;
+use crate::bytes::sink::Sink;
 use json::Element;
-use oci_json_tape::{CompactWriter, Number, boolean, number, text};
+use oci_json_tape::{Number, boolean, number, text};
 use oci_text::{is_cpu_list, is_digest};
 use std::alloc::AllocError;
 
 /// Writes a scalar.
-pub fn write_scalar(
+pub fn write_scalar<K: Sink>(
     scalar: &Scalar,
     element: &Element<'_, '_>,
-    out: &mut CompactWriter,
+    out: &mut K,
 ) -> Result<bool, AllocError>
-    ensures { IfDone result (WritesNormal (scalar_shape scalar.now) element.now out.old out.new) }
+    ensures { IfDone result (Writes K.holds (WritesNormal (scalar_shape scalar.now) element.now) out.old out.new) }
 {
     match scalar {
         Scalar::Boolean => match boolean(element) {
@@ -47,8 +48,8 @@ pub fn write_scalar(
 
 /// Writes an element that is any string.
 #[inline(always)]
-pub fn write_text(element: &Element<'_, '_>, out: &mut CompactWriter) -> Result<bool, AllocError>
-    ensures { IfDone result (WritesNormal text_shape element.now out.old out.new) }
+pub fn write_text<K: Sink>(element: &Element<'_, '_>, out: &mut K) -> Result<bool, AllocError>
+    ensures { IfDone result (Writes K.holds (WritesNormal text_shape element.now) out.old out.new) }
 {
     match text(element) {
         Some(content) => write_string(content, out),
@@ -57,32 +58,32 @@ pub fn write_text(element: &Element<'_, '_>, out: &mut CompactWriter) -> Result<
 }
 
 /// Writes a string.
-pub fn write_string(text: &str, out: &mut CompactWriter) -> Result<bool, AllocError>
-    ensures { IfDone result (WritesTree (string text.now) out.old out.new) }
+pub fn write_string<K: Sink>(text: &str, out: &mut K) -> Result<bool, AllocError>
+    ensures { IfDone result (Writes K.holds (WritesTree (string text.now)) out.old out.new) }
 {
     out.string(text)?;
     Ok(true)
 }
 
 /// Writes a boolean.
-pub fn write_boolean(truth: bool, out: &mut CompactWriter) -> Result<bool, AllocError>
-    ensures { IfDone result (WritesTree (boolean_data truth) out.old out.new) }
+pub fn write_boolean<K: Sink>(truth: bool, out: &mut K) -> Result<bool, AllocError>
+    ensures { IfDone result (Writes K.holds (WritesTree (boolean_data truth)) out.old out.new) }
 {
     out.boolean(truth)?;
     Ok(true)
 }
 
 /// Writes an unsigned integer.
-pub fn write_unsigned(integer: u64, out: &mut CompactWriter) -> Result<bool, AllocError>
-    ensures { IfDone result (WritesTree (number_data (unsigned_number integer)) out.old out.new) }
+pub fn write_unsigned<K: Sink>(integer: u64, out: &mut K) -> Result<bool, AllocError>
+    ensures { IfDone result (Writes K.holds (WritesTree (number_data (unsigned_number integer))) out.old out.new) }
 {
     out.unsigned(integer)?;
     Ok(true)
 }
 
 /// Writes a signed integer.
-pub fn write_signed(integer: i64, out: &mut CompactWriter) -> Result<bool, AllocError>
-    ensures { IfDone result (WritesTree (number_data (of_integer integer)) out.old out.new) }
+pub fn write_signed<K: Sink>(integer: i64, out: &mut K) -> Result<bool, AllocError>
+    ensures { IfDone result (Writes K.holds (WritesTree (number_data (of_integer integer))) out.old out.new) }
 {
     out.signed(integer)?;
     Ok(true)
@@ -105,13 +106,13 @@ fn is_text_of(scalar: &Scalar, text: &str) -> bool
 }
 
 /// Writes an integer within these bounds.
-fn write_number(
+fn write_number<K: Sink>(
     low: &i128,
     high: &i128,
     number: Number,
-    out: &mut CompactWriter,
+    out: &mut K,
 ) -> Result<bool, AllocError>
-    ensures { IfDone result (WritesWhole low.now high.now (num_of number) out.old out.new) }
+    ensures { IfDone result (Writes K.holds (WritesWhole low.now high.now (num_of number)) out.old out.new) }
 {
     match number {
         Number::Unsigned(n) => {

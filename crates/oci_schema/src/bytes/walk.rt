@@ -1,12 +1,10 @@
 //! The walk over a tape by a schema, which writes the normal form of what it finds.
 ghost use Rattle.std.specs.Prelude.{IsTrue};
-ghost use Rattle.serde_json.specs.Data.{Data, Members};
 ghost use Rattle.oci_model.specs.Shape.{cap_set, list, map};
 ghost use Rattle.oci_text.specs.Capability.{capability_table};
 ghost use Rattle.oci_schema.specs.Shapes.{part_shape, schema_shape};
-ghost use Rattle.oci_schema.specs.Fields.{FieldMeans, EachField, FieldIsAccepted, AreAccepted};
 ghost use Rattle.oci_schema.specs.Objects.{fields_in};
-ghost use Rattle.oci_schema.specs.Walks.{IfDone, WritesTree, WritesMembers, WritesNormal, IsAfter};
+ghost use Rattle.oci_schema.specs.Walks.{IfDone, Writes, WritesNormal, WritesField, WritesFields, IsAfter};
 
 use crate::bytes::absent::write_absent;
 use crate::bytes::by_value::{is_by_value, is_string, write_by_value};
@@ -14,9 +12,10 @@ use crate::bytes::capabilities::{is_normal_set, write_strings};
 use crate::bytes::fields::choose;
 use crate::bytes::object::{Object, Slot};
 use crate::bytes::scalar::{write_scalar, write_text};
+use crate::bytes::sink::Sink;
 use crate::{Member, Part, Records, Scalar, Schema};
 use json::Element;
-use oci_json_tape::{CompactWriter, items, members, next_item, next_member};
+use oci_json_tape::{items, members, next_item, next_member};
 use std::alloc::{AllocError, Global};
 use std::cmp::Ordering;
 
@@ -24,15 +23,15 @@ use std::cmp::Ordering;
 /// then is of no use. Arrays, maps and records nest no deeper than `depth`.
 #[cycle(writes)]
 #[inline(always)]
-pub fn write_value<T: Records>(
+pub fn write_value<T: Records, K: Sink>(
     records: &T,
     schema: &Schema,
     element: &Element<'_, '_>,
     depth: usize,
     alloc: Global,
-    out: &mut CompactWriter,
+    out: &mut K,
 ) -> Result<bool, AllocError>
-    ensures { IfDone result (WritesNormal (schema_shape (T.shape_at records.now) schema.now) element.now out.old out.new) }
+    ensures { IfDone result (Writes K.holds (WritesNormal (schema_shape (T.shape_at records.now) schema.now) element.now) out.old out.new) }
 {
     if depth == 0 {
         return Ok(false);
@@ -47,15 +46,15 @@ pub fn write_value<T: Records>(
 /// Writes a value alone.
 #[cycle(writes)]
 #[inline(always)]
-fn write_part<T: Records>(
+fn write_part<T: Records, K: Sink>(
     records: &T,
     part: &Part,
     element: &Element<'_, '_>,
     depth: usize,
     alloc: Global,
-    out: &mut CompactWriter,
+    out: &mut K,
 ) -> Result<bool, AllocError>
-    ensures { IfDone result (WritesNormal (part_shape (T.shape_at records.now) part.now) element.now out.old out.new) }
+    ensures { IfDone result (Writes K.holds (WritesNormal (part_shape (T.shape_at records.now) part.now) element.now) out.old out.new) }
 {
     match part {
         Part::Scalar(Scalar::String) => write_text(element, out),
@@ -72,13 +71,13 @@ fn write_part<T: Records>(
 }
 
 /// Writes a set of capabilities, by way of a value if it is not in its normal form.
-fn write_capabilities<T: Records>(
+fn write_capabilities<T: Records, K: Sink>(
     records: &T,
     element: &Element<'_, '_>,
     alloc: Global,
-    out: &mut CompactWriter,
+    out: &mut K,
 ) -> Result<bool, AllocError>
-    ensures { IfDone result (WritesNormal (cap_set capability_table) element.now out.old out.new) }
+    ensures { IfDone result (Writes K.holds (WritesNormal (cap_set capability_table) element.now) out.old out.new) }
 {
     if is_normal_set(element) {
         return write_strings(element, out);
@@ -94,15 +93,15 @@ fn write_capabilities<T: Records>(
 
 /// Writes an array, item by item.
 #[cycle(writes)]
-fn write_items<T: Records>(
+fn write_items<T: Records, K: Sink>(
     records: &T,
     part: &Part,
     element: &Element<'_, '_>,
     depth: usize,
     alloc: Global,
-    out: &mut CompactWriter,
+    out: &mut K,
 ) -> Result<bool, AllocError>
-    ensures { IfDone result (WritesNormal (list (part_shape (T.shape_at records.now) part.now)) element.now out.old out.new) }
+    ensures { IfDone result (Writes K.holds (WritesNormal (list (part_shape (T.shape_at records.now) part.now)) element.now) out.old out.new) }
 {
     let Some(mut rest) = items(element) else {
         return Ok(false);
@@ -120,15 +119,15 @@ fn write_items<T: Records>(
 
 /// Writes a map member by member, if its names are in byte order in the text, or else by way of a value, if it is one of strings.
 #[cycle(writes)]
-fn write_map<T: Records>(
+fn write_map<T: Records, K: Sink>(
     records: &T,
     part: &Part,
     element: &Element<'_, '_>,
     depth: usize,
     alloc: Global,
-    out: &mut CompactWriter,
+    out: &mut K,
 ) -> Result<bool, AllocError>
-    ensures { IfDone result (WritesNormal (map (part_shape (T.shape_at records.now) part.now)) element.now out.old out.new) }
+    ensures { IfDone result (Writes K.holds (WritesNormal (map (part_shape (T.shape_at records.now) part.now)) element.now) out.old out.new) }
 {
     if is_string(part) && !is_in_order(element) {
         return write_by_value(records, &Schema::Map(*part), element, alloc, out);
@@ -185,15 +184,15 @@ fn comes_after(name: &str, last: Option<&str>) -> bool
 /// Writes a record.
 #[cycle(writes)]
 #[inline(never)]
-fn write_record<T: Records>(
+fn write_record<T: Records, K: Sink>(
     records: &T,
     place: usize,
     element: &Element<'_, '_>,
     depth: usize,
     alloc: Global,
-    out: &mut CompactWriter,
+    out: &mut K,
 ) -> Result<bool, AllocError>
-    ensures { IfDone result (WritesNormal (T.shape_at records.now place) element.now out.old out.new) }
+    ensures { IfDone result (Writes K.holds (WritesNormal (T.shape_at records.now place) element.now) out.old out.new) }
 {
     let record = records.record(place);
     let Some(mut object) = Object::open(element, alloc)? else {
@@ -207,16 +206,14 @@ fn write_record<T: Records>(
 
 /// Writes an object of those of the members that are written.
 #[cycle(writes)]
-fn write_fields<T: Records>(
+fn write_fields<T: Records, K: Sink>(
     records: &T,
     slots: &[Slot<'_, '_>],
     depth: usize,
     alloc: Global,
-    out: &mut CompactWriter,
+    out: &mut K,
 ) -> Result<bool, AllocError>
-    ensures accepted { IfDone result (AreAccepted (T.shape_at records.now) (fields_in slots.now)) }
-    ensures writes { IfDone result ((ms : Members) → EachField (T.shape_at records.now) (fields_in slots.now) ms
-        → WritesMembers ms out.old out.new) }
+    ensures { IfDone result (Writes K.holds (WritesFields (T.shape_at records.now) (fields_in slots.now)) out.old out.new) }
 {
     out.begin_object()?;
     for slot in slots {
@@ -236,17 +233,15 @@ fn write_fields<T: Records>(
 /// Writes the value of a member, or what is written where it has none.
 #[cycle(writes)]
 #[inline(always)]
-fn write_field<T: Records>(
+fn write_field<T: Records, K: Sink>(
     records: &T,
     member: &Member,
     value: &Option<Element<'_, '_>>,
     depth: usize,
     alloc: Global,
-    out: &mut CompactWriter,
+    out: &mut K,
 ) -> Result<bool, AllocError>
-    ensures accepted { IfDone result (FieldIsAccepted (T.shape_at records.now) (record { member = member.entry; value = value.now })) }
-    ensures writes { IfDone result ((n : Data) → FieldMeans (T.shape_at records.now) (record { member = member.entry; value = value.now }) n
-        → WritesTree n out.old out.new) }
+    ensures { IfDone result (Writes K.holds (WritesField (T.shape_at records.now) (record { member = member.entry; value = value.now })) out.old out.new) }
 {
     match value {
         Some(value) => write_value(records, &member.schema, value, depth, alloc, out),

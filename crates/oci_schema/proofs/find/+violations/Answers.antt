@@ -1,9 +1,9 @@
-use Rattle.std.proofs.Common.{ap, ◌∙◌, ◌+◌, drop, length, arith, option_map}
+use Rattle.std.proofs.Common.{refl, ap, ◌∙◌, ◌+◌, drop, length, arith, option_map}
 use Rattle.std.proofs.lemmas.Result.{IfOk-from_err}
 use Rattle.serde_json.specs.View.{view, items_view, members_view}
 use Rattle.oci_model.specs.Sizes.{items_size, members_size}
 use Rattle.oci_schema.specs.Shapes.{part_shape}
-use Rattle.oci_schema.specs.Places.{under_name}
+use Rattle.oci_schema.specs.Places.{pointer, under_name}
 use Rattle.oci_schema.specs.Violations.{violations}
 use Rattle.oci_schema.proofs.ListedParts.{item_more, entry_more, no_item_more, member_more, no_member_more}
 use Rattle.oci_schema.proofs.Steps.{items_left}
@@ -38,57 +38,48 @@ add_items-loop-index-preserved g t c =
     let later = ap (λ vs. items_size (items_view (drop (i + 1) vs))) same in
     record {
       all =
-          item_more (violations (part_shape (g.T.Records.shape_at c.args.records.now) c.args.part.now)) c.args.at.now _ _ _ c.item-item.result c.in_ok-add_part.ensures i
-          c.deref-item-items.result.now _ same c.loop-index-test.true c.item-item.is (c.as_str.ensures.value ∙ c.in_ok-place.ensures) ∙ c.loop-index.invariant.all;
+          item_more (violations (part_shape (g.T.Records.shape_at c.args.records.now) c.args.part.now)) (pointer c.args.at.now) _ _ _ c.item-item.result c.in_ok-add_part.ensures i
+          c.deref-item-items.result.now _ same c.loop-index-test.true c.item-item.is refl ∙ c.loop-index.invariant.all;
       smaller = omega (arith, cut, now, later, c.loop-index.invariant.smaller);
     }
 
 pub add_items-returns : goal.add_items-returns
 add_items-returns g t c =
-    no_item_more (violations (part_shape (g.T.Records.shape_at c.args.records.now) c.args.part.now)) c.args.at.now _ c.loop-index.index
+    no_item_more (violations (part_shape (g.T.Records.shape_at c.args.records.now) c.args.part.now)) (pointer c.args.at.now) _ c.loop-index.index
     c.deref-item-items.result.now _ c.deref-item-items.ensures.value c.loop-index-test.false ∙ c.loop-index.invariant.all
 
 pub add_entries-loop-name-preserved : goal.add_entries-loop-name-preserved
 add_entries-loop-name-preserved g t c =
     let steps = ap members_view c.in-Some.ensures.steps in
     let cut = ap members_size steps in
-    let there = c.as_str-in-loop-name.ensures.value ∙ c.in_ok-place.ensures ∙ ap (under_name c.args.at.now) c.as_str.ensures.value in
+    let there = ap (under_name (pointer c.args.at.now)) c.as_str.ensures.value in
     record {
       all =
-          entry_more (violations (part_shape (g.T.Records.shape_at c.args.records.now) c.args.part.now)) c.args.at.now _ _ _ c.in-Some.entry.now c.in_ok-add_part.ensures
+          entry_more (violations (part_shape (g.T.Records.shape_at c.args.records.now) c.args.part.now)) (pointer c.args.at.now) _ _ _ c.in-Some.entry.now c.in_ok-add_part.ensures
           _ _ _ steps there ∙ c.loop-name.invariant.all;
       smaller = omega (arith, cut, c.loop-name.invariant.smaller);
     }
 
 pub add_members-loop-member-preserved : goal.add_members-loop-member-preserved
 add_members-loop-member-preserved g t c =
-    member_more (g.T.Records.shape_at c.args.records.now) c.args.members.now c.loop-member.member-index _ c.args.at.now (view c.args.value.now) _ _
+    member_more (g.T.Records.shape_at c.args.records.now) c.args.members.now c.loop-member.member-index _ (pointer c.args.at.now) (view c.args.value.now) _ _
     c.loop-member-test.true c.in_ok-add_member.ensures ∙ c.loop-member.invariant
 
 pub add_members-returns : goal.add_members-returns
 add_members-returns g t c =
-    no_member_more (g.T.Records.shape_at c.args.records.now) c.args.members.now c.loop-member.member-index c.args.at.now (view c.args.value.now) _
+    no_member_more (g.T.Records.shape_at c.args.records.now) c.args.members.now c.loop-member.member-index (pointer c.args.at.now) (view c.args.value.now) _
     c.loop-member-test.false ∙ c.loop-member.invariant
 
 -- ---- at the exits
 
-pub add_items-returns-in_err-place : goal.add_items-returns-in_err-place
-add_items-returns-in_err-place g t c = IfOk-from_err _ _ c.from_residual.ensures.0
-
 pub add_items-returns-in_err-add_part : goal.add_items-returns-in_err-add_part
-add_items-returns-in_err-add_part g t c = IfOk-from_err _ _ c.from_residual-in_err-add_part.ensures.0
-
-pub add_entries-returns-in_err-place : goal.add_entries-returns-in_err-place
-add_entries-returns-in_err-place g t c = IfOk-from_err _ _ c.from_residual.ensures.0
+add_items-returns-in_err-add_part g t c = IfOk-from_err _ _ c.from_residual.ensures.0
 
 pub add_entries-returns-in_err-add_part : goal.add_entries-returns-in_err-add_part
-add_entries-returns-in_err-add_part g t c = IfOk-from_err _ _ c.from_residual-in_err-add_part.ensures.0
+add_entries-returns-in_err-add_part g t c = IfOk-from_err _ _ c.from_residual.ensures.0
 
 pub add_members-returns-in_err-add_member : goal.add_members-returns-in_err-add_member
 add_members-returns-in_err-add_member g t c = IfOk-from_err _ _ c.from_residual.ensures.0
-
-pub add_found-returns-in_err-place : goal.add_found-returns-in_err-place
-add_found-returns-in_err-place g t c = IfOk-from_err _ _ c.from_residual.ensures.0
 
 -- ---- that the walk ends
 

@@ -1,8 +1,9 @@
-use Rattle.std.proofs.Common.{sym, ◌∙◌}
-use Rattle.oci_schema.specs.Shapes.{schema_shape}
-use Rattle.oci_schema.proofs.Documents.{of_some}
+use Rattle.std.proofs.Common.{◌≡◌, Some, subst}
+use Rattle.serde_json.specs.Read.{read}
+use Rattle.oci_schema.proofs.FieldWalk.{if_done}
 use Rattle.oci_schema.proofs.bytes.lane.is_accepted.Goals as goal
 
-pub returns : goal.returns
-returns g c = λ h.
-    of_some (λ w. w.items) (schema_shape (g.T.Records.shape_at c.args.records.now) c.args.schema.now) c.args.bytes.now c.in_ok-text.text c.in_ok-text.ensures (sym c.is_some.ensures ∙ h)
+pub returns-in-Ok : goal.returns-in-Ok
+returns-in-Ok g c =
+    let u = c.in-Ok.ensures.cases in
+    if_done c.is_accepted_text.result _ _ c.is_accepted_text.ensures (λ h. (h.0, (u.1, subst (λ t. read t ≡ Some h.0) u.0 h.1), h.2))

@@ -4,6 +4,7 @@ use Rattle.oci_json_tape.specs.Elements.{BeginsWithData}
 use Rattle.oci_schema.specs.Shapes.{part_shape}
 use Rattle.oci_schema.specs.Fields.{AreAccepted}
 use Rattle.oci_schema.specs.Objects.{fields_in}
+use Rattle.oci_schema.specs.Walks.{Writes}
 use Rattle.oci_schema.proofs.ArrayWalk.{ItemsLeft}
 use Rattle.oci_schema.proofs.FieldWalk.{FieldsLeft}
 use Rattle.oci_schema.proofs.MapWalk.{MembersSoFar}
@@ -32,14 +33,14 @@ decreases-write_field g l = 8 * l.depth + 1
 
 abbrev pub invariant-write_items-each_item : goal.invariant-write_items-each_item
 invariant-write_items-each_item g l =
-    (d : Data) → BeginsWithData l.fn.element d → ItemsLeft (part_shape (g.T.Records.shape_at l.records) l.part) d l.fn.out l.rest l.out
+    Writes g.K.Sink.holds (λ a b. (d : Data) → BeginsWithData l.fn.element d → ItemsLeft (part_shape (g.T.Records.shape_at l.records) l.part) d a l.rest b) l.fn.out l.out
 
 abbrev pub decreases-write_items-each_item : goal.decreases-write_items-each_item
 decreases-write_items-each_item g l = length l.rest
 
 abbrev pub invariant-write_map-each_member : goal.invariant-write_map-each_member
 invariant-write_map-each_member g l =
-    (d : Data) → BeginsWithData l.fn.element d → MembersSoFar (part_shape (g.T.Records.shape_at l.records) l.part) d l.fn.out l.last l.rest l.out
+    Writes g.K.Sink.holds (λ a b. (d : Data) → BeginsWithData l.fn.element d → MembersSoFar (part_shape (g.T.Records.shape_at l.records) l.part) d a l.last l.rest b) l.fn.out l.out
 
 abbrev pub decreases-write_map-each_member : goal.decreases-write_map-each_member
 decreases-write_map-each_member g l = length l.rest
@@ -47,7 +48,5 @@ decreases-write_map-each_member g l = length l.rest
 abbrev pub invariant-write_fields-loop-slot : goal.invariant-write_fields-loop-slot
 invariant-write_fields-loop-slot g l =
     let f = g.T.Records.shape_at l.records in
-    record {
-      accepted : AreAccepted f (fields_in (drop l.slot-index l.slots)) → AreAccepted f (fields_in l.slots);
-      left : FieldsLeft f (fields_in l.slots) (fields_in (drop l.slot-index l.slots)) l.fn.out l.out;
-    }
+    let rest = fields_in (drop l.slot-index l.slots) in
+    Writes g.K.Sink.holds (λ a b. (AreAccepted f rest → AreAccepted f (fields_in l.slots)) × FieldsLeft f (fields_in l.slots) rest a b) l.fn.out l.out
