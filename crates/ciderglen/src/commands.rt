@@ -215,7 +215,7 @@ static COMMANDS: [Described; 10] = [
             },
             Argument {
                 name: "drop-unknown",
-                help: "Write the file of --output also where members that the schema does not list are left out of it",
+                help: "Write the file of --output also where members are left out of it: unknown ones, and earlier ones of one name",
                 ..PLAIN
             },
             Argument {

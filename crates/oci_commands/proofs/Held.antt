@@ -1,5 +1,5 @@
 -- What holds of the bytes of a file, where they are known.
-use Rattle.std.proofs.Common.{◌≡◌, ◌⊎◌, inl, inr, ℕ, List, Bool, true, false, Option, Some, None, Result, Ok, Err, subst}
+use Rattle.std.proofs.Common.{◌≡◌, ◌⊎◌, ◌++◌, ◌∙◌, [], inl, inr, ℕ, List, Bool, true, false, Option, Some, None, Result, Ok, Err, ap, sym, subst}
 use Rattle.std.specs.Prelude.{IfSome, OnOk}
 use Rattle.oci_model.specs.Shape.{Shape}
 use Rattle.oci_json.specs.Engines.{MeansBytes, WritesDocument}
@@ -30,6 +30,13 @@ document_written s input W V f h = let (p, means, wrote) = h in (p, means, f _ w
 
 pub pretty_written : (s : Shape) (input : Option (List ℕ)) (W V : List ℕ → Type 0) → ((t : List ℕ) → W t → V t) → WritesPretty s input W → WritesPretty s input V
 pretty_written s input W V f h = let (p, means, rest) = h in let (text, is, wrote) = rest in (p, means, (text, is, f text wrote))
+
+-- what was put behind nothing is all that is there
+pub compact_made : (s : Shape) (bytes old new : List ℕ) → WritesDocument s (Some bytes) (λ t. new ≡ old ++ t) → old ≡ [] → WritesDocument s (Some bytes) (λ t. t ≡ new)
+compact_made s bytes old new h e = document_written s (Some bytes) (λ t. new ≡ old ++ t) (λ t. t ≡ new) (λ t is. sym (is ∙ ap (λ q. q ++ t) e)) h
+
+pub pretty_made : (s : Shape) (bytes old new : List ℕ) → WritesPretty s (Some bytes) (λ t. new ≡ old ++ t) → old ≡ [] → WritesPretty s (Some bytes) (λ t. t ≡ new)
+pretty_made s bytes old new h e = pretty_written s (Some bytes) (λ t. new ≡ old ++ t) (λ t. t ≡ new) (λ t is. sym (is ∙ ap (λ q. q ++ t) e)) h
 
 -- the canonical form of the kind that was found is that of the kind that was asked for
 pub formats_asked : (asked : Option Kind) (kind : Kind) (pretty : Bool) (input : Option (List ℕ)) (W V : List ℕ → Type 0) → IsAsked asked kind → ((t : List ℕ) → W t → V t) → Formats (Some kind) pretty input W

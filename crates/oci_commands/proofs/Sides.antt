@@ -1,7 +1,12 @@
 -- Two documents that are the same, or are not.
 use Rattle.std.proofs.Common.{◌≡◌, ◌∙◌, ℕ, List, Option, Some, None, inl, inr, sym, subst, rules}
 use Rattle.std.specs.Prelude.{IfSome}
-use Rattle.oci_json.specs.Engines.{MeansBytes}
+use Rattle.serde_json.specs.Data.{Data}
+use Rattle.serde_json.specs.Read.{read}
+use Rattle.oci_json.specs.Engines.{IsNoJson, MeansBytes, ReadsAs}
+use Rattle.oci_model.specs.Means.{Means}
+use Rattle.oci_model.specs.Value.{value as json_of}
+use Rattle.oci_findings.specs.Checks.{IsAsked}
 use Rattle.oci_model.specs.Plain.{Plain}
 use Rattle.oci_schemas.specs.Kinds.{shape_of}
 use Rattle.serde_json.specs.View.{view}
@@ -38,3 +43,13 @@ pub none_held : {E : Type 0} (asked : Option Kind) (bytes : List ℕ) → IfSome
     → HoldsNone asked (Some bytes)
 none_held None bytes all wrong = search rules
 none_held (Some k) bytes all wrong = λ p means. wrong (all p means)
+
+-- bytes that are no JSON hold none either
+pub no_json_held : (asked : Option Kind) (bytes : List ℕ) → IfSome asked (λ k. IsNoJson bytes) → HoldsNone asked (Some bytes)
+no_json_held None bytes none = search rules
+no_json_held (Some k) bytes none = λ p means. let no : read bytes ≡ None = none means.1.0 in (let both : Some means.0 ≡ None = sym means.1.1 ∙ no in cc)
+
+-- the canonical form of a value that was read
+pub form_held : (asked : Option Kind) (kind : Kind) (bytes : List ℕ) (d : Data) (v : Value) → IsAsked asked kind → ReadsAs bytes d
+    → (p : Plain) × Means (shape_of kind) d p × (view v ≡ json_of (shape_of kind) p) → IsSide asked (Some bytes) (Document kind v)
+form_held asked kind bytes d v is reads (p, means, same) = (is, (p, (d, reads, means), same))

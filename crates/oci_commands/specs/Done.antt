@@ -34,7 +34,7 @@ WroteReferences Sarif texts old new = AppendsEach AreReferenceLines texts old ne
 abbrev pub IsDone : (Kind → List Rule) → (List ℕ → Option (List ℕ)) → Option (List ℕ) → Option (List ℕ) → Asked → Type 0
 -- nothing is wrong with any file
 IsDone books holds old new (Check a) = All (λ f. IfSome (holds f.now) (IsRight books a)) a.files.now
--- the file is canonical, or its canonical form was written; into a file only if no unknown member is left out of it, or that was asked for
+-- the file is canonical, or its canonical form was written; into a file only if no member is left out of it, unknown or before another of its name, or that was asked for
 IsDone books holds old new (Format a) =
     (a.check ≡ true → IfSome (holds a.file.now) (λ bytes. Formats a.kind a.pretty (Some bytes) (λ text. text ≡ bytes)))
     × (a.check ≡ false → a.output ≡ None → Formats a.kind a.pretty (holds a.file.now) (Appends old new))

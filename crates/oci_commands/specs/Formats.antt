@@ -1,5 +1,5 @@
 -- What `fmt` writes, and what it does not accept.
-use Rattle.std.specs.Prelude.{◌≡◌, ◌⊎◌, ⊤, ℕ, List, [], Bool, true, false, Option, Some, IsSome, IfSome}
+use Rattle.std.specs.Prelude.{◌≡◌, ◌⊎◌, ⊤, ℕ, List, Bool, true, false, Option, Some, IsSome, IfSome}
 use Rattle.serde_json.specs.Data.{Data}
 use Rattle.oci_model.specs.Plain.{Plain}
 use Rattle.oci_model.specs.Writable.{Writable}
@@ -7,8 +7,7 @@ use Rattle.oci_json.specs.Engines.{MeansBytes, ReadsAs, WritesDocument}
 use Rattle.oci_schema.specs.Normalizes.{WritesPretty}
 use Rattle.oci_schemas.specs.declared.kind.Kind.{Kind}
 use Rattle.oci_schemas.specs.Kinds.{shape_of}
-use Rattle.oci_findings.specs.Checks.{IsAsked}
-use Rattle.oci_schema.specs.Unknown.{unknown}
+use Rattle.oci_findings.specs.Checks.{AllKept, IsAsked}
 use Rattle.oci_base.specs.declared.error.OciSpecError.{OciSpecError}
 use Rattle.oci_base.specs.declared.error.OciSpecError.TheVariants.{SerDe}
 use Rattle.oci_commands.specs.declared.asked.Format.{Format}
@@ -31,13 +30,13 @@ IsSerDe _ = ⊥
 abbrev pub IsNotCompact : Kind → List ℕ → Type 0
 IsNotCompact kind bytes = ¬ Formats (Some kind) false (Some bytes) (λ text. text ≡ bytes)
 
--- the schema of the kind lists all members of the value, or leaves some out
-abbrev pub AllListed : Kind → Data → Type 0
-AllListed kind d = unknown (shape_of kind) [] d ≡ []
+-- all members of the document in the bytes are in its canonical form
+abbrev pub KeepsAll : Kind → List ℕ → Type 0
+KeepsAll kind bytes = (d : Data) × ReadsAs bytes d × AllKept kind d bytes
 
--- all members of the document in the bytes, of the kind that is asked for, or of some kind where none is, are in its canonical form
+-- the same of the kind that is asked for, or of some kind where none is
 abbrev pub LosesNothing : Option Kind → List ℕ → Type 0
-LosesNothing asked bytes = (kind : Kind) × (d : Data) × IsAsked asked kind × ReadsAs bytes d × AllListed kind d
+LosesNothing asked bytes = (kind : Kind) × IsAsked asked kind × KeepsAll kind bytes
 
 -- a file was to be written, and members were to be left out of it unasked
 pub record WouldLose (kind : Kind) (a : Format) (bytes : List ℕ) : Type 0 where
@@ -45,7 +44,7 @@ pub record WouldLose (kind : Kind) (a : Format) (bytes : List ℕ) : Type 0 wher
   pub unasked : a.drop_unknown ≡ false
   pub value : Data
   pub reads : ReadsAs bytes value
-  pub lost : ¬ AllListed kind value
+  pub lost : ¬ AllKept kind value bytes
 
 -- they hold none, or were to be its canonical form and are not; of indented text nothing more is said
 abbrev pub IsMisformed : Kind → Format → List ℕ → Type 0

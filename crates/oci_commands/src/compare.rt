@@ -1,20 +1,24 @@
 //! The command `diff`.
 ghost use Rattle.std.specs.Prelude.{◌≡◌, ◌++◌, ℕ, List, Some, IfOk, OnOk};
 ghost use Rattle.serde_json.specs.View.{view};
+ghost use Rattle.oci_model.specs.Means.{Means};
+ghost use Rattle.oci_model.specs.Plain.{Plain};
+ghost use Rattle.oci_model.specs.Value.{value as json_of};
+ghost use Rattle.oci_schemas.specs.Kinds.{shape_of};
 ghost use Rattle.oci_diff.specs.Same.{AreSame};
 ghost use Rattle.oci_base.specs.Escaped.{IsLine};
 ghost use Rattle.oci_commands.specs.Compared.{HoldSame, HoldUnequal, IsSide};
 ghost use Rattle.oci_commands.specs.Done.{IsStatus};
 
 use crate::asked::{Compare, Style};
-use crate::canonical::normal_value;
 use crate::files::Files;
-use crate::texts::{complain, complain_of, is_wrong};
+use crate::texts::{complain, complain_of, is_wrong, report_findings};
 use oci_base::{Result, line_of};
 use oci_diff::{Change, Difference, differences};
-use oci_findings::inspect::kind_of;
+use oci_findings::inspect::{Reading, faulty, read_value};
 use oci_json::write_text;
-use oci_schemas::Kind;
+use oci_schema::normalize_value;
+use oci_schemas::{Kind, OciRecords};
 use serde_json::Value;
 use std::alloc::{AllocError, Global};
 use std::io::Write;
@@ -116,6 +120,7 @@ fn read_side<S: Files, E: Write>(
 }
 
 /// The canonical form of the document in these bytes.
+#[tactic(auto, using(crate::proofs::Sides::form_held, crate::proofs::Sides::no_json_held, crate::proofs::Sides::none_held))]
 fn side_of<E: Write>(
     asked: Option<Kind>,
     name: &str,
@@ -125,15 +130,27 @@ fn side_of<E: Write>(
 ) -> Result<Side>
     ensures { IfOk result (IsSide asked (Some bytes.now)) }
 {
-    let wrong = is_wrong(asked, name, bytes, alloc, errors)?;
-    if wrong {
-        return Ok(Side::Wrong);
+    match read_value(asked, name, bytes, alloc)? {
+        Reading::Value(kind, value) => match normal_document(kind, value, alloc) {
+            Ok(normal) => Ok(Side::Document(kind, normal)),
+            Err(error) => {
+                let wrong = is_wrong(asked, name, bytes, alloc, errors)?;
+                if wrong { Ok(Side::Wrong) } else { Err(error) }
+            }
+        },
+        Reading::Fault(fault) => {
+            let found = faulty(fault, alloc)?;
+            report_findings(name, &found, alloc, errors)?;
+            Ok(Side::Wrong)
+        }
     }
-    let value = Value::from_slice(alloc, bytes)?;
-    match kind_of(asked, name, &value) {
-        Some(kind) => Ok(Side::Document(kind, normal_value(kind, bytes, alloc)?)),
-        None => Ok(Side::Wrong),
-    }
+}
+
+/// The canonical form of a document as a value.
+fn normal_document(kind: Kind, value: Value, alloc: Global) -> Result<Value>
+    ensures { IfOk result (λ v. (p : Plain) × Means (shape_of kind) (view value) p × (view v ≡ json_of (shape_of kind) p)) }
+{
+    normalize_value(&OciRecords, kind.schema(), value, alloc)
 }
 
 fn lines_of(style: Style, found: &Vec<Difference<'_>>, alloc: Global) -> Result<Vec<u8>> {

@@ -8,6 +8,7 @@ pub mod check;
 pub mod compare;
 pub mod contents;
 pub mod files;
+pub mod left_out;
 pub mod outline;
 pub mod program;
 pub mod shown;

@@ -1,6 +1,8 @@
 -- Which documents pass.
-use Rattle.std.specs.Prelude.{◌≡◌, ◌++◌, ◌&&◌, ℕ, List, [], map, Bool, true, false, Option, Some, None, IfSome, ⊤}
+use Rattle.std.specs.Prelude.{◌≡◌, ◌++◌, ◌&&◌, ℕ, List, [], map, Bool, true, false, Option, Some, None, IfSome, IsSomeAnd, ⊤}
 use Rattle.std.specs.List.{filter}
+use Rattle.json.specs.Json.{document}
+use Rattle.json.specs.Strict.{HasUniqueKeys}
 use Rattle.serde_json.specs.Data.{Data}
 use Rattle.serde_json.specs.View.{view}
 use Rattle.oci_model.specs.Plain.{Plain}
@@ -40,6 +42,20 @@ IsAsked None kind = ⊤
 abbrev pub IsReading : Option Kind → List ℕ → Reading → Type 0
 IsReading asked bytes (reading.Value kind value) = IsAsked asked kind × ReadsAs bytes (view value)
 IsReading asked bytes (reading.Fault fault) = IfSome asked (λ k. IsNoJson bytes)
+
+-- ---- what a document may lose
+
+-- the schema of the kind lists all members of the value
+abbrev pub AllListed : Kind → Data → Type 0
+AllListed kind d = unknown (shape_of kind) [] d ≡ []
+
+-- the bytes are JSON in which no object has two members of one name
+abbrev pub HasNamesOnce : List ℕ → Type 0
+HasNamesOnce bytes = IsSomeAnd (document bytes) HasUniqueKeys
+
+-- all members of the document in the bytes, of which this is the value, are in its canonical form
+abbrev pub AllKept : Kind → Data → List ℕ → Type 0
+AllKept kind d bytes = AllListed kind d × HasNamesOnce bytes
 
 -- ---- what `check` asks
 

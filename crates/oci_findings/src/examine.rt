@@ -7,15 +7,16 @@ ghost use Rattle.oci_schema.specs.Unknown.{unknown as all_unknown};
 ghost use Rattle.oci_rules.specs.Listed.{all_broken};
 ghost use Rattle.oci_rules.specs.Tables.{level_of, platform_of, rule_of, told as broken_told};
 ghost use Rattle.oci_findings.specs.Findings.{breach};
-ghost use Rattle.oci_findings.specs.Checks.{IsRight, IsRightValue, IsWrong, asked_rules, platform_asked, counts as does_count, binds as does_bind, is_error as makes_wrong, counted, denied, rules_if};
+ghost use Rattle.oci_findings.specs.Checks.{AllKept, IsRight, IsRightValue, IsWrong, asked_rules, platform_asked, counts as does_count, binds as does_bind, is_error as makes_wrong, counted, denied, rules_if};
 
 use crate::asked::{Check, Unknown};
 use crate::inspect::{Reading, faulty, read_value, schema_errors};
 use crate::quick::is_right;
-use crate::repeated::warn_of_repeated;
+use crate::repeated::{repeated_findings, warn_of_repeated};
 use crate::rulebooks::RuleBooks;
 use crate::shown::shown_at;
 use crate::{Cause, Finding, Report, Severity};
+use json::Error;
 use oci_rules::{Broken, Level, Rule, RuntimePlatform, broken, platform_of_document};
 use oci_schema::bytes::Workspace;
 use oci_schema::{UnknownMember, suggestion, unknown_members};
@@ -309,18 +310,34 @@ fn denied_findings<'a>(
     }
 }
 
-/// The members of a value, which was read from these bytes, that the schema of its kind does not list, as errors. Fails if out of
-/// memory.
-pub fn unlisted_members(
+/// The members of a document, whose value was read from these bytes, that are not in its canonical form, as errors: those that the
+/// schema of its kind does not list, and each whose name an earlier one of its object has, since the last one alone is kept. Fails if
+/// out of memory, with `Invalid` if the bytes are not JSON, and with `TooLong` if they are 4 GiB or more.
+pub fn lost_members(
     kind: Kind,
     value: &Value,
     bytes: &[u8],
     alloc: Global,
-) -> Result<Report<'static>, AllocError>
-    ensures { IfOk result (λ r. (r.errors.items ≡ []) ↔ (all_unknown (shape_of kind) [] (view value.now) ≡ [])) }
+) -> Result<Report<'static>, Error>
+    ensures { IfOk result (λ r. (r.errors.items ≡ []) ↔ AllKept kind (view value.now) bytes.now) }
 {
-    let errors = unknown_findings(kind, value, false, alloc)?;
-    Report::new(errors, Vec::new(alloc), bytes, alloc)
+    let errors = lost_findings(kind, value, bytes, alloc)?;
+    let report = Report::new(errors, Vec::new(alloc), bytes, alloc)?;
+    Ok(report)
+}
+
+fn lost_findings<'a>(
+    kind: Kind,
+    value: &Value,
+    bytes: &[u8],
+    alloc: Global,
+) -> Result<Vec<Finding<'a>>, Error>
+    ensures { IfOk result (λ v. (v.items ≡ []) ↔ AllKept kind (view value.now) bytes.now) }
+{
+    let unknown = unknown_findings(kind, value, false, alloc)?;
+    let repeated = repeated_findings(bytes, false, alloc)?;
+    let found = joined(unknown, repeated)?;
+    Ok(found)
 }
 
 /// The members that the schema does not list, where they are warned of.

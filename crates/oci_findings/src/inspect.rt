@@ -9,7 +9,7 @@ ghost use Rattle.oci_schema.specs.Violations.{violations as all_violations};
 ghost use Rattle.oci_findings.specs.Findings.{told, as_told};
 ghost use Rattle.oci_findings.specs.Checks.{IsAllowed, IsAsked, IsReading};
 
-use crate::detect::{Detected, detect, explain_open};
+use crate::detect::{Detected, Document, detect, explain_open};
 use crate::shown::{json_cause, violation_findings};
 use crate::{Cause, Finding, Report, Severity};
 use oci_schema::violations;
@@ -55,13 +55,13 @@ pub fn read_value(
 }
 
 /// The kind that is asked for, or that a document is found out to be.
-pub fn kind_of(asked: Option<Kind>, name: &str, value: &Value) -> Option<Kind>
+pub fn kind_of<D: Document>(asked: Option<Kind>, name: &str, document: &D) -> Option<Kind>
     ensures kind { IfSome result (IsAsked asked) }
     ensures found { is_some asked ≡ true → is_some result ≡ true }
 {
     match asked {
         Some(kind) => Some(kind),
-        None => match detect(name, value) {
+        None => match detect(name, document) {
             Detected::One(kind) => Some(kind),
             Detected::Open => None,
         },

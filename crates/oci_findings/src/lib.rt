@@ -9,6 +9,7 @@ pub mod examine;
 pub mod file_fault;
 pub mod finding;
 pub mod inspect;
+pub mod keeps;
 pub mod kinds;
 pub mod outline;
 pub mod place;

@@ -1,4 +1,4 @@
-//! Documents that nothing is wrong with, straight from their bytes.
+//! What can be told of a document straight from its bytes.
 ghost use Rattle.std.specs.Prelude.{◌≡◌, List, [], false, IfSome, IsTrue};
 ghost use Rattle.oci_schemas.specs.declared.kind.Kind.{Kind as kind_type};
 ghost use Rattle.oci_rules.specs.Rules.{Rule as rule_data};
@@ -6,11 +6,16 @@ ghost use Rattle.oci_findings.specs.Checks.{IsAsked, IsOfKind, IsRight};
 ghost use Rattle.oci_findings.specs.declared.asked.Unknown.TheVariants.{Allow};
 
 use crate::asked::{Check, Unknown};
-use crate::detect::{Detected, detect};
-use json::{Scratch, Tape};
+use crate::inspect::kind_of;
+use crate::keeps::keeps_all;
+use json::Tape;
 use oci_schema::bytes::{Workspace, is_valid_bytes};
 use oci_schemas::{Kind, OciRecords};
+use simdutf8::compat::from_utf8;
 use std::alloc::Global;
+
+/// How deep records nest at most.
+const DEPTH: usize = 16;
 
 /// Whether the bytes are a document of the kind that is asked for, or of the one that is found out by its file name and members, where
 /// nothing but its schema is checked, and no name stands twice in an object; `false` if that was not found out.
@@ -26,31 +31,43 @@ pub fn is_right(
     if !is_schema_alone(asked) {
         return false;
     }
-    match strict_kind(asked.kind, name, bytes, alloc) {
-        Some(kind) => is_document(kind, bytes, workspace, alloc),
+    match look_at(asked.kind, name, bytes, false, workspace, alloc) {
+        Some(found) => is_document(found.kind, bytes, workspace, alloc),
         None => false,
     }
 }
 
-/// The kind that is asked for, or that a document is found out to be, if no name stands twice in an object; `None` also if that was not
-/// found out.
-fn strict_kind(asked: Option<Kind>, name: &str, bytes: &[u8], alloc: Global) -> Option<Kind>
-    ensures { IfSome result (IsAsked asked) }
+/// What is found out about a document before it is read by a schema.
+#[derive(Clone, Copy)]
+pub struct Look {
+    /// Its kind.
+    pub kind: Kind,
+    /// Whether its canonical form has all its members, each under its own name; `false` also if that was not found out.
+    pub is_whole: bool,
+}
+
+/// The kind that is asked for, or that a document is found out to be by its file name and members, and whether the canonical form has
+/// all its members, if that is asked. `None` if a name stands twice in an object, or if the kind was not found out.
+pub fn look_at(
+    asked: Option<Kind>,
+    name: &str,
+    bytes: &[u8],
+    asks_for_members: bool,
+    workspace: &mut Workspace,
+    alloc: Global,
+) -> Option<Look>
+    ensures { IfSome result (λ l. IsAsked asked l.kind) }
 {
-    let Ok(text) = std::str::from_utf8(bytes) else {
+    let Ok(text) = from_utf8(bytes) else {
         return None;
     };
-    let mut scratch = Scratch::new(alloc);
-    let Ok(tape) = Tape::parse_strict(text, &mut scratch, Vec::new(alloc)) else {
+    let Ok(tape) = Tape::parse_strict(text, workspace.scratch(), Vec::new(alloc)) else {
         return None;
     };
-    match asked {
-        Some(kind) => Some(kind),
-        None => match detect(name, &tape.root()) {
-            Detected::One(kind) => Some(kind),
-            Detected::Open => None,
-        },
-    }
+    let root = tape.root();
+    let kind = kind_of(asked, name, &root)?;
+    let is_whole = asks_for_members && keeps_all(kind.schema(), &root, DEPTH);
+    Some(Look { kind, is_whole })
 }
 
 /// Whether nothing but the schema is checked.

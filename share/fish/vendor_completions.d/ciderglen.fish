@@ -25,7 +25,7 @@ complete -c ciderglen -n '__fish_seen_subcommand_from fmt' -l pretty -d 'Indent 
 complete -c ciderglen -n '__fish_seen_subcommand_from fmt' -l compact -d 'Write no spaces; this is the default'
 complete -c ciderglen -n '__fish_seen_subcommand_from fmt' -l check -d 'Write nothing; the exit status says whether the file is canonical'
 complete -c ciderglen -n '__fish_seen_subcommand_from fmt' -s o -l output -r -F -d 'Write to this file, which is replaced as a whole'
-complete -c ciderglen -n '__fish_seen_subcommand_from fmt' -l drop-unknown -d 'Write the file of --output also where members that the schema does not list are left out of it'
+complete -c ciderglen -n '__fish_seen_subcommand_from fmt' -l drop-unknown -d 'Write the file of --output also where members are left out of it: unknown ones, and earlier ones of one name'
 complete -c ciderglen -n '__fish_seen_subcommand_from fmt' -s q -l quiet -d 'Do not say what is left out'
 complete -c ciderglen -n '__fish_seen_subcommand_from fmt' -l verbose -d 'Say the digests before and after'
 complete -c ciderglen -n '__fish_seen_subcommand_from fmt' -s h -l help -d 'Print help'

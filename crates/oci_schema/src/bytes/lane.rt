@@ -36,6 +36,11 @@ impl Workspace {
             scratch: Scratch::new(alloc),
         }
     }
+
+    /// The memory in which a text becomes a tape, for those that look at a document before it is read by a schema.
+    pub fn scratch(&mut self) -> &mut Scratch {
+        &mut self.scratch
+    }
 }
 
 /// The normal form of a document as compact text; `None` if that was not found out. Fails if out of memory.

@@ -1,0 +1,9 @@
+use Rattle.oci_schemas.specs.Kinds.{shape_of}
+use Rattle.oci_commands.proofs.Held.{pretty_made}
+use Rattle.oci_commands.proofs.canonical.pretty_text.Goals as goal
+
+pub returns : goal.returns
+returns c = record {
+  ok = pretty_made (shape_of c.args.kind) c.args.bytes.now c.new.result.items _ c.in_ok-write_pretty.ensures.ok c.new.ensures.items;
+  none = tt;
+}
