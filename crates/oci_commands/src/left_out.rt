@@ -27,7 +27,7 @@ pub fn say_left_out<E: Write>(
     Ok(())
 }
 
-/// Adds a line for each member that stands in the place of an earlier one of its name.
+/// Adds a line for each member that replaces an earlier one of its name.
 fn add_repeated(
     bytes: &[u8],
     lines: &mut String,

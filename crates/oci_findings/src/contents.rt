@@ -198,7 +198,7 @@ fn severity_of(claim: &Claim, fault: Fault) -> Severity {
     }
 }
 
-/// The fault of a file that is not as it is claimed to be; none of a document that is.
+/// What is wrong with a file that is not as it is claimed to be; nothing of a document that is.
 fn file_fault(claim: &Claim, fault: Fault, alloc: Global) -> Result<Option<FileFault>, AllocError>
     ensures { IfOk result (λ f. content_fault (Some fault) ≡ file_facts f) }
 {

@@ -86,7 +86,7 @@ impl<'a> Finding<'a> {
     }
 
     /// The name of the rule that is broken: `json`, `kind`, `schema`, `unknown` or `repeated`, that of a rule of a specification or
-    /// policy, or that of a fault of a file.
+    /// policy, or a word for what is wrong with a file.
     pub fn rule(&self) -> &'a str
         ensures { result.now ≡ rule_name self.now.cause }
     {

@@ -1,4 +1,4 @@
-//! What can be told of a document straight from its bytes.
+//! What is found out about a document straight from its bytes.
 ghost use Rattle.std.specs.Prelude.{◌≡◌, List, [], false, IfSome, IsTrue};
 ghost use Rattle.oci_schemas.specs.declared.kind.Kind.{Kind as kind_type};
 ghost use Rattle.oci_rules.specs.Rules.{Rule as rule_data};
