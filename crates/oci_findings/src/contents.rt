@@ -157,7 +157,7 @@ fn add<'a>(
     cause: Cause<'a>,
     found: &mut Vec<Finding<'a>>,
 ) -> Result<(), AllocError>
-    ensures { OnOk result (map fact found.new.items ≡ map fact found.old.items ++ (string_bytes pointer.entry, fact_in cause.entry) ∷ []) }
+    ensures { OnOk result (map fact found.new.items ≡ map fact found.old.items ++ (string_bytes pointer, fact_in cause.entry) ∷ []) }
 {
     let finding = Finding {
         pointer,

@@ -2,7 +2,7 @@
 ghost use Rattle.std.specs.Prelude.{◌≡◌, ◌++◌, codes, IfOk, OnOk, string_bytes};
 ghost use Rattle.std.specs.Fmt.{decimal};
 ghost use Rattle.oci_content.specs.Content.{checksum_text};
-ghost use Rattle.oci_findings.specs.Files.{absence_words, count_words, embedded_words, file_words, file_rule, member_words};
+ghost use Rattle.oci_findings.specs.Files.{absence_words, count_words, embedded_words, file_words, file_rule, found_words, member_words};
 
 use crate::finding::{joined, with_found};
 use oci_content::{Checksum, Embedded};
@@ -117,11 +117,18 @@ fn size_message(claimed: u64, found: Option<u64>, alloc: Global) -> Result<Strin
 fn counted(claimed: &str, count: &str, alloc: Global) -> Result<String, AllocError>
     ensures { IfOk result (λ t. string_bytes t ≡ codes "expected " ++ (claimed.now ++ (codes " bytes, found " ++ count.now))) }
 {
-    let mut text = String::from_str(alloc, "expected ")?;
+    let mut text = String::new(alloc);
+    push_counted(&mut text, claimed, count)?;
+    Ok(text)
+}
+
+fn push_counted(text: &mut String, claimed: &str, count: &str) -> Result<(), AllocError>
+    ensures { OnOk result (string_bytes text.new ≡ string_bytes text.old ++ (codes "expected " ++ (claimed.now ++ (codes " bytes, found " ++ count.now)))) }
+{
+    text.push_str("expected ")?;
     text.push_str(claimed)?;
     text.push_str(" bytes, found ")?;
-    text.push_str(count)?;
-    Ok(text)
+    text.push_str(count)
 }
 
 fn count_text(found: Option<u64>, alloc: Global) -> Result<String, AllocError>
@@ -143,11 +150,18 @@ fn digest_message(claimed: &str, found: &Checksum, alloc: Global) -> Result<Stri
 fn compared(expected: &str, found: &str, alloc: Global) -> Result<String, AllocError>
     ensures { IfOk result (λ t. string_bytes t ≡ codes "expected " ++ (expected.now ++ (codes ", found " ++ found.now))) }
 {
-    let mut text = String::from_str(alloc, "expected ")?;
+    let mut text = String::new(alloc);
+    push_compared(&mut text, expected, found)?;
+    Ok(text)
+}
+
+fn push_compared(text: &mut String, expected: &str, found: &str) -> Result<(), AllocError>
+    ensures { OnOk result (string_bytes text.new ≡ string_bytes text.old ++ (codes "expected " ++ (expected.now ++ (codes ", found " ++ found.now)))) }
+{
+    text.push_str("expected ")?;
     text.push_str(expected)?;
     text.push_str(", found ")?;
-    text.push_str(found)?;
-    Ok(text)
+    text.push_str(found)
 }
 
 fn type_message(said: &str, found: &Option<String>, alloc: Global) -> Result<String, AllocError>
