@@ -40,7 +40,6 @@ pub mod Sound
 pub mod Steps
 pub mod Texts
 pub mod Unique
-pub mod UnknownSizes
 pub mod Unlisted
 pub mod Ways
 pub mod Written

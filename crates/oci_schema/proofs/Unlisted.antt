@@ -10,42 +10,10 @@ use Rattle.oci_model.specs.Shape as shape
 use Rattle.oci_model.specs.Shape.{Shape, text, truth, whole, named, open_name, digest_text, cpu_text, cap_set, list, key_set, detail, free_map, rows, Rows, no_rows, row, names}
 use Rattle.oci_schema.specs.Leads.{Have}
 use Rattle.oci_schema.specs.Places.{under_name, under_index}
-use Rattle.oci_schema.specs.Unknown.{Report, IsRecord, IsRecordIn, IsUnder, IsUnknown, unless_listed, unlisted, unlisted_in, of_each, of_items, of_each_member, of_members, of_part, of_named, unknown, unknown_in}
+use Rattle.oci_schema.proofs.EachPart.{nothing_in, no_some, one_in, in_both, back_members, Claim, Tells, InItems, InObject, items_in, members_in, part_in}
+use Rattle.oci_schema.specs.Unknown.{Report, IsRecord, IsRecordIn, IsUnder, IsUnknown, unless_listed, unlisted, unlisted_in, of_named, unknown, unknown_in}
 use Rattle.oci_schema.specs.Reported.{reported}
 use Rattle.oci_schema.specs.declared.unknown.UnknownMember.{UnknownMember}
-
-nothing_in : {A P : Type 0} (x : A) → Contains [] x → P
-nothing_in x h = let (k, below, is) = h in absurd (omega arith)
-
-no_some : {A P : Type 0} (x : A) → None ≡ Some x → P
-no_some x e = absurd cc
-
-in_both : (xs ys : List Report) (x : Report) (P Q : Type 0) → Contains xs x ↔ P → Contains ys x ↔ Q → Contains (xs ++ ys) x ↔ (P ⊎ Q)
-in_both xs ys x P Q one rest = ((λ h. there (Contains-append_cases xs ys x h)), back)
-  where
-    there : Contains xs x ⊎ Contains ys x → P ⊎ Q
-    there (inl h) = inl (one.0 h)
-    there (inr h) = inr (rest.0 h)
-
-    back : P ⊎ Q → Contains (xs ++ ys) x
-    back (inl h) = Contains-append_left xs ys x (one.1 h)
-    back (inr h) = Contains-append_right xs ys x (rest.1 h)
-
-one_in : (a x : Report) → Contains (a ∷ []) x → a ≡ x
-one_in a x h = go (Contains-push_cases [] a x h)
-  where
-    go : Contains [] x ⊎ (a ≡ x) → a ≡ x
-    go (inl e) = nothing_in x e
-    go (inr e) = e
-
-back_data : (c d : Data) → Some d ≡ Some c → c ≡ d
-back_data c d e = let s : d ≡ c = cc in sym s
-
-back_items : (es ds : Items) → Some ds ≡ Some es → es ≡ ds
-back_items es ds e = let s : ds ≡ es = cc in sym s
-
-back_members : (ns ms : Members) → Some ms ≡ Some ns → ns ≡ ms
-back_members ns ms e = let s : ms ≡ ns = cc in sym s
 
 -- ---- members of one object
 
@@ -79,109 +47,22 @@ unlisted_is ns at (member k d ms) x =
     split (name, c, inl same, free, shown) = inl (subst (λ n. (is_listed ns n ≡ false) × ((under_name at n, n, ns) ≡ x)) same.0 (free, shown))
     split (name, c, inr have, free, shown) = inr (name, c, have, free, shown)
 
--- ---- parts
-
-abbrev Listing : Type 0
-Listing = List ℕ → Data → List Report
-
-abbrev Claim : Type 1
-Claim = List ℕ → Data → Report → Type 0
-
-abbrev Lists : Listing → Claim → Type 0
-Lists f C = (at : List ℕ) (d : Data) (x : Report) → Contains (f at d) x ↔ C at d x
-
-abbrev InEach : Claim → List ℕ → ℕ → Items → Report → Type 0
-InEach C at i ds x = (j : ℕ) × (c : Data) × (get_item j ds ≡ Some c) × C (under_index at (i + j)) c x
-
-each_in : (f : Listing) (C : Claim) → Lists f C → (at : List ℕ) (i : ℕ) (ds : Items) (x : Report) → Contains (of_each f at i ds) x ↔ InEach C at i ds x
-each_in f C is at i no_items x = ((λ h. nothing_in x h), (λ h. let (j, c, e, so) = h in no_some c e))
-each_in f C is at i (item d ds) x =
-    let both = in_both (f (under_index at i) d) (of_each f at (i + 1) ds) x (C (under_index at i) d x) (InEach C at (i + 1) ds x) (is (under_index at i) d x) (each_in f C is at (i + 1) ds x) in
-    ((λ h. joined (both.0 h)), (λ h. both.1 (split h)))
-  where
-    joined : C (under_index at i) d x ⊎ InEach C at (i + 1) ds x → InEach C at i (item d ds) x
-    joined (inl h) = let z : i ≡ i + 0 = omega arith in (0, d, refl, subst (λ n. C (under_index at n) d x) z h)
-    joined (inr h) =
-        let (j, c, found, so) = h in
-        let z : (i + 1) + j ≡ i + suc j = omega arith in
-        (suc j, c, found, subst (λ n. C (under_index at n) c x) z so)
-
-    split : InEach C at i (item d ds) x → C (under_index at i) d x ⊎ InEach C at (i + 1) ds x
-    split (zero, c, found, so) =
-        let same : c ≡ d = back_data c d found in
-        let z : i + 0 ≡ i = omega arith in
-        inl (subst (λ n. C (under_index at n) d x) z (subst (λ b. C (under_index at (i + 0)) b x) same so))
-    split (suc j, c, found, so) = let z : i + suc j ≡ (i + 1) + j = omega arith in inr (j, c, found, subst (λ n. C (under_index at n) c x) z so)
-
-abbrev InItems : Claim → List ℕ → Option Items → Report → Type 0
-InItems C at o x = (ds : Items) × (o ≡ Some ds) × InEach C at 0 ds x
-
-items_in : (f : Listing) (C : Claim) → Lists f C → (at : List ℕ) (o : Option Items) (x : Report) → Contains (of_items f at o) x ↔ InItems C at o x
-items_in f C is at None x = ((λ h. nothing_in x h), (λ h. let (ds, e, so) = h in no_some ds e))
-items_in f C is at (Some ds) x = ((λ h. (ds, refl, (each_in f C is at 0 ds x).0 h)), (λ h. back h))
-  where
-    back : InItems C at (Some ds) x → Contains (of_each f at 0 ds) x
-    back h =
-        let (es, e, so) = h in
-        let same : es ≡ ds = back_items es ds e in
-        (each_in f C is at 0 ds x).1 (subst (λ (z : Items). InEach C at 0 z x) same so)
-
-abbrev InMembers : Claim → List ℕ → Members → Report → Type 0
-InMembers C at ms x = (name : List ℕ) × (c : Data) × Have ms name c × C (under_name at name) c x
-
-each_member_in : (f : Listing) (C : Claim) → Lists f C → (at : List ℕ) (ms : Members) (x : Report) → Contains (of_each_member f at ms) x ↔ InMembers C at ms x
-each_member_in f C is at no_members x = ((λ h. nothing_in x h), (λ h. let (name, c, have, so) = h in absurd have))
-each_member_in f C is at (member k d ms) x =
-    let both = in_both (f (under_name at k) d) (of_each_member f at ms) x (C (under_name at k) d x) (InMembers C at ms x) (is (under_name at k) d x) (each_member_in f C is at ms x) in
-    ((λ h. joined (both.0 h)), (λ h. both.1 (split h)))
-  where
-    joined : C (under_name at k) d x ⊎ InMembers C at ms x → InMembers C at (member k d ms) x
-    joined (inl h) = (k, d, inl (refl, refl), h)
-    joined (inr h) = let (name, c, have, so) = h in (name, c, inr have, so)
-
-    split : InMembers C at (member k d ms) x → C (under_name at k) d x ⊎ InMembers C at ms x
-    split (name, c, inl same, so) = inl (subst (λ n. C (under_name at n) d x) same.0 (subst (λ b. C (under_name at name) b x) same.1 so))
-    split (name, c, inr have, so) = inr (name, c, have, so)
-
-abbrev InObject : Claim → List ℕ → Option Members → Report → Type 0
-InObject C at o x = (ms : Members) × (o ≡ Some ms) × InMembers C at ms x
-
-members_in : (f : Listing) (C : Claim) → Lists f C → (at : List ℕ) (o : Option Members) (x : Report) → Contains (of_members f at o) x ↔ InObject C at o x
-members_in f C is at None x = ((λ h. nothing_in x h), (λ h. let (ms, e, so) = h in no_some ms e))
-members_in f C is at (Some ms) x = ((λ h. (ms, refl, (each_member_in f C is at ms x).0 h)), (λ h. back h))
-  where
-    back : InObject C at (Some ms) x → Contains (of_each_member f at ms) x
-    back h =
-        let (ns, e, so) = h in
-        let same : ns ≡ ms = back_members ns ms e in
-        (each_member_in f C is at ms x).1 (subst (λ (z : Members). InMembers C at z x) same so)
-
-part_in : (f : Listing) (C : Claim) → Lists f C → (at : List ℕ) (o : Option Data) (x : Report) → Contains (of_part f at o) x ↔ ((c : Data) × (o ≡ Some c) × C at c x)
-part_in f C is at None x = ((λ h. nothing_in x h), (λ h. let (c, e, so) = h in no_some c e))
-part_in f C is at (Some d) x = ((λ h. (d, refl, (is at d x).0 h)), (λ h. back h))
-  where
-    back : (c : Data) × (Some d ≡ Some c) × C at c x → Contains (f at d) x
-    back h =
-        let (c, e, so) = h in
-        let same : c ≡ d = back_data c d e in
-        (is at d x).1 (subst (λ b. C at b x) same so)
-
 -- ---- schemas
 
 -- a member of a record's object in the value at this pointer that the record does not list
-abbrev In : Shape → Claim
+abbrev In : Shape → (Claim Report)
 In s at d x = (rs : Rows) × (shown : List ℕ) × (part : Data) × IsRecord s at d rs shown part × ((ms : Members) × (as_object part ≡ Some ms) × Unlisted (names rs) shown ms x)
 
-abbrev InRows : Rows → Claim
+abbrev InRows : Rows → (Claim Report)
 InRows qs at d x = (rs : Rows) × (shown : List ℕ) × (part : Data) × IsRecordIn qs at d rs shown part × ((ms : Members) × (as_object part ≡ Some ms) × Unlisted (names rs) shown ms x)
 
-abbrev InNamed : Shape → Option (List ℕ) → Claim
+abbrev InNamed : Shape → Option (List ℕ) → (Claim Report)
 InNamed s name at d x = (rs : Rows) × (shown : List ℕ) × (part : Data) × IsUnder (IsRecord s) name at d rs shown part × ((ms : Members) × (as_object part ≡ Some ms) × Unlisted (names rs) shown ms x)
 
 none_is : (s : Shape) (at : List ℕ) (d : Data) (x : Report) → ((rs : Rows) (shown : List ℕ) (part : Data) → IsRecord s at d rs shown part → ⊥) → Contains {X = Report} [] x ↔ In s at d x
 none_is s at d x nowhere = ((λ h. nothing_in x h), (λ h. let (rs, shown, part, is, so) = h in absurd (nowhere rs shown part is)))
 
-list_is : (s : Shape) → Lists (unknown s) (In s) → Lists (unknown (list s)) (In (list s))
+list_is : (s : Shape) → Tells (unknown s) (In s) → Tells (unknown (list s)) (In (list s))
 list_is s below at d x =
     let all = items_in (unknown s) (In s) below at (as_array d) x in
     ((λ h. there (all.0 h)), (λ h. all.1 (back h)))
@@ -202,7 +83,7 @@ list_is s below at d x =
         let z : j ≡ 0 + j = omega arith in
         (ds, e, (j, c, found, (rs, shown, part, subst (λ n. IsRecord s (under_index at n) c rs shown part) z is, so)))
 
-map_is : (s : Shape) → Lists (unknown s) (In s) → Lists (unknown (shape.map s)) (In (shape.map s))
+map_is : (s : Shape) → Tells (unknown s) (In s) → Tells (unknown (shape.map s)) (In (shape.map s))
 map_is s below at d x =
     let all = members_in (unknown s) (In s) below at (as_object d) x in
     ((λ h. there (all.0 h)), (λ h. all.1 (back h)))
@@ -221,7 +102,7 @@ map_is s below at d x =
         let (ms, e, have) = has in
         (ms, e, (name, c, have, (rs, shown, part, is, so)))
 
-named_is : (s : Shape) → Lists (unknown s) (In s) → (name : Option (List ℕ)) → Lists (of_named (unknown s) name) (InNamed s name)
+named_is : (s : Shape) → Tells (unknown s) (In s) → (name : Option (List ℕ)) → Tells (of_named (unknown s) name) (InNamed s name)
 named_is s below None at d x = ((λ h. nothing_in x h), (λ h. let (rs, shown, part, is, so) = h in absurd is))
 named_is s below (Some name) at d x =
     let all = part_in (unknown s) (In s) below (under_name at name) (get name d) x in
@@ -244,7 +125,7 @@ own_is rs at d (Some ms) e x = ((λ h. (ms, e, (unlisted_is (names rs) at ms x).
         let same : ns ≡ ms = back_members ns ms (sym e ∙ s) in
         (unlisted_is (names rs) at ms x).1 (subst (λ (z : Members). Unlisted (names rs) at z x) same so)
 
-rows_is : (rs : Rows) → Lists (unknown_in rs) (InRows rs) → Lists (unknown (rows rs)) (In (rows rs))
+rows_is : (rs : Rows) → Tells (unknown_in rs) (InRows rs) → Tells (unknown (rows rs)) (In (rows rs))
 rows_is rs below at d x =
     let both =
     in_both (unlisted_in (names rs) at (as_object d)) (unknown_in rs at d) x ((ms : Members) × (as_object d ≡ Some ms) × Unlisted (names rs) at ms x) (InRows rs at d x) (own_is rs at d (as_object d) refl x) (below at d x) in
@@ -261,8 +142,8 @@ rows_is rs below at d x =
         (subst (λ (c : Data). (ms : Members) × (as_object c ≡ Some ms) × Unlisted (names qs) shown ms x) same.2 so)))
     split (qs, shown, part, inr is, so) = inr (qs, shown, part, is, so)
 
-row_is : (name : List ℕ) (alias : Option (List ℕ)) (p : shape.Presence) (s : Shape) (rs : Rows) → Lists (unknown s) (In s) → Lists (unknown_in rs) (InRows rs)
-    → Lists (unknown_in (row name alias p s rs)) (InRows (row name alias p s rs))
+row_is : (name : List ℕ) (alias : Option (List ℕ)) (p : shape.Presence) (s : Shape) (rs : Rows) → Tells (unknown s) (In s) → Tells (unknown_in rs) (InRows rs)
+    → Tells (unknown_in (row name alias p s rs)) (InRows (row name alias p s rs))
 row_is name alias p s rs one rest at d x =
     let later = in_both (of_named (unknown s) alias at d) (unknown_in rs at d) x (InNamed s alias at d x) (InRows rs at d x) (named_is s one alias at d x) (rest at d x) in
     let both =
@@ -280,7 +161,7 @@ row_is name alias p s rs one rest at d x =
     split (qs, shown, part, inr (inr is), so) = inr (inr (qs, shown, part, is, so))
 
 mutual
-  shape_is : (s : Shape) → Lists (unknown s) (In s)
+  shape_is : (s : Shape) → Tells (unknown s) (In s)
   shape_is text at d x = none_is text at d x (λ rs shown part is. is)
   shape_is truth at d x = none_is truth at d x (λ rs shown part is. is)
   shape_is (whole low high) at d x = none_is (whole low high) at d x (λ rs shown part is. is)
@@ -296,7 +177,7 @@ mutual
   shape_is free_map at d x = none_is free_map at d x (λ rs shown part is. is)
   shape_is (rows rs) at d x = rows_is rs (λ a c y. rows_are rs a c y) at d x
 
-  rows_are : (rs : Rows) → Lists (unknown_in rs) (InRows rs)
+  rows_are : (rs : Rows) → Tells (unknown_in rs) (InRows rs)
   rows_are no_rows at d x = ((λ h. nothing_in x h), (λ h. let (qs, shown, part, is, so) = h in absurd is))
   rows_are (row name alias p s rs) at d x = row_is name alias p s rs (λ a c y. shape_is s a c y) (λ a c y. rows_are rs a c y) at d x
 

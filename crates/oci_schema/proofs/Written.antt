@@ -10,23 +10,8 @@ use Rattle.oci_model.specs.Shape as shape
 use Rattle.oci_model.specs.Shape.{Shape, truth, whole, named, open_name, digest_text, cpu_text, cap_set, list, key_set, detail, free_map, rows}
 use Rattle.oci_schema.specs.Allows.{is_in_range}
 use Rattle.oci_schema.specs.Normalized.{accepts, normalized}
+use Rattle.oci_schema.proofs.NormalForms.{string_kept, truth_kept}
 use Rattle.oci_schema.specs.Walks.{WritesTree, IsTextOf, WritesWhole}
-
-pub string_kept : (d : Data) (t : List ℕ) → as_str d ≡ Some t → d ≡ string t
-string_kept null t e = cc
-string_kept (boolean b) t e = cc
-string_kept (number n) t e = cc
-string_kept (string s) t e = cc
-string_kept (array ds) t e = cc
-string_kept (object ms) t e = cc
-
-boolean_kept : (d : Data) (b : Bool) → as_bool d ≡ Some b → d ≡ boolean b
-boolean_kept null b e = cc
-boolean_kept (boolean c) b e = cc
-boolean_kept (number n) b e = cc
-boolean_kept (string s) b e = cc
-boolean_kept (array ds) b e = cc
-boolean_kept (object ms) b e = cc
 
 -- d is accepted, and its normal form was written
 abbrev pub Wrote : Shape → List Token → List Token → Data → Type 0
@@ -52,7 +37,7 @@ pub text_written : (s : Shape) (d : Data) (t : List ℕ) (old new : List Token) 
 text_written s d t old new e is wrote = subst (Wrote s old new) (sym (string_kept d t e)) (string_written s t old new is wrote)
 
 pub boolean_written : (d : Data) (b : Bool) (old new : List Token) → as_bool d ≡ Some b → WritesTree (boolean b) old new → Wrote truth old new d
-boolean_written d b old new e wrote = subst (Wrote truth old new) (sym (boolean_kept d b e)) (refl, wrote)
+boolean_written d b old new e wrote = subst (Wrote truth old new) (sym (truth_kept d b e)) (refl, wrote)
 
 pub whole_written : (low high : ℤ) (d : Data) (n : Num) (old new : List Token) → as_number d ≡ Some n → WritesWhole low high n old new → Wrote (whole low high) old new d
 whole_written low high d n old new e w =

@@ -1,10 +1,11 @@
 -- Members that no schema lists (image specification, "Extensibility"; runtime specification, "Extensibility": they are ignored).
 use Rattle.std.specs.Prelude.{ℕ, ◌+◌, ◌≡◌, ◌⊎◌, List, [], ◌∷◌, ◌++◌, false, if◌then◌else◌, Option, Some, None}
-use Rattle.serde_json.specs.Data.{Data, Items, no_items, item, Members, no_members, member}
+use Rattle.serde_json.specs.Data.{Data, Members, no_members, member}
 use Rattle.serde_json.specs.Find.{as_array, as_object, get}
 use Rattle.oci_base.specs.Names.{is_listed}
 use Rattle.oci_model.specs.Shape as shape
 use Rattle.oci_model.specs.Shape.{Shape, text, truth, whole, named, open_name, digest_text, cpu_text, cap_set, list, key_set, detail, free_map, rows, Rows, no_rows, row, names}
+use Rattle.oci_schema.specs.EachPart.{of_items, of_members, of_part}
 use Rattle.oci_schema.specs.Leads.{HasMember, HasItem}
 use Rattle.oci_schema.specs.Places.{under_name, under_index}
 
@@ -61,26 +62,6 @@ unlisted ns at (member k d ms) = unless_listed ns at k ++ unlisted ns at ms
 abbrev pub unlisted_in : List (List ℕ) → List ℕ → Option Members → List Report
 unlisted_in ns at None = []
 unlisted_in ns at (Some ms) = unlisted ns at ms
-
-abbrev pub of_each : (List ℕ → Data → List Report) → List ℕ → ℕ → Items → List Report
-of_each f at i no_items = []
-of_each f at i (item d ds) = f (under_index at i) d ++ of_each f at (i + 1) ds
-
-abbrev pub of_items : (List ℕ → Data → List Report) → List ℕ → Option Items → List Report
-of_items f at None = []
-of_items f at (Some ds) = of_each f at 0 ds
-
-abbrev pub of_each_member : (List ℕ → Data → List Report) → List ℕ → Members → List Report
-of_each_member f at no_members = []
-of_each_member f at (member k d ms) = f (under_name at k) d ++ of_each_member f at ms
-
-abbrev pub of_members : (List ℕ → Data → List Report) → List ℕ → Option Members → List Report
-of_members f at None = []
-of_members f at (Some ms) = of_each_member f at ms
-
-abbrev pub of_part : (List ℕ → Data → List Report) → List ℕ → Option Data → List Report
-of_part f at None = []
-of_part f at (Some d) = f at d
 
 -- of what is under the name, if there is a name
 abbrev pub of_named : (List ℕ → Data → List Report) → Option (List ℕ) → List ℕ → Data → List Report

@@ -1,5 +1,6 @@
 //! A JSON document by a schema straight from its bytes: whether it is valid, and its normal form, without a value in between where
-//! the schema allows that.
+//! the schema allows that. The normal form is written compact or pretty, to a vector (`normalize_bytes`, `normalize_pretty_bytes`) or
+//! from a reader to a writer (`normalize`, `normalize_pretty`).
 
 mod absent;
 mod by_value;
@@ -15,6 +16,7 @@ mod sink;
 mod streams;
 mod walk;
 
+pub use crate::normalize_pretty;
 pub use calls::{is_valid_bytes, normalize_bytes, violations_in_bytes};
 pub use lane::Workspace;
 pub use pretty::normalize_pretty_bytes;

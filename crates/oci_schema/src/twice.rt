@@ -4,9 +4,10 @@ ghost use Rattle.std.specs.BTreeSet.{contains_text};
 ghost use Rattle.json.specs.Json.{document};
 ghost use Rattle.json.specs.Strict.{HasUniqueKeys};
 ghost use Rattle.json.specs.Value.{value_view, items_view, members_view};
+ghost use Rattle.oci_schema.specs.Places.{pointer};
 ghost use Rattle.oci_schema.specs.Twice.{repeated, repeated_items, repeated_members, no_name, with_name, if_there};
 
-use crate::place::{under_index, under_name};
+use crate::place::{Place, pointer as pointer_of};
 use json::{Error, Scratch, Value};
 use std::alloc::{AllocError, Global};
 use std::collections::BTreeSet;
@@ -29,18 +30,18 @@ fn repeated_in(value: &Value, alloc: Global) -> Result<Vec<String>, AllocError>
     ensures { IfOk result (λ v. map string_bytes v.items ≡ repeated [] (value_view value.now)) }
 {
     let mut found = Vec::new(alloc);
-    add_value(value, "", &mut found, alloc)?;
+    add_value(value, &Place::Root, &mut found, alloc)?;
     Ok(found)
 }
 
 #[cycle(twice)]
 fn add_value(
     value: &Value,
-    at: &str,
+    at: &Place<'_>,
     found: &mut Vec<String>,
     alloc: Global,
 ) -> Result<(), AllocError>
-    ensures { OnOk result (map string_bytes found.new.items ≡ map string_bytes found.old.items ++ repeated at.now (value_view value.now)) }
+    ensures { OnOk result (map string_bytes found.new.items ≡ map string_bytes found.old.items ++ repeated (pointer at.now) (value_view value.now)) }
 {
     match value {
         Value::Array(items) => add_items(items.as_slice(), at, found, alloc),
@@ -52,15 +53,15 @@ fn add_value(
 #[cycle(twice)]
 fn add_items(
     items: &[Value],
-    at: &str,
+    at: &Place<'_>,
     found: &mut Vec<String>,
     alloc: Global,
 ) -> Result<(), AllocError>
-    ensures { OnOk result (map string_bytes found.new.items ≡ map string_bytes found.old.items ++ repeated_items at.now 0 (items_view items.now)) }
+    ensures { OnOk result (map string_bytes found.new.items ≡ map string_bytes found.old.items ++ repeated_items (pointer at.now) 0 (items_view items.now)) }
 {
     for (index, item) in items.iter().enumerate() {
-        let place = under_index(alloc, at, index)?;
-        add_value(item, place.as_str(), found, alloc)?;
+        let place = Place::Item(&*at, index);
+        add_value(item, &place, found, alloc)?;
     }
     Ok(())
 }
@@ -68,27 +69,32 @@ fn add_items(
 #[cycle(twice)]
 fn add_members(
     members: &[(&str, Value)],
-    at: &str,
+    at: &Place<'_>,
     found: &mut Vec<String>,
     alloc: Global,
 ) -> Result<(), AllocError>
-    ensures { OnOk result (map string_bytes found.new.items ≡ map string_bytes found.old.items ++ repeated_members at.now no_name (members_view members.now)) }
+    ensures { OnOk result (map string_bytes found.new.items ≡ map string_bytes found.old.items ++ repeated_members (pointer at.now) no_name (members_view members.now)) }
 {
     let mut before = BTreeSet::new(alloc);
     for (name, value) in members {
-        let place = under_name(alloc, at, name)?;
-        add_if(before.contains(*name), place.as_str(), found, alloc)?;
-        add_value(value, place.as_str(), found, alloc)?;
+        let place = Place::Member(&*at, *name);
+        add_if(before.contains(*name), &place, found, alloc)?;
+        add_value(value, &place, found, alloc)?;
         put(name, &mut before, alloc)?;
     }
     Ok(())
 }
 
-fn add_if(seen: bool, at: &str, found: &mut Vec<String>, alloc: Global) -> Result<(), AllocError>
-    ensures { OnOk result (map string_bytes found.new.items ≡ map string_bytes found.old.items ++ if_there seen at.now) }
+fn add_if(
+    seen: bool,
+    at: &Place<'_>,
+    found: &mut Vec<String>,
+    alloc: Global,
+) -> Result<(), AllocError>
+    ensures { OnOk result (map string_bytes found.new.items ≡ map string_bytes found.old.items ++ if_there seen (pointer at.now)) }
 {
     if seen {
-        found.push(String::from_str(alloc, at)?)?;
+        found.push(pointer_of(at, alloc)?)?;
     }
     Ok(())
 }

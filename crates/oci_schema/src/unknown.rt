@@ -1,4 +1,5 @@
-//! Members that no schema lists.
+//! Members that no schema lists. A walk of its own beside that of `crate::violations`: it looks under a member's name and under its
+//! alias, goes on where a value is not of its kind, and lists nothing there. What both list of parts is one definition, with one proof.
 ghost use Rattle.std.specs.Prelude.{◌≡◌, ◌↔◌, ◌∷◌, ◌++◌, [], Some, map, option_map, IfOk, OnOk};
 ghost use Rattle.std.specs.List.{Contains};
 ghost use Rattle.serde_json.specs.Find.{as_object};
@@ -6,11 +7,12 @@ ghost use Rattle.serde_json.specs.View.{view, items_view, members_view};
 ghost use Rattle.oci_base.specs.Names.{is_listed as is_name_of};
 ghost use Rattle.oci_model.specs.Shape.{with_second};
 ghost use Rattle.oci_schema.specs.Shapes.{part_shape, schema_shape, members_in, alias_of};
-ghost use Rattle.oci_schema.specs.Places.{under_name as under};
+ghost use Rattle.oci_schema.specs.EachPart.{of_each, of_each_member, of_part};
+ghost use Rattle.oci_schema.specs.Places.{pointer, under_name as under};
 ghost use Rattle.oci_schema.specs.Reported.{reported, names_in};
-ghost use Rattle.oci_schema.specs.Unknown.{Report, IsUnknown, unknown, unknown_in, unlisted, unlisted_in, unless_listed, of_named, of_part, of_each, of_each_member};
+ghost use Rattle.oci_schema.specs.Unknown.{Report, IsUnknown, unknown, unknown_in, unlisted, unlisted_in, unless_listed, of_named};
 
-use crate::place::{under_index, under_name};
+use crate::place::{Place, pointer as pointer_of};
 use crate::{Member, Part, Record, Records, Schema};
 use serde_json::{Map, Value};
 use std::alloc::{AllocError, Global};
@@ -38,7 +40,7 @@ pub fn unknown_members<T: Records>(
     ensures listed { IfOk result (λ v. (x : Report) → Contains (map reported v.items) x ↔ IsUnknown (schema_shape (T.shape_at records.now) schema.now) (view value.now) x) }
 {
     let mut found = Vec::new(alloc);
-    add_schema(records, schema, value, "", &mut found, alloc)?;
+    add_schema(records, schema, value, &Place::Root, &mut found, alloc)?;
     Ok(found)
 }
 
@@ -48,11 +50,11 @@ fn add_schema<T: Records>(
     records: &T,
     schema: &Schema,
     value: &Value,
-    at: &str,
+    at: &Place<'_>,
     found: &mut Vec<UnknownMember>,
     alloc: Global,
 ) -> Result<(), AllocError>
-    ensures { OnOk result (map reported found.new.items ≡ map reported found.old.items ++ unknown (schema_shape (T.shape_at records.now) schema.now) at.now (view value.now)) }
+    ensures { OnOk result (map reported found.new.items ≡ map reported found.old.items ++ unknown (schema_shape (T.shape_at records.now) schema.now) (pointer at.now) (view value.now)) }
 {
     match schema {
         Schema::One(part) => add_part(records, part, value, at, found, alloc),
@@ -72,11 +74,11 @@ fn add_part<T: Records>(
     records: &T,
     part: &Part,
     value: &Value,
-    at: &str,
+    at: &Place<'_>,
     found: &mut Vec<UnknownMember>,
     alloc: Global,
 ) -> Result<(), AllocError>
-    ensures { OnOk result (map reported found.new.items ≡ map reported found.old.items ++ unknown (part_shape (T.shape_at records.now) part.now) at.now (view value.now)) }
+    ensures { OnOk result (map reported found.new.items ≡ map reported found.old.items ++ unknown (part_shape (T.shape_at records.now) part.now) (pointer at.now) (view value.now)) }
 {
     match part {
         Part::Scalar(_) => Ok(()),
@@ -89,11 +91,11 @@ fn add_record<T: Records>(
     records: &T,
     place: usize,
     value: &Value,
-    at: &str,
+    at: &Place<'_>,
     found: &mut Vec<UnknownMember>,
     alloc: Global,
 ) -> Result<(), AllocError>
-    ensures { OnOk result (map reported found.new.items ≡ map reported found.old.items ++ unknown (T.shape_at records.now place) at.now (view value.now)) }
+    ensures { OnOk result (map reported found.new.items ≡ map reported found.old.items ++ unknown (T.shape_at records.now place) (pointer at.now) (view value.now)) }
 {
     let record = records.record(place);
     add_own(record, value, at, found, alloc)?;
@@ -105,11 +107,11 @@ fn add_record<T: Records>(
 fn add_own(
     owner: &'static Record,
     value: &Value,
-    at: &str,
+    at: &Place<'_>,
     found: &mut Vec<UnknownMember>,
     alloc: Global,
 ) -> Result<(), AllocError>
-    ensures { OnOk result (map reported found.new.items ≡ map reported found.old.items ++ unlisted_in (names_in owner.now.members.now) at.now (as_object (view value.now))) }
+    ensures { OnOk result (map reported found.new.items ≡ map reported found.old.items ++ unlisted_in (names_in owner.now.members.now) (pointer at.now) (as_object (view value.now))) }
 {
     match value.as_object() {
         Some(members) => add_unlisted(owner, members, at, found, alloc),
@@ -121,11 +123,11 @@ fn add_own(
 fn add_unlisted(
     owner: &'static Record,
     members: &Map<String, Value>,
-    at: &str,
+    at: &Place<'_>,
     found: &mut Vec<UnknownMember>,
     alloc: Global,
 ) -> Result<(), AllocError>
-    ensures { OnOk result (map reported found.new.items ≡ map reported found.old.items ++ unlisted (names_in owner.now.members.now) at.now (members_view members.now.entries)) }
+    ensures { OnOk result (map reported found.new.items ≡ map reported found.old.items ++ unlisted (names_in owner.now.members.now) (pointer at.now) (members_view members.now.entries)) }
 {
     for (name, _) in members.iter() {
         add_unless_listed(owner, name.as_str(), at, found, alloc)?;
@@ -136,16 +138,16 @@ fn add_unlisted(
 fn add_unless_listed(
     owner: &'static Record,
     name: &str,
-    at: &str,
+    at: &Place<'_>,
     found: &mut Vec<UnknownMember>,
     alloc: Global,
 ) -> Result<(), AllocError>
-    ensures { OnOk result (map reported found.new.items ≡ map reported found.old.items ++ unless_listed (names_in owner.now.members.now) at.now name.now) }
+    ensures { OnOk result (map reported found.new.items ≡ map reported found.old.items ++ unless_listed (names_in owner.now.members.now) (pointer at.now) name.now) }
 {
     if lists(owner.members, name) {
         return Ok(());
     }
-    let pointer = under_name(alloc, at, name)?;
+    let pointer = pointer_of(&Place::Member(&*at, &*name), alloc)?;
     let name = String::from_str(alloc, name)?;
     found.push(UnknownMember {
         pointer,
@@ -184,15 +186,15 @@ fn add_items<T: Records>(
     records: &T,
     part: &Part,
     items: &Vec<Value>,
-    at: &str,
+    at: &Place<'_>,
     found: &mut Vec<UnknownMember>,
     alloc: Global,
 ) -> Result<(), AllocError>
-    ensures { OnOk result (map reported found.new.items ≡ map reported found.old.items ++ of_each (unknown (part_shape (T.shape_at records.now) part.now)) at.now 0 (items_view items.now.items)) }
+    ensures { OnOk result (map reported found.new.items ≡ map reported found.old.items ++ of_each (unknown (part_shape (T.shape_at records.now) part.now)) (pointer at.now) 0 (items_view items.now.items)) }
 {
     for (index, item) in items.iter().enumerate() {
-        let place = under_index(alloc, at, index)?;
-        add_part(records, part, item, place.as_str(), found, alloc)?;
+        let place = Place::Item(&*at, index);
+        add_part(records, part, item, &place, found, alloc)?;
     }
     Ok(())
 }
@@ -202,15 +204,15 @@ fn add_entries<T: Records>(
     records: &T,
     part: &Part,
     entries: &Map<String, Value>,
-    at: &str,
+    at: &Place<'_>,
     found: &mut Vec<UnknownMember>,
     alloc: Global,
 ) -> Result<(), AllocError>
-    ensures { OnOk result (map reported found.new.items ≡ map reported found.old.items ++ of_each_member (unknown (part_shape (T.shape_at records.now) part.now)) at.now (members_view entries.now.entries)) }
+    ensures { OnOk result (map reported found.new.items ≡ map reported found.old.items ++ of_each_member (unknown (part_shape (T.shape_at records.now) part.now)) (pointer at.now) (members_view entries.now.entries)) }
 {
     for (name, entry) in entries.iter() {
-        let place = under_name(alloc, at, name.as_str())?;
-        add_part(records, part, entry, place.as_str(), found, alloc)?;
+        let place = Place::Member(&*at, name.as_str());
+        add_part(records, part, entry, &place, found, alloc)?;
     }
     Ok(())
 }
@@ -220,11 +222,11 @@ fn add_members<T: Records>(
     records: &T,
     members: &[Member],
     value: &Value,
-    at: &str,
+    at: &Place<'_>,
     found: &mut Vec<UnknownMember>,
     alloc: Global,
 ) -> Result<(), AllocError>
-    ensures { OnOk result (map reported found.new.items ≡ map reported found.old.items ++ unknown_in (members_in (T.shape_at records.now) members.now) at.now (view value.now)) }
+    ensures { OnOk result (map reported found.new.items ≡ map reported found.old.items ++ unknown_in (members_in (T.shape_at records.now) members.now) (pointer at.now) (view value.now)) }
 {
     for member in members {
         add_member(records, member, value, at, found, alloc)?;
@@ -237,11 +239,11 @@ fn add_member<T: Records>(
     records: &T,
     member: &Member,
     value: &Value,
-    at: &str,
+    at: &Place<'_>,
     found: &mut Vec<UnknownMember>,
     alloc: Global,
 ) -> Result<(), AllocError>
-    ensures { OnOk result (map reported found.new.items ≡ map reported found.old.items ++ (of_named (unknown (schema_shape (T.shape_at records.now) member.now.schema)) (Some member.now.name.now) at.now (view value.now) ++ of_named (unknown (schema_shape (T.shape_at records.now) member.now.schema)) (alias_of member.now.alias) at.now (view value.now))) }
+    ensures { OnOk result (map reported found.new.items ≡ map reported found.old.items ++ (of_named (unknown (schema_shape (T.shape_at records.now) member.now.schema)) (Some member.now.name.now) (pointer at.now) (view value.now) ++ of_named (unknown (schema_shape (T.shape_at records.now) member.now.schema)) (alias_of member.now.alias) (pointer at.now) (view value.now))) }
 {
     add_found(
         records,
@@ -273,16 +275,16 @@ fn add_found<T: Records>(
     schema: &Schema,
     name: &'static str,
     there: Option<&Value>,
-    at: &str,
+    at: &Place<'_>,
     found: &mut Vec<UnknownMember>,
     alloc: Global,
 ) -> Result<(), AllocError>
-    ensures { OnOk result (map reported found.new.items ≡ map reported found.old.items ++ of_part (unknown (schema_shape (T.shape_at records.now) schema.now)) (under at.now name.now) (option_map (λ v. view v.now) there.entry)) }
+    ensures { OnOk result (map reported found.new.items ≡ map reported found.old.items ++ of_part (unknown (schema_shape (T.shape_at records.now) schema.now)) (under (pointer at.now) name.now) (option_map (λ v. view v.now) there.entry)) }
 {
     match there {
         Some(value) => {
-            let place = under_name(alloc, at, name)?;
-            add_schema(records, schema, value, place.as_str(), found, alloc)
+            let place = Place::Member(&*at, name);
+            add_schema(records, schema, value, &place, found, alloc)
         }
         None => Ok(()),
     }

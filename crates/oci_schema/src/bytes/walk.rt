@@ -1,4 +1,5 @@
-//! The walk over a tape by a schema, which writes the normal form of what it finds.
+//! The walk over a tape by a schema, which writes the normal form of what it finds, or keeps nothing where only validity is asked: the sink
+//! is its parameter. It knows nothing of values, which the walks of `oci_schema` are over.
 ghost use Rattle.std.specs.Prelude.{IsTrue};
 ghost use Rattle.oci_model.specs.Shape.{cap_set, list, map};
 ghost use Rattle.oci_text.specs.Capability.{capability_table};

@@ -2,8 +2,10 @@ use Rattle.std.proofs.Common.{◌≡◌, ◌++◌, ◌+◌, ◌*◌, ◌≤◌, 
 use Rattle.serde_json.specs.View.{view, items_view, members_view}
 use Rattle.oci_model.specs.Sizes.{size, items_size, members_size, found_size}
 use Rattle.oci_schema.specs.Shapes.{part_shape, members_in}
+use Rattle.oci_schema.specs.EachPart.{of_each, of_each_member}
+use Rattle.oci_schema.specs.Places.{pointer}
 use Rattle.oci_schema.specs.Reported.{reported}
-use Rattle.oci_schema.specs.Unknown.{unknown, unknown_in, of_each, of_each_member}
+use Rattle.oci_schema.specs.Unknown.{unknown, unknown_in}
 use Rattle.oci_schema.proofs.unknown.+unknown.Given as goal
 
 abbrev pub decreases-add_found : goal.decreases-add_found
@@ -34,20 +36,20 @@ decreases-add_entries g l = 6 * members_size (members_view l.entries.now.entries
 abbrev pub invariant-add_items-loop-index : goal.invariant-add_items-loop-index
 invariant-add_items-loop-index g l = record {
   all :
-      map reported l.found.items ++ of_each (unknown (part_shape (g.T.Records.shape_at l.records) l.part)) l.at l.index (items_view (drop l.index l.items.items))
-      ≡ map reported l.initial.found.items ++ of_each (unknown (part_shape (g.T.Records.shape_at l.records) l.part)) l.at 0 (items_view l.items.items);
+      map reported l.found.items ++ of_each (unknown (part_shape (g.T.Records.shape_at l.records) l.part)) (pointer l.at) l.index (items_view (drop l.index l.items.items))
+      ≡ map reported l.initial.found.items ++ of_each (unknown (part_shape (g.T.Records.shape_at l.records) l.part)) (pointer l.at) 0 (items_view l.items.items);
   smaller : items_size (items_view (drop l.index l.items.items)) ≤ items_size (items_view l.items.items);
 }
 
 abbrev pub invariant-add_entries-loop-name : goal.invariant-add_entries-loop-name
 invariant-add_entries-loop-name g l = record {
   all :
-      map reported l.found.items ++ of_each_member (unknown (part_shape (g.T.Records.shape_at l.records) l.part)) l.at (members_view l.name-iterator)
-      ≡ map reported l.initial.found.items ++ of_each_member (unknown (part_shape (g.T.Records.shape_at l.records) l.part)) l.at (members_view l.entries.entries);
+      map reported l.found.items ++ of_each_member (unknown (part_shape (g.T.Records.shape_at l.records) l.part)) (pointer l.at) (members_view l.name-iterator)
+      ≡ map reported l.initial.found.items ++ of_each_member (unknown (part_shape (g.T.Records.shape_at l.records) l.part)) (pointer l.at) (members_view l.entries.entries);
   smaller : members_size (members_view l.name-iterator) ≤ members_size (members_view l.entries.entries);
 }
 
 abbrev pub invariant-add_members-loop-member : goal.invariant-add_members-loop-member
 invariant-add_members-loop-member g l =
-    map reported l.found.items ++ unknown_in (members_in (g.T.Records.shape_at l.records) (drop l.member-index l.members)) l.at (view l.value)
-    ≡ map reported l.initial.found.items ++ unknown_in (members_in (g.T.Records.shape_at l.records) l.members) l.at (view l.value)
+    map reported l.found.items ++ unknown_in (members_in (g.T.Records.shape_at l.records) (drop l.member-index l.members)) (pointer l.at) (view l.value)
+    ≡ map reported l.initial.found.items ++ unknown_in (members_in (g.T.Records.shape_at l.records) l.members) (pointer l.at) (view l.value)

@@ -2,7 +2,7 @@ use Rattle.std.proofs.Common.{◌≡◌, Some, sym, ap, ◌∙◌, subst}
 use Rattle.std.proofs.lemmas.Slice.Eq.{bytes_eq-Decides}
 use Rattle.serde_json.specs.Data.{string}
 use Rattle.oci_json_tape.specs.Elements.{FindsData}
-use Rattle.oci_schema.proofs.Written.{string_kept}
+use Rattle.oci_schema.proofs.NormalForms.{string_kept}
 use Rattle.oci_schema.proofs.bytes.capabilities.is_string.Goals as goal
 
 pub returns-in-Some-text : goal.returns-in-Some-text
