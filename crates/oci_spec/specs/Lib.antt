@@ -153,6 +153,7 @@ pub use Rattle.oci_schema.specs.Shapes
 pub use Rattle.oci_schema.specs.Twice
 pub use Rattle.oci_schema.specs.Unknown
 pub use Rattle.oci_schema.specs.Violations
+pub use Rattle.oci_schema.specs.Walks
 pub use Rattle.oci_schema.specs.Wants
 pub use Rattle.oci_schemas.specs.Kinds
 pub use Rattle.oci_schemas.specs.Table
