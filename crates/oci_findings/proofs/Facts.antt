@@ -14,19 +14,11 @@ use Rattle.oci_findings.specs.Contents.{fact, document_facts, content_fault}
 use Rattle.oci_findings.specs.Reports.{IsReportOn}
 use Rattle.oci_findings.specs.Lines.{AreLines, WritesLines, is_error, is_no_error}
 use Rattle.oci_findings.specs.Lines.AreLines.{none, more, left_out}
-
-pub map_both : {A B : Type 0} (f : A → B) (xs : List A) (y : A) → map f (xs ++ y ∷ []) ≡ map f xs ++ f y ∷ []
-map_both f [] y = refl
-map_both f (x ∷ xs) y = ap (λ q. f x ∷ q) (map_both f xs y)
+use Rattle.oci_findings.proofs.Each.{one_more, map_both}
 
 -- one finding is added
 pub pushed_one : {A B : Type 0} (f : A → B) (new old : List A) (y : A) (b : B) → new ≡ old ++ y ∷ [] → f y ≡ b → map f new ≡ map f old ++ b ∷ []
 pushed_one f new old y b is says = ap (map f) is ∙ map_both f old y ∙ ap (λ q. map f old ++ q ∷ []) says
-
-one_more : {X : Type 0} (xs : List X) (i : ℕ) (x : X) → i < length xs → x ≡ get_or xs i x → take (suc i) xs ≡ take i xs ++ x ∷ []
-one_more [] i x lt e = absurd (omega arith)
-one_more (y ∷ ys) zero x lt e = ap (λ q. q ∷ []) (sym e)
-one_more (y ∷ ys) (suc i) x lt e = ap (λ q. y ∷ q) (one_more ys i x (omega arith) e)
 
 -- one item more is looked at, and its finding added
 pub made_more : {A B C : Type 0} (f : A → C) (g : B → C) (new old : List A) (base : List C) (xs : List B) (i : ℕ) (x : B) → i < length xs → x ≡ get_or xs i x
