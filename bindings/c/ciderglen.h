@@ -13,6 +13,14 @@
  * - allocates with malloc, realloc and free of this process, frees all that it allocates before it returns, and returns
  *   CIDERGLEN_OUT_OF_MEMORY if an allocation fails. There is nothing for a caller to free.
  *
+ * A list, which ciderglen_violations and ciderglen_broken_rules write, is fields, one behind the other to the end of the output. A
+ * field is the length of a text in eight bytes, the lowest first, and the text, which is UTF-8 and may hold any character, zero bytes
+ * and newlines, too. ciderglen_next_field steps through a list:
+ *
+ *     const uint8_t *cursor = buffer, *end = buffer + output_len;
+ *     struct ciderglen_field pointer, expected;
+ *     while (ciderglen_next_field(&cursor, end, &pointer) && ciderglen_next_field(&cursor, end, &expected)) { .. }
+ *
  * A caller has to keep these rules, which nothing checks:
  * - no pointer is NULL, even if its length or capacity is 0;
  * - an output (buffer, `*output_len` and so on) overlaps neither the input nor another output, and no other thread uses it
@@ -31,7 +39,7 @@ extern "C" {
 #endif
 
 /* The number of the interface that these functions have. It grows when one of them, a number or a structure changes its meaning. */
-#define CIDERGLEN_INTERFACE 1
+#define CIDERGLEN_INTERFACE 2
 
 /* Statuses. */
 enum ciderglen_status {
@@ -141,6 +149,27 @@ enum ciderglen_platform {
     CIDERGLEN_PLATFORM_FREEBSD = 6
 };
 
+/* A text of a list, with no zero byte behind it. */
+struct ciderglen_field {
+    const uint8_t *text;
+    size_t text_len;
+};
+
+/* Reads the field that begins at `*cursor`, and moves `*cursor` behind it. Returns 1, or 0 if no whole field stands there before
+ * `end`: at the end of a list. Then nothing is changed. It reads nothing behind `end`, whatever the bytes are. */
+static inline int ciderglen_next_field(const uint8_t **cursor, const uint8_t *end, struct ciderglen_field *field) {
+    size_t left = (size_t)(end - *cursor);
+    uint64_t text_len = 0;
+    int i;
+    if (left < 8) return 0;
+    for (i = 7; i >= 0; i--) text_len = text_len << 8 | (*cursor)[i];
+    if (text_len > left - 8) return 0;
+    field->text = *cursor + 8;
+    field->text_len = (size_t)text_len;
+    *cursor = field->text + field->text_len;
+    return 1;
+}
+
 /* Returns the number of the interface that the library was built with. Compare it with CIDERGLEN_INTERFACE of the header. */
 uint32_t ciderglen_interface(void);
 
@@ -158,27 +187,26 @@ uint32_t ciderglen_normalize(uint32_t kind, const uint8_t *document, size_t docu
 uint32_t ciderglen_pretty(uint32_t kind, const uint8_t *document, size_t document_len, uint8_t *buffer,
                           size_t buffer_capacity, size_t *output_len);
 
-/* Writes a line for each violation of the schema in a document: its place as a JSON pointer (RFC 6901), a colon, a space, what was
- * expected there and a newline. Sets `*count` to their number, which is 0 exactly if the document is valid.
+/* Writes the list of all violations of the schema in a document, in the order of the schema: of each the place as a JSON pointer
+ * (RFC 6901), and what was expected there. Each of the two is a field, which ciderglen_next_field reads. Sets `*count` to the number
+ * of violations, which is 0 exactly if the document is valid.
  *
  * Returns CIDERGLEN_INVALID_JSON or CIDERGLEN_UNKNOWN_KIND if the document has no violations to list. After any status but
  * CIDERGLEN_DONE and CIDERGLEN_BUFFER_TOO_SMALL `*count` is 0.
  *
- * A newline in the name of a member, and what else could move a terminal's cursor or turn the direction of a text, is `\uXXXX` in the
- * pointer, so a line is a violation. */
+ * Fields are UTF-8, and are not escaped: a name in a pointer is as the document has it, with any newline, NUL or escape sequence. */
 uint32_t ciderglen_violations(uint32_t kind, const uint8_t *document, size_t document_len, uint8_t *buffer,
                               size_t buffer_capacity, size_t *output_len, size_t *count);
 
-/* Writes a line for each part of a document that breaks a rule of its kind, of the levels up to `level` and for the platform: its
- * place as a JSON pointer (RFC 6901), a colon, a space, the name of the rule, in parentheses its level and where it is stated, a
- * colon, a space, what is wanted and a newline. Sets `*count` to their number, which is 0 exactly if every such rule is kept. That a
- * document is valid is not asked here.
+/* Writes the list of all parts of a document that break a rule of its kind, of the levels up to `level` and for the platform: of each
+ * the place as a JSON pointer (RFC 6901), the name of the rule, the word of its level (must, stated, should or host), the section in
+ * which it is stated, and what is wanted. Each of the five is a field, which ciderglen_next_field reads. Sets `*count` to the number
+ * of parts, which is 0 exactly if every such rule is kept. That a document is valid is not asked here.
  *
  * Returns CIDERGLEN_INVALID_JSON, CIDERGLEN_UNKNOWN_KIND, CIDERGLEN_UNKNOWN_LEVEL or CIDERGLEN_UNKNOWN_PLATFORM if there is nothing
  * to list. After any status but CIDERGLEN_DONE and CIDERGLEN_BUFFER_TOO_SMALL `*count` is 0.
  *
- * A newline in the name of a member, and what else could move a terminal's cursor or turn the direction of a text, is `\uXXXX` in the
- * pointer, so a line is a broken rule. */
+ * Fields are UTF-8, and are not escaped: a name in a pointer is as the document has it, with any newline, NUL or escape sequence. */
 uint32_t ciderglen_broken_rules(uint32_t kind, uint32_t level, uint32_t platform, const uint8_t *document,
                                 size_t document_len, uint8_t *buffer, size_t buffer_capacity, size_t *output_len,
                                 size_t *count);

@@ -13,14 +13,17 @@ package ciderglen
 #cgo LDFLAGS: -l:libciderglen.a
 #include <ciderglen.h>
 
-#if CIDERGLEN_INTERFACE != 1
-#error "this package is for interface 1 of ciderglen.h"
+#if CIDERGLEN_INTERFACE != 2
+#error "this package is for interface 2 of ciderglen.h"
 #endif
 */
 import "C"
 
 import (
+	"encoding/binary"
 	"fmt"
+	"strconv"
+	"strings"
 	"unsafe"
 )
 
@@ -163,27 +166,75 @@ func Pretty(kind Kind, document []byte) ([]byte, error) {
 	})
 }
 
-// Violations returns the number of violations of the schema in a document, and a line for each: its place as a JSON pointer, a
-// colon, a space, what was expected there and a newline. A newline or control character in the name of a member is \uXXXX in the
-// pointer. There are none exactly if the document is valid. The error is ErrInvalidJSON, ErrUnknownKind or ErrOutOfMemory.
-func Violations(kind Kind, document []byte) (count int, lines []byte, err error) {
-	var found C.size_t
-	lines, err = output(256, func(buffer *C.uint8_t, capacity C.size_t, length *C.size_t) C.uint32_t {
-		return C.ciderglen_violations(C.uint32_t(kind), pointer(document), C.size_t(len(document)), buffer, capacity, length, &found)
-	})
-	return int(found), lines, err
+// Violation is a violation of a schema. Its texts are as the document and the schema have them.
+type Violation struct {
+	Pointer  string // the place, as a JSON pointer (RFC 6901)
+	Expected string // what was expected there
 }
 
-// BrokenRules returns how many parts of a document break rules of its kind, of the levels up to the one and for the platform, and a
-// line for each: its place as a JSON pointer, a colon, a space, the name of the rule, in parentheses its level and where it is
-// stated, a colon, a space, what is wanted and a newline. There are none exactly if every such rule is kept. The error is
-// ErrInvalidJSON, ErrUnknownKind, ErrUnknownLevel, ErrUnknownPlatform or ErrOutOfMemory.
-func BrokenRules(kind Kind, level Level, platform Platform, document []byte) (count int, lines []byte, err error) {
-	var found C.size_t
-	lines, err = output(1024, func(buffer *C.uint8_t, capacity C.size_t, length *C.size_t) C.uint32_t {
-		return C.ciderglen_broken_rules(C.uint32_t(kind), C.uint32_t(level), C.uint32_t(platform), pointer(document), C.size_t(len(document)), buffer, capacity, length, &found)
+// String returns the pointer, a colon, a space and what was expected, on one line: a backslash and what strconv.IsPrint does not
+// print, such as control characters, U+2028 and the bidirectional controls, are escaped as in a string of Go.
+func (v Violation) String() string { return shown(v.Pointer) + ": " + shown(v.Expected) }
+
+// BrokenRule is a part of a document that breaks a rule. Its texts are as the document and the rule have them.
+type BrokenRule struct {
+	Pointer string // the part's place, as a JSON pointer (RFC 6901)
+	Rule    string // the name of the rule
+	Level   string // its level: must, stated, should or host
+	Section string // where it is stated
+	Wanted  string // what it wants
+}
+
+// String returns the pointer, a colon, a space, the rule, in parentheses its level and section, a colon, a space and what is wanted, on
+// one line, escaped as that of a Violation.
+func (b BrokenRule) String() string {
+	return fmt.Sprintf("%s: %s (%s, %s): %s", shown(b.Pointer), shown(b.Rule), shown(b.Level), shown(b.Section), shown(b.Wanted))
+}
+
+// shown escapes a text as strconv.Quote does, but for quotation marks, which stay.
+func shown(text string) string {
+	quoted := strconv.Quote(text)
+	return strings.ReplaceAll(quoted[1:len(quoted)-1], `\"`, `"`)
+}
+
+// fields returns the texts of a list: before each stands its length in eight bytes, the lowest first.
+func fields(list []byte) []string {
+	var texts []string
+	for len(list) > 0 {
+		end := 8 + binary.LittleEndian.Uint64(list)
+		texts = append(texts, string(list[8:end]))
+		list = list[end:]
+	}
+	return texts
+}
+
+// Violations returns all violations of the schema in a document, in the order of the schema. There are none exactly if the document
+// is valid. The error is ErrInvalidJSON, ErrUnknownKind or ErrOutOfMemory.
+func Violations(kind Kind, document []byte) ([]Violation, error) {
+	var count C.size_t
+	list, err := output(256, func(buffer *C.uint8_t, capacity C.size_t, length *C.size_t) C.uint32_t {
+		return C.ciderglen_violations(C.uint32_t(kind), pointer(document), C.size_t(len(document)), buffer, capacity, length, &count)
 	})
-	return int(found), lines, err
+	var found []Violation
+	for texts := fields(list); len(texts) > 0; texts = texts[2:] {
+		found = append(found, Violation{texts[0], texts[1]})
+	}
+	return found, err
+}
+
+// BrokenRules returns the parts of a document that break rules of its kind, of the levels up to the one and for the platform. There
+// are none exactly if every such rule is kept. The error is ErrInvalidJSON, ErrUnknownKind, ErrUnknownLevel, ErrUnknownPlatform or
+// ErrOutOfMemory.
+func BrokenRules(kind Kind, level Level, platform Platform, document []byte) ([]BrokenRule, error) {
+	var count C.size_t
+	list, err := output(1024, func(buffer *C.uint8_t, capacity C.size_t, length *C.size_t) C.uint32_t {
+		return C.ciderglen_broken_rules(C.uint32_t(kind), C.uint32_t(level), C.uint32_t(platform), pointer(document), C.size_t(len(document)), buffer, capacity, length, &count)
+	})
+	var found []BrokenRule
+	for texts := fields(list); len(texts) > 0; texts = texts[5:] {
+		found = append(found, BrokenRule{texts[0], texts[1], texts[2], texts[3], texts[4]})
+	}
+	return found, err
 }
 
 // Reference is a reference to an image. A missing part is empty.

@@ -6,6 +6,7 @@ import (
 	"fmt"
 	"os"
 	"path/filepath"
+	"reflect"
 	"strconv"
 	"strings"
 	"sync"
@@ -21,12 +22,14 @@ func ExampleNormalize() {
 }
 
 func ExampleViolations() {
-	count, lines, err := Violations(Layout, []byte(`{"imageLayoutVersion":1}`))
-	fmt.Println(count, err)
-	fmt.Print(string(lines))
+	violations, err := Violations(Layout, []byte(`{"imageLayoutVersion":1}`))
+	for _, violation := range violations {
+		fmt.Println(violation)
+	}
+	fmt.Println(err)
 	// Output:
-	// 1 <nil>
 	// /imageLayoutVersion: a string
+	// <nil>
 }
 
 func ExampleParseReference() {
@@ -61,8 +64,8 @@ func TestGolden(t *testing.T) {
 		case err != nil || !bytes.Equal(text, expected):
 			t.Errorf("%s: %s, %v", path, text, err)
 		default:
-			if count, lines, err := Violations(Kind(number), document); count != 0 || len(lines) != 0 || err != nil {
-				t.Errorf("%s: %d violations, %v", path, count, err)
+			if found, err := Violations(Kind(number), document); len(found) != 0 || err != nil {
+				t.Errorf("%s: %v, %v", path, found, err)
 			}
 		}
 	}
@@ -86,11 +89,6 @@ func TestErrors(t *testing.T) {
 			t.Errorf("Pretty(%d, %q): %v", it.kind, it.document, err)
 		}
 	}
-	hostile := "{\"schemaVersion\":2,\"manifests\":[],\"annotations\":{\"a\\nb\u009b\u202e\":1,\"c\":1}}"
-	expected := "/annotations/a\\u000ab\\u009b\\u202e: a string\n/annotations/c: a string\n"
-	if count, lines, err := Violations(Index, []byte(hostile)); count != 2 || string(lines) != expected || err != nil {
-		t.Errorf("%d violations, %q, %v", count, lines, err)
-	}
 	if _, err := Normalize(Layout, nil); err != ErrInvalidJSON {
 		t.Error(err)
 	}
@@ -99,14 +97,49 @@ func TestErrors(t *testing.T) {
 	}
 }
 
+// A name with a newline, an escape sequence, a NUL and U+202E is raw in a violation, and escaped where it is shown.
+func TestViolations(t *testing.T) {
+	hostile := "{\"schemaVersion\":2,\"manifests\":[],\"annotations\":{\"a\\n\\u001b[2J\\u0000\u009b\u202e\u2028\\\\\\\"é\":1,\"c~/\":1}}"
+	expected := []Violation{
+		{"/annotations/a\n\x1b[2J\x00\u009b\u202e\u2028\\\"é", "a string"},
+		{"/annotations/c~0~1", "a string"},
+	}
+	found, err := Violations(Index, []byte(hostile))
+	if err != nil || !reflect.DeepEqual(found, expected) {
+		t.Fatalf("%q, %v", found, err)
+	}
+	for i, line := range []string{`/annotations/a\n\x1b[2J\x00\u009b\u202e\u2028\\"é: a string`, "/annotations/c~0~1: a string"} {
+		if text := found[i].String(); text != line {
+			t.Errorf("%q", text)
+		}
+	}
+	expected = []Violation{{"/imageLayoutVersion", "required member is missing (a string)"}}
+	if found, err = Violations(Layout, []byte("{}")); err != nil || !reflect.DeepEqual(found, expected) {
+		t.Errorf("%q, %v", found, err)
+	}
+	if found, err = Violations(Layout, nil); found != nil || err != ErrInvalidJSON {
+		t.Errorf("%q, %v", found, err)
+	}
+	if found, err = Violations(14, []byte("{}")); found != nil || err != ErrUnknownKind {
+		t.Errorf("%q, %v", found, err)
+	}
+}
+
 func TestBrokenRules(t *testing.T) {
 	document := []byte(`{"imageLayoutVersion":"1.0.1"}`)
-	expected := "/imageLayoutVersion: layout-version (stated, image image-layout.md#oci-layout-file): 1.0.0\n"
-	if count, lines, err := BrokenRules(Layout, Stated, OfDocument, document); count != 1 || string(lines) != expected || err != nil {
-		t.Errorf("%d, %q, %v", count, lines, err)
+	expected := []BrokenRule{{"/imageLayoutVersion", "layout-version", "stated", "image image-layout.md#oci-layout-file", "1.0.0"}}
+	found, err := BrokenRules(Layout, Stated, OfDocument, document)
+	if err != nil || !reflect.DeepEqual(found, expected) {
+		t.Fatalf("%q, %v", found, err)
 	}
-	if count, lines, err := BrokenRules(Layout, Must, Linux, document); count != 0 || len(lines) != 0 || err != nil {
-		t.Errorf("%d, %q, %v", count, lines, err)
+	if text := found[0].String(); text != "/imageLayoutVersion: layout-version (stated, image image-layout.md#oci-layout-file): 1.0.0" {
+		t.Errorf("%q", text)
+	}
+	if text := (BrokenRule{"/\n", "\x1b", "must", "\x00", "\u202e"}).String(); text != `/\n: \x1b (must, \x00): \u202e` {
+		t.Errorf("%q", text)
+	}
+	if found, err = BrokenRules(Layout, Must, Linux, document); len(found) != 0 || err != nil {
+		t.Errorf("%q, %v", found, err)
 	}
 	for _, it := range []struct {
 		kind     Kind
@@ -120,8 +153,8 @@ func TestBrokenRules(t *testing.T) {
 		{Layout, 4, OfDocument, "{}", ErrUnknownLevel},
 		{Layout, Must, 7, "{}", ErrUnknownPlatform},
 	} {
-		if count, _, err := BrokenRules(it.kind, it.level, it.platform, []byte(it.document)); count != 0 || err != it.expected {
-			t.Errorf("BrokenRules(%d, %d, %d, %q): %d, %v", it.kind, it.level, it.platform, it.document, count, err)
+		if found, err := BrokenRules(it.kind, it.level, it.platform, []byte(it.document)); len(found) != 0 || err != it.expected {
+			t.Errorf("BrokenRules(%d, %d, %d, %q): %q, %v", it.kind, it.level, it.platform, it.document, found, err)
 		}
 	}
 }

@@ -79,20 +79,24 @@ static uint32_t document(int function, uint32_t kind, struct bytes input, struct
     return output(&call, found);
 }
 
-static size_t newlines(struct bytes text) {
+/* The number of fields of a list, which they fill. */
+static size_t fields(struct bytes list) {
+    const uint8_t *cursor = list.at, *end = list.at + list.len;
+    struct ciderglen_field field;
     size_t found = 0;
-    for (size_t i = 0; i < text.len; i++) found += text.at[i] == '\n';
+    while (ciderglen_next_field(&cursor, end, &field)) found++;
+    CHECK(cursor == end);
     return found;
 }
 
 /* A document has a canonical form exactly if it has no violation, and that form is its own, compact and pretty. */
 static void document_holds(uint32_t kind, struct bytes input) {
-    struct bytes normal, again, pretty, from_pretty, lines;
+    struct bytes normal, again, pretty, from_pretty, list;
     struct call violations = {.function = VIOLATIONS, .kind = kind, .input = input, .count = UNSET};
-    uint32_t status = document(NORMALIZE, kind, input, &normal), listed = output(&violations, &lines);
+    uint32_t status = document(NORMALIZE, kind, input, &normal), listed = output(&violations, &list);
     CHECK(document(PRETTY, kind, input, &pretty) == status);
     if (status == CIDERGLEN_DONE) {
-        CHECK(listed == CIDERGLEN_DONE && violations.count == 0 && lines.len == 0);
+        CHECK(listed == CIDERGLEN_DONE && violations.count == 0 && list.len == 0);
         CHECK(document(NORMALIZE, kind, normal, &again) == CIDERGLEN_DONE && same(again, normal));
         CHECK(document(NORMALIZE, kind, pretty, &from_pretty) == CIDERGLEN_DONE && same(from_pretty, normal));
         free(again.at);
@@ -102,12 +106,11 @@ static void document_holds(uint32_t kind, struct bytes input) {
     } else if (status == CIDERGLEN_INVALID_JSON) {
         CHECK(listed == CIDERGLEN_INVALID_JSON && violations.count == 0);
     } else {
-        /* a name in a pointer can hold newlines of its own */
         CHECK(status == CIDERGLEN_INVALID_DOCUMENT && listed == CIDERGLEN_DONE && violations.count > 0);
-        CHECK(newlines(lines) == violations.count && lines.at[lines.len - 1] == '\n');
+        CHECK(fields(list) == 2 * violations.count);
     }
     free(normal.at);
-    free(lines.at);
+    free(list.at);
     free(pretty.at);
 }
 

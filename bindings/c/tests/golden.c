@@ -15,6 +15,9 @@ static int failures;
         if (!(it) && failures++ < 20) printf("%s:%d: %s\n", __FILE__, __LINE__, #it); \
     } while (0)
 
+/* A literal, as a pointer and a length. */
+#define TEXT(it) (const uint8_t *)(it), sizeof(it) - 1
+
 enum { SLACK = 8 };
 
 static uint8_t *read_file(const char *folder, const char *name, const char *suffix, size_t *len) {
@@ -147,16 +150,12 @@ static void others(void) {
     uint8_t buffer[256];
     size_t output_len, count;
     struct ciderglen_reference parts;
-#define TEXT(it) (const uint8_t *)(it), sizeof(it) - 1
     CHECK(ciderglen_interface() == CIDERGLEN_INTERFACE);
     CHECK(ciderglen_normalize(14, TEXT("{}"), buffer, sizeof buffer, &output_len) == CIDERGLEN_UNKNOWN_KIND && output_len == 0);
     CHECK(ciderglen_pretty(UINT32_MAX, TEXT("{}"), buffer, sizeof buffer, &output_len) == CIDERGLEN_UNKNOWN_KIND);
     CHECK(ciderglen_violations(14, TEXT("{}"), buffer, sizeof buffer, &output_len, &count) == CIDERGLEN_UNKNOWN_KIND && count == 0);
     CHECK(ciderglen_normalize(CIDERGLEN_KIND_LAYOUT, none, 0, buffer, sizeof buffer, &output_len) == CIDERGLEN_INVALID_JSON);
     CHECK(ciderglen_violations(CIDERGLEN_KIND_LAYOUT, TEXT("{}"), buffer, sizeof buffer, &output_len, &count) == CIDERGLEN_DONE && count == 1);
-    const char escaped[] = "/annotations/a\\u000ab: a string\n";
-    CHECK(ciderglen_violations(CIDERGLEN_KIND_INDEX, TEXT("{\"schemaVersion\":2,\"manifests\":[],\"annotations\":{\"a\\nb\":1}}"), buffer, sizeof buffer, &output_len, &count) == CIDERGLEN_DONE && count == 1);
-    CHECK(output_len == sizeof escaped - 1 && !memcmp(buffer, escaped, output_len));
     CHECK(ciderglen_reference(TEXT("busybox"), buffer, sizeof buffer, &output_len, &parts) == CIDERGLEN_DONE);
     CHECK(output_len == 32 && !memcmp(buffer, "docker.io/library/busybox:latest", 32));
     CHECK(parts.registry == 9 && parts.repository == 15 && parts.tag == 6 && parts.digest == 0);
@@ -182,14 +181,85 @@ static void others(void) {
     CHECK(ciderglen_pin(TEXT("busybox:"), TEXT("{"), buffer, sizeof buffer, &output_len) == CIDERGLEN_REFERENCE_INVALID_FORMAT);
 }
 
-static void rules(void) {
-    static const char line[] = "/imageLayoutVersion: layout-version (stated, image image-layout.md#oci-layout-file): 1.0.0\n";
+/* The next field of a list is this text. */
+static int is_next(const uint8_t **cursor, const uint8_t *end, const uint8_t *text, size_t text_len) {
+    struct ciderglen_field field;
+    return ciderglen_next_field(cursor, end, &field) && field.text_len == text_len && !memcmp(field.text, text, text_len);
+}
+
+/* Nothing more can be read. */
+static int is_end(const uint8_t *cursor, const uint8_t *end) {
+    struct ciderglen_field field = {0, 7};
+    const uint8_t *before = cursor;
+    return !ciderglen_next_field(&cursor, end, &field) && cursor == before && !field.text && field.text_len == 7;
+}
+
+/* Fields that are cut off or longer than what is there: nothing is read past the end, which valgrind sees. */
+static void fields(void) {
+    static const uint8_t list[] = "\x03\0\0\0\0\0\0\0a\0b\0\0\0\0\0\0\0\0\x01\0\0\0\0\0\0\0c";
+    size_t wholes[] = {0, 11, 19, 28}, len = sizeof list - 1;
+    CHECK(len == 28);
+    for (size_t cut = 0; cut <= len; cut++) {
+        uint8_t *copy = malloc(cut + !cut);
+        const uint8_t *cursor = copy, *end = copy + cut;
+        memcpy(copy, list, cut);
+        if (cut >= wholes[1]) CHECK(is_next(&cursor, end, TEXT("a\0b")));
+        if (cut >= wholes[2]) CHECK(is_next(&cursor, end, TEXT("")));
+        if (cut >= wholes[3]) CHECK(is_next(&cursor, end, TEXT("c")) && cursor == end);
+        CHECK(is_end(cursor, end));
+        free(copy);
+    }
+    /* each byte of the length counts, and no sum of it with an address or with 8 wraps around */
+    for (int byte = 0; byte < 8; byte++) {
+        uint8_t one[16] = {8};
+        one[byte] = 9;
+        CHECK(is_end(one, one + sizeof one));
+    }
+    uint8_t largest[16];
+    memset(largest, 0xff, sizeof largest);
+    for (int low = 0xff; low >= 0; low--) {
+        largest[0] = (uint8_t)low;
+        CHECK(is_end(largest, largest + sizeof largest));
+    }
+}
+
+/* A name with a newline, an escape sequence, a NUL and U+202E stands in a field as it is. */
+static void violations(void) {
+    static const char document[] = "{\"schemaVersion\":2,\"manifests\":[],\"annotations\":{\"a\\n\\u001b[2J\\u0000\xe2\x80\xae\":1,\"c~/\":1}}";
     uint8_t buffer[256];
-    size_t output_len, count;
+    size_t output_len, count, needed;
+    CHECK(ciderglen_violations(CIDERGLEN_KIND_INDEX, TEXT(document), buffer, sizeof buffer, &output_len, &count) == CIDERGLEN_DONE && count == 2);
+    const uint8_t *cursor = buffer, *end = buffer + output_len;
+    CHECK(is_next(&cursor, end, TEXT("/annotations/a\n\x1b[2J\0\xe2\x80\xae")));
+    CHECK(is_next(&cursor, end, TEXT("a string")));
+    CHECK(is_next(&cursor, end, TEXT("/annotations/c~0~1")));
+    CHECK(is_next(&cursor, end, TEXT("a string")));
+    CHECK(cursor == end && is_end(cursor, end));
+    needed = output_len;
+    CHECK(ciderglen_violations(CIDERGLEN_KIND_INDEX, TEXT(document), buffer, needed - 1, &output_len, &count) == CIDERGLEN_BUFFER_TOO_SMALL);
+    CHECK(count == 2 && output_len == needed);
+    CHECK(ciderglen_violations(CIDERGLEN_KIND_LAYOUT, TEXT("{}"), buffer, sizeof buffer, &output_len, &count) == CIDERGLEN_DONE && count == 1);
+    cursor = buffer, end = buffer + output_len;
+    CHECK(is_next(&cursor, end, TEXT("/imageLayoutVersion")));
+    CHECK(is_next(&cursor, end, TEXT("required member is missing (a string)")));
+    CHECK(is_end(cursor, end));
+}
+
+/* The next fields of a list are those of the layout's broken rule. */
+static int is_version_rule(const uint8_t **cursor, const uint8_t *end) {
+    return is_next(cursor, end, TEXT("/imageLayoutVersion")) && is_next(cursor, end, TEXT("layout-version")) && is_next(cursor, end, TEXT("stated"))
+        && is_next(cursor, end, TEXT("image image-layout.md#oci-layout-file")) && is_next(cursor, end, TEXT("1.0.0"));
+}
+
+static void rules(void) {
+    uint8_t buffer[256];
+    size_t output_len, count, needed;
     CHECK(ciderglen_broken_rules(CIDERGLEN_KIND_LAYOUT, CIDERGLEN_LEVEL_STATED, CIDERGLEN_PLATFORM_OF_DOCUMENT, TEXT("{\"imageLayoutVersion\":\"1.0.1\"}"), buffer, sizeof buffer, &output_len, &count) == CIDERGLEN_DONE);
-    CHECK(count == 1 && output_len == sizeof line - 1 && !memcmp(buffer, line, sizeof line - 1));
+    const uint8_t *cursor = buffer, *end = buffer + output_len;
+    CHECK(count == 1 && is_version_rule(&cursor, end) && is_end(cursor, end) && cursor == end);
+    needed = output_len;
     CHECK(ciderglen_broken_rules(CIDERGLEN_KIND_LAYOUT, CIDERGLEN_LEVEL_HOST, CIDERGLEN_PLATFORM_FREEBSD, TEXT("{\"imageLayoutVersion\":\"1.0.1\"}"), buffer, 1, &output_len, &count) == CIDERGLEN_BUFFER_TOO_SMALL);
-    CHECK(count == 1 && output_len == sizeof line - 1);
+    CHECK(count == 1 && output_len == needed);
     CHECK(ciderglen_broken_rules(CIDERGLEN_KIND_LAYOUT, CIDERGLEN_LEVEL_MUST, CIDERGLEN_PLATFORM_LINUX, TEXT("{\"imageLayoutVersion\":\"1.0.1\"}"), buffer, sizeof buffer, &output_len, &count) == CIDERGLEN_DONE);
     CHECK(count == 0 && output_len == 0);
     CHECK(ciderglen_broken_rules(14, CIDERGLEN_LEVEL_MUST, CIDERGLEN_PLATFORM_LINUX, TEXT("{}"), buffer, sizeof buffer, &output_len, &count) == CIDERGLEN_UNKNOWN_KIND && count == 0);
@@ -231,6 +301,8 @@ static void deep(void) {
 static void *in_thread(void *unused) {
     (void)unused;
     others();
+    fields();
+    violations();
     rules();
     deep();
     return 0;

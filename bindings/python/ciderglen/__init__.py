@@ -16,9 +16,10 @@ import ctypes
 import ctypes.util
 import enum
 import os
-from typing import Callable, List, NamedTuple, Optional
+from typing import Callable, Iterator, List, NamedTuple, Optional
 
 __all__ = [
+    "BrokenRule",
     "Error",
     "InvalidDocument",
     "InvalidJSON",
@@ -28,6 +29,7 @@ __all__ = [
     "Platform",
     "Reference",
     "Status",
+    "Violation",
     "broken_rules",
     "is_digest",
     "normalize",
@@ -39,7 +41,7 @@ __all__ = [
     "violations",
 ]
 
-INTERFACE = 1
+INTERFACE = 2
 
 
 class Kind(enum.IntEnum):
@@ -126,6 +128,45 @@ class InvalidDocument(Error):
 
 class InvalidReference(Error):
     """The text is not a reference to an image."""
+
+
+def _shown(text: str) -> str:
+    """The text on one line: a backslash and what str.isprintable() is false of are escaped as in a literal of Python."""
+    return "".join(c if c.isprintable() and c != "\\" else c.encode("unicode_escape").decode() for c in text)
+
+
+class Violation(NamedTuple):
+    """A violation of a schema: the place as a JSON pointer (RFC 6901), and what was expected there.
+
+    The two are as the document and the schema have them. `str` gives the pointer, a colon, a space and what was expected, on one line:
+    a backslash and what `str.isprintable()` is false of, such as control characters, U+2028 and the bidirectional controls, are escaped
+    as in a literal of Python.
+    """
+
+    pointer: str
+    expected: str
+
+    def __str__(self) -> str:
+        return f"{_shown(self.pointer)}: {_shown(self.expected)}"
+
+
+class BrokenRule(NamedTuple):
+    """A part of a document that breaks a rule.
+
+    It has the part's place as a JSON pointer (RFC 6901), and of the rule its name, its level (must, stated, should or host), the section
+    that states it, and what it wants, all as the document and the rule have them. `str` gives the pointer, a colon, a space, the name,
+    in parentheses level and section, a colon, a space and what is wanted, escaped as a Violation is.
+    """
+
+    pointer: str
+    rule: str
+    level: str
+    section: str
+    wanted: str
+
+    def __str__(self) -> str:
+        pointer, rule, level, section, wanted = map(_shown, self)
+        return f"{pointer}: {rule} ({level}, {section}): {wanted}"
 
 
 class Reference(NamedTuple):
@@ -220,27 +261,40 @@ def normalize_pretty(kind: Kind, document: bytes) -> bytes:
     return _output(2 * len(document) + 64, _library.ciderglen_pretty, Kind(kind), document, len(document))
 
 
-def violations(kind: Kind, document: bytes) -> List[str]:
-    """Returns all violations of the schema in a document: the place as a JSON pointer, a colon, a space and what was expected there.
+def _fields(data: bytes) -> Iterator[str]:
+    """The texts of a list: before each stands its length in eight bytes, the lowest first."""
+    at = 0
+    while at < len(data):
+        begin = at + 8
+        at = begin + int.from_bytes(data[at:begin], "little")
+        yield data[begin:at].decode()
 
-    A control character or newline in the name of a member is `\\uXXXX` in the pointer. The list is empty exactly if the document is
-    valid. Raises InvalidJSON or MemoryError.
+
+def violations(kind: Kind, document: bytes) -> List[Violation]:
+    """Returns all violations of the schema in a document, in the order of the schema.
+
+    The list is empty exactly if the document is valid. Raises InvalidJSON or MemoryError.
+
+    >>> for violation in violations(Kind.LAYOUT, b'{"imageLayoutVersion":1}'):
+    ...     print(violation)
+    /imageLayoutVersion: a string
     """
     document, count = bytes(document), ctypes.c_size_t()
-    lines = _output(256, _library.ciderglen_violations, Kind(kind), document, len(document), outputs=(ctypes.byref(count),))
-    return lines.decode().split("\n")[:-1]
+    data = _output(256, _library.ciderglen_violations, Kind(kind), document, len(document), outputs=(ctypes.byref(count),))
+    texts = _fields(data)
+    return [Violation(*fields) for fields in zip(texts, texts)]
 
 
-def broken_rules(kind: Kind, document: bytes, level: Level = Level.STATED, platform: Platform = Platform.OF_DOCUMENT) -> List[str]:
+def broken_rules(kind: Kind, document: bytes, level: Level = Level.STATED, platform: Platform = Platform.OF_DOCUMENT) -> List[BrokenRule]:
     """Returns what of a document breaks rules of its kind, of the levels up to the one and for the platform.
 
-    Each is the place as a JSON pointer, a colon, a space, the name of the rule, in parentheses its level and where it is stated, a
-    colon, a space and what is wanted. The list is empty exactly if every such rule is kept. Raises InvalidJSON or MemoryError.
+    The list is empty exactly if every such rule is kept. Raises InvalidJSON or MemoryError.
     """
     document, count = bytes(document), ctypes.c_size_t()
     numbers = Kind(kind), Level(level), Platform(platform)
-    lines = _output(1024, _library.ciderglen_broken_rules, *numbers, document, len(document), outputs=(ctypes.byref(count),))
-    return lines.decode().split("\n")[:-1]
+    data = _output(1024, _library.ciderglen_broken_rules, *numbers, document, len(document), outputs=(ctypes.byref(count),))
+    texts = _fields(data)
+    return [BrokenRule(*fields) for fields in zip(texts, texts, texts, texts, texts)]
 
 
 def parse_reference(text: str) -> Reference:

@@ -12,7 +12,8 @@ def main() -> int:
     try:
         sys.stdout.buffer.write(normalize(Kind.MANIFEST, document))
     except InvalidDocument:
-        print("\n".join(violations(Kind.MANIFEST, document)), file=sys.stderr)
+        for violation in violations(Kind.MANIFEST, document):
+            print(violation, file=sys.stderr)
         return 1
     except Error as error:
         print(error, file=sys.stderr)

@@ -6,7 +6,7 @@ import threading
 import unittest
 
 import ciderglen
-from ciderglen import InvalidDocument, InvalidJSON, InvalidReference, Kind, Status
+from ciderglen import BrokenRule, InvalidDocument, InvalidJSON, InvalidReference, Kind, Status, Violation
 
 LAYOUT = b'{"x":1, "imageLayoutVersion":"1.0.0"}'
 GOLDEN = os.environ.get("CIDERGLEN_GOLDEN")
@@ -46,14 +46,24 @@ class Documents(unittest.TestCase):
             self.assertRaises(InvalidJSON, ciderglen.violations, Kind.LAYOUT, document)
         self.assertRaises(InvalidDocument, ciderglen.normalize, Kind.LAYOUT, b"{}")
         self.assertRaises(ValueError, ciderglen.normalize, 14, b"{}")
-        self.assertEqual(ciderglen.violations(Kind.LAYOUT, b'{"imageLayoutVersion":1}'), ["/imageLayoutVersion: a string"])
-        hostile = b'{"schemaVersion":2,"manifests":[],"annotations":{"a\\nb\\u001b[2J\xc2\x9b\xe2\x80\xae":1,"c":1}}'
-        expected = ["/annotations/a\\u000ab\\u001b[2J\\u009b\\u202e: a string", "/annotations/c: a string"]
-        self.assertEqual(ciderglen.violations(Kind.INDEX, hostile), expected)
+
+    def test_violations(self):
+        expected = [Violation("/imageLayoutVersion", "required member is missing (a string)")]
+        self.assertEqual(ciderglen.violations(Kind.LAYOUT, b"{}"), expected)
+        # a name with a newline, an escape sequence, a NUL and U+202E is raw in a violation, and escaped where it is shown
+        hostile = '{"schemaVersion":2,"manifests":[],"annotations":{"a\\n\\u001b[2J\\u0000\x9b\u202e\u2028\\\\\\"é":1,"c~/":1}}'
+        expected = [Violation("/annotations/a\n\x1b[2J\0\x9b\u202e\u2028\\\"é", "a string"), Violation("/annotations/c~0~1", "a string")]
+        found = ciderglen.violations(Kind.INDEX, hostile.encode())
+        self.assertEqual(found, expected)
+        lines = [r"/annotations/a\n\x1b[2J\x00\x9b\u202e\u2028\\" + '"é: a string', "/annotations/c~0~1: a string"]
+        self.assertEqual([str(it) for it in found], lines)
 
     def test_broken_rules(self):
         document = b'{"imageLayoutVersion":"1.0.1"}'
-        expected = ["/imageLayoutVersion: layout-version (stated, image image-layout.md#oci-layout-file): 1.0.0"]
+        expected = [BrokenRule("/imageLayoutVersion", "layout-version", "stated", "image image-layout.md#oci-layout-file", "1.0.0")]
+        line = "/imageLayoutVersion: layout-version (stated, image image-layout.md#oci-layout-file): 1.0.0"
+        self.assertEqual([str(it) for it in expected], [line])
+        self.assertEqual(str(BrokenRule("/\n", "\x1b", "must", "\0", "\u202e")), r"/\n: \x1b (must, \x00): \u202e")
         self.assertEqual(ciderglen.broken_rules(Kind.LAYOUT, document), expected)
         self.assertEqual(ciderglen.broken_rules(Kind.LAYOUT, document, ciderglen.Level.MUST), [])
         self.assertEqual(ciderglen.broken_rules(Kind.LAYOUT, document, ciderglen.Level.HOST, ciderglen.Platform.WINDOWS), expected)

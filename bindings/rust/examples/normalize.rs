@@ -8,7 +8,9 @@ fn main() -> Result<(), Box<dyn std::error::Error>> {
     io::stdin().read_to_end(&mut document)?;
     let text = normalize(Kind::Manifest, &document);
     if text == Err(Error::InvalidDocument) {
-        eprint!("{}", violations(Kind::Manifest, &document)?.lines);
+        for violation in violations(Kind::Manifest, &document)? {
+            eprintln!("{violation}");
+        }
     }
     io::stdout().write_all(&text?)?;
     Ok(())

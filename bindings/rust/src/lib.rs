@@ -16,7 +16,7 @@
 //! in `/usr/local/lib`. All calls may be made from any thread.
 
 use ciderglen_sys as sys;
-use std::fmt;
+use std::fmt::{self, Write};
 
 /// A kind of document.
 #[derive(Clone, Copy, Debug, PartialEq, Eq, Hash)]
@@ -259,25 +259,87 @@ pub fn normalize_pretty(kind: Kind, document: &[u8]) -> Result<Vec<u8>, Error> {
     )
 }
 
-/// The violations of a schema in a document.
+/// A violation of a schema. Its texts are as the document and the schema have them.
+///
+/// It displays as the pointer, a colon, a space and what was expected, on one line: a backslash, and what
+/// [`char::escape_debug`] escapes, such as control characters, U+2028 and the bidirectional controls, but no quotation mark, are
+/// escaped.
 #[derive(Clone, Debug, PartialEq, Eq, Hash)]
-pub struct Violations {
-    /// How many there are: none exactly if the document is valid.
-    pub count: usize,
-    /// A line for each: its place as a JSON pointer, a colon, a space and what was expected there. A newline or control character in
-    /// the name of a member is `\uXXXX` in the pointer.
-    pub lines: String,
+pub struct Violation {
+    /// The place, as a JSON pointer (RFC 6901).
+    pub pointer: String,
+    /// What was expected there.
+    pub expected: String,
 }
 
-/// Returns all violations of the schema in a document.
+impl fmt::Display for Violation {
+    fn fmt(&self, f: &mut fmt::Formatter<'_>) -> fmt::Result {
+        write!(f, "{}: {}", Shown(&self.pointer), Shown(&self.expected))
+    }
+}
+
+/// A part of a document that breaks a rule. Its texts are as the document and the rule have them.
+///
+/// It displays as the pointer, a colon, a space, the rule, in parentheses its level and section, a colon, a space and what is wanted,
+/// escaped as a [`Violation`] is.
+#[derive(Clone, Debug, PartialEq, Eq, Hash)]
+pub struct BrokenRule {
+    /// The part's place, as a JSON pointer (RFC 6901).
+    pub pointer: String,
+    /// The name of the rule.
+    pub rule: String,
+    /// Its level: must, stated, should or host.
+    pub level: String,
+    /// Where it is stated.
+    pub section: String,
+    /// What it wants.
+    pub wanted: String,
+}
+
+impl fmt::Display for BrokenRule {
+    fn fmt(&self, f: &mut fmt::Formatter<'_>) -> fmt::Result {
+        let (pointer, rule) = (Shown(&self.pointer), Shown(&self.rule));
+        let (level, section) = (Shown(&self.level), Shown(&self.section));
+        let wanted = Shown(&self.wanted);
+        write!(f, "{pointer}: {rule} ({level}, {section}): {wanted}")
+    }
+}
+
+/// A text on one line.
+struct Shown<'a>(&'a str);
+
+impl fmt::Display for Shown<'_> {
+    fn fmt(&self, f: &mut fmt::Formatter<'_>) -> fmt::Result {
+        self.0.chars().try_for_each(|it| match it {
+            '"' | '\'' => f.write_char(it),
+            _ => write!(f, "{}", it.escape_debug()),
+        })
+    }
+}
+
+/// The texts of a list: before each stands its length in eight bytes, the lowest first.
+fn fields(mut list: &[u8]) -> Result<Vec<String>, Error> {
+    let mut texts = Vec::new();
+    while !list.is_empty() {
+        let (begin, rest) = list.split_at(8);
+        let mut len = [0; 8];
+        len.copy_from_slice(begin);
+        let (field, behind) = rest.split_at(u64::from_le_bytes(len) as usize);
+        texts.push(text(field.to_vec())?);
+        list = behind;
+    }
+    Ok(texts)
+}
+
+/// Returns all violations of the schema in a document, in the order of the schema: none exactly if the document is valid.
 ///
 /// # Errors
 ///
 /// `InvalidJson` if the document is not JSON, and `OutOfMemory`.
-pub fn violations(kind: Kind, document: &[u8]) -> Result<Violations, Error> {
+pub fn violations(kind: Kind, document: &[u8]) -> Result<Vec<Violation>, Error> {
     let mut count = 0;
     // SAFETY: as in `normalize`.
-    let lines = output(256, |buffer, capacity, len| unsafe {
+    let list = output(256, |buffer, capacity, len| unsafe {
         sys::ciderglen_violations(
             kind as u32,
             document.as_ptr(),
@@ -288,23 +350,15 @@ pub fn violations(kind: Kind, document: &[u8]) -> Result<Violations, Error> {
             &mut count,
         )
     })?;
-    Ok(Violations {
-        count,
-        lines: text(lines)?,
-    })
+    let (mut texts, mut found) = (fields(&list)?.into_iter(), Vec::new());
+    while let (Some(pointer), Some(expected)) = (texts.next(), texts.next()) {
+        found.push(Violation { pointer, expected });
+    }
+    Ok(found)
 }
 
-/// What of a document breaks rules of its kind.
-#[derive(Clone, Debug, PartialEq, Eq, Hash)]
-pub struct BrokenRules {
-    /// How many parts there are: none exactly if every rule that is asked for is kept.
-    pub count: usize,
-    /// A line for each: its place as a JSON pointer, a colon, a space, the name of the rule, in parentheses its level and where it is
-    /// stated, a colon, a space and what is wanted.
-    pub lines: String,
-}
-
-/// Returns what of a document breaks rules of its kind, of the levels up to the one and for the platform.
+/// Returns what of a document breaks rules of its kind, of the levels up to the one and for the platform: nothing exactly if every
+/// such rule is kept.
 ///
 /// # Errors
 ///
@@ -314,10 +368,10 @@ pub fn broken_rules(
     level: Level,
     platform: Platform,
     document: &[u8],
-) -> Result<BrokenRules, Error> {
+) -> Result<Vec<BrokenRule>, Error> {
     let mut count = 0;
     // SAFETY: as in `normalize`.
-    let lines = output(1024, |buffer, capacity, len| unsafe {
+    let list = output(1024, |buffer, capacity, len| unsafe {
         sys::ciderglen_broken_rules(
             kind as u32,
             level as u32,
@@ -330,10 +384,23 @@ pub fn broken_rules(
             &mut count,
         )
     })?;
-    Ok(BrokenRules {
-        count,
-        lines: text(lines)?,
-    })
+    let (mut texts, mut found) = (fields(&list)?.into_iter(), Vec::new());
+    while let (Some(pointer), Some(rule), Some(level), Some(section), Some(wanted)) = (
+        texts.next(),
+        texts.next(),
+        texts.next(),
+        texts.next(),
+        texts.next(),
+    ) {
+        found.push(BrokenRule {
+            pointer,
+            rule,
+            level,
+            section,
+            wanted,
+        });
+    }
+    Ok(found)
 }
 
 /// A reference to an image.

@@ -1,7 +1,7 @@
 //! The documents of the folder that CIDERGLEN_GOLDEN names, which tools/test_bindings writes, and a test of each function.
 use ciderglen::{
     broken_rules, is_digest, normalize, normalize_pretty, pin, resolve_registry, verify,
-    violations, BrokenRules, Error, Kind, Level, Platform, Reference, Violations,
+    violations, BrokenRule, Error, Kind, Level, Platform, Reference, Violation,
 };
 use std::path::PathBuf;
 use std::{env, fs, thread};
@@ -30,8 +30,7 @@ fn golden_documents() {
         match fs::read(path.with_extension("expected")) {
             Ok(expected) => {
                 assert_eq!(text, Ok(expected), "{}", path.display());
-                let found = violations(kind, &document).expect("JSON");
-                assert_eq!((found.count, found.lines.as_str()), (0, ""));
+                assert_eq!(violations(kind, &document), Ok(Vec::new()));
                 let pretty = normalize_pretty(kind, &document).expect("a document");
                 assert_eq!(normalize(kind, &pretty), text);
             }
@@ -54,27 +53,74 @@ fn errors() {
         assert_eq!(normalize(kind, document.as_bytes()), Err(error));
         assert_eq!(normalize_pretty(kind, document.as_bytes()), Err(error));
     }
-    let found = violations(Kind::Layout, br#"{"imageLayoutVersion":1}"#);
-    let lines = "/imageLayoutVersion: a string\n".to_string();
-    assert_eq!(found, Ok(Violations { count: 1, lines }));
-    let hostile = "{\"schemaVersion\":2,\"manifests\":[],\"annotations\":{\"a\\nb\u{9b}\u{202e}\":1,\"c\":1}}";
-    let lines =
-        "/annotations/a\\u000ab\\u009b\\u202e: a string\n/annotations/c: a string\n".to_string();
-    let found = violations(Kind::Index, hostile.as_bytes());
-    assert_eq!(found, Ok(Violations { count: 2, lines }));
     assert_eq!(violations(Kind::Layout, b""), Err(Error::InvalidJson));
+}
+
+fn violation(pointer: &str, expected: &str) -> Violation {
+    Violation {
+        pointer: pointer.into(),
+        expected: expected.into(),
+    }
+}
+
+// a name with a newline, an escape sequence, a NUL and U+202E is raw in a violation, and escaped where it is shown
+#[test]
+fn hostile_names() {
+    let document = "{\"schemaVersion\":2,\"manifests\":[],\"annotations\":{\"a\\n\\u001b[2J\\u0000\u{9b}\u{202e}\u{2028}\\\\\\\"é\":1,\"c~/\":1}}";
+    let found = violations(Kind::Index, document.as_bytes()).expect("JSON");
+    let expected = [
+        violation(
+            "/annotations/a\n\x1b[2J\0\u{9b}\u{202e}\u{2028}\\\"é",
+            "a string",
+        ),
+        violation("/annotations/c~0~1", "a string"),
+    ];
+    assert_eq!(found, expected);
+    assert_eq!(
+        found[0].to_string(),
+        r#"/annotations/a\n\u{1b}[2J\0\u{9b}\u{202e}\u{2028}\\"é: a string"#
+    );
+    assert_eq!(found[1].to_string(), "/annotations/c~0~1: a string");
+    let expected = violation(
+        "/imageLayoutVersion",
+        "required member is missing (a string)",
+    );
+    assert_eq!(violations(Kind::Layout, b"{}"), Ok(vec![expected]));
+}
+
+fn broken_rule(texts: [&str; 5]) -> BrokenRule {
+    let [pointer, rule, level, section, wanted] = texts.map(String::from);
+    BrokenRule {
+        pointer,
+        rule,
+        level,
+        section,
+        wanted,
+    }
 }
 
 #[test]
 fn rules() {
     let document = br#"{"imageLayoutVersion":"1.0.1"}"#;
     let found = broken_rules(Kind::Layout, Level::Stated, Platform::OfDocument, document);
-    let line = "/imageLayoutVersion: layout-version (stated, image image-layout.md#oci-layout-file): 1.0.0\n";
-    let lines = line.to_string();
-    assert_eq!(found, Ok(BrokenRules { count: 1, lines }));
+    let expected = broken_rule([
+        "/imageLayoutVersion",
+        "layout-version",
+        "stated",
+        "image image-layout.md#oci-layout-file",
+        "1.0.0",
+    ]);
+    assert_eq!(
+        expected.to_string(),
+        "/imageLayoutVersion: layout-version (stated, image image-layout.md#oci-layout-file): 1.0.0"
+    );
+    assert_eq!(found, Ok(vec![expected]));
+    assert_eq!(
+        broken_rule(["/\n", "\x1b", "must", "\0", "\u{202e}"]).to_string(),
+        r"/\n: \u{1b} (must, \0): \u{202e}"
+    );
     let found = broken_rules(Kind::Layout, Level::Must, Platform::Linux, document);
-    let lines = String::new();
-    assert_eq!(found, Ok(BrokenRules { count: 0, lines }));
+    assert_eq!(found, Ok(Vec::new()));
     assert_eq!(
         broken_rules(Kind::Layout, Level::Host, Platform::Zos, b"{"),
         Err(Error::InvalidJson)

@@ -1,3 +1,5 @@
 mod Accepted
 mod Chosen
+mod Pushed
 mod Reported
+mod Words

@@ -7,6 +7,7 @@ use Rattle.oci_rule_books.specs.Kinds.{rules_of}
 use Rattle.oci_rules.specs.Breaks.{KeepsAll}
 use Rattle.oci_rules.specs.Documents.{platform_in}
 use Rattle.oci_rules.specs.Listed.{all_broken}
+use Rattle.oci_ffi.specs.Fields.{ListsBroken}
 use Rattle.oci_rules.specs.Rules.{Level, must, stated, should, host, Platform, linux, windows, solaris, vm, zos, freebsd, Rule}
 
 abbrev pub level_numbered : ℕ → Option Level
@@ -53,3 +54,11 @@ pub record Counts (kind : Kind) (last : Level) (platform : ℕ) (bytes : List �
   pub numbered : platform_numbered platform document ≡ Some on
   pub counted : count ≡ length (all_broken (rules_up_to last (rules_of kind)) on document)
   pub none : (count ≡ 0) ↔ KeepsAll (rules_up_to last (rules_of kind)) on document
+
+-- of a document of the kind, this is the list of all parts that break rules of the levels up to one
+pub record Lists (kind : Kind) (last : Level) (platform : ℕ) (bytes : List ℕ) (list : List ℕ) : Type 0 where
+  pub document : Data
+  pub read : ReadsAs bytes document
+  pub on : Platform
+  pub numbered : platform_numbered platform document ≡ Some on
+  pub listed : ListsBroken (rules_up_to last (rules_of kind)) on document list

@@ -7,6 +7,7 @@ mod buffer;
 pub mod content;
 pub mod digest;
 pub mod document;
+mod fields;
 mod input;
 pub mod interface;
 pub mod kind;

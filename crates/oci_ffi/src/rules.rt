@@ -8,10 +8,12 @@ ghost use Rattle.oci_rules.specs.Breaks.{KeepsAll};
 ghost use Rattle.oci_rules.specs.Listed.{all_broken};
 ghost use Rattle.oci_rules.specs.Tables.{rule_of, level_of as level_for, platform_of as platform_for};
 ghost use Rattle.oci_ffi.specs.Buffers.{Fills, Overflows, Untouched};
+ghost use Rattle.oci_ffi.specs.Fields.{ListsBroken};
 ghost use Rattle.oci_ffi.specs.Kinds.{kind_numbered};
-ghost use Rattle.oci_ffi.specs.Rules.{Counts, level_numbered, rules_up_to};
+ghost use Rattle.oci_ffi.specs.Rules.{Counts, Lists, level_numbered, rules_up_to};
 
 use crate::buffer::put;
+use crate::fields::list_broken;
 use crate::input::status_of;
 use crate::kind::kind_of;
 use crate::level::{is_within, level_of};
@@ -22,7 +24,7 @@ use crate::status::{
 };
 use oci_json::value_from_slice;
 use oci_rule_books::rules_of;
-use oci_rules::{Broken, Level, Rule, RuntimePlatform, broken};
+use oci_rules::{Level, Rule, RuntimePlatform, broken};
 use oci_schemas::Kind;
 use serde_json::Value;
 use std::alloc::{AllocError, Global};
@@ -30,8 +32,8 @@ use std::alloc::{AllocError, Global};
 /// What of a document breaks rules.
 #[derive(Drop)]
 struct Findings {
-    /// A line for each part.
-    lines: String,
+    /// The fields of each part.
+    fields: Vec<u8>,
     /// How many there are.
     count: usize,
 }
@@ -65,16 +67,6 @@ fn rules_for(kind: Kind, last: Level, alloc: Global) -> Result<Vec<Rule<'static>
     Ok(rules)
 }
 
-/// A line for each part that breaks a rule.
-fn lines_of(found: &Vec<Broken>, alloc: Global) -> Result<String, AllocError> {
-    let mut lines = String::new(alloc);
-    for it in found {
-        let line = format!(in alloc; "{it}\n")?;
-        lines.push_str(line.as_str())?;
-    }
-    Ok(lines)
-}
-
 /// What of the value breaks the rules.
 #[tactic(auto, using(crate::proofs::Reported::all_counted, crate::proofs::Chosen::none_listed))]
 fn found_in(
@@ -85,13 +77,14 @@ fn found_in(
     alloc: Global,
 ) -> Result<Findings, AllocError>
     ensures counted { IfOk result (λ r. r.count ≡ length (all_broken (rules_up_to (level_for last) (books.rules_of kind)) (platform_for platform) (view value.now))) }
+    ensures listed { IfOk result (λ r. ListsBroken (rules_up_to (level_for last) (books.rules_of kind)) (platform_for platform) (view value.now) r.fields.items) }
     ensures none { IfOk result (λ r. (r.count ≡ 0) ↔ KeepsAll (rules_up_to (level_for last) (books.rules_of kind)) (platform_for platform) (view value.now)) }
 {
     let rules = rules_for(kind, last, alloc)?;
     let found = broken(rules.as_slice(), platform, value, alloc)?;
-    let lines = lines_of(&found, alloc)?;
+    let fields = list_broken(&found, alloc)?;
     let count = found.len();
-    Ok(Findings { lines, count })
+    Ok(Findings { fields, count })
 }
 
 /// Writes what of the value breaks the rules.
@@ -106,8 +99,8 @@ fn write(
     count: &mut usize,
 ) -> u32
     requires { (output_len.old ≡ 0) × (count.old ≡ 0) }
-    ensures done { result ≡ DONE → (text : List ℕ) × Fills buffer.old buffer.new output_len.new text }
-    ensures small { result ≡ BUFFER_TOO_SMALL → (text : List ℕ) × Overflows buffer.old buffer.new output_len.new text }
+    ensures done { result ≡ DONE → (list : List ℕ) × Fills buffer.old buffer.new output_len.new list × ListsBroken (rules_up_to (level_for last) (books.rules_of kind)) (platform_for platform) (view value.now) list }
+    ensures small { result ≡ BUFFER_TOO_SMALL → (list : List ℕ) × Overflows buffer.old buffer.new output_len.new list × ListsBroken (rules_up_to (level_for last) (books.rules_of kind)) (platform_for platform) (view value.now) list }
     ensures counted { result ≤ BUFFER_TOO_SMALL → count.new ≡ length (all_broken (rules_up_to (level_for last) (books.rules_of kind)) (platform_for platform) (view value.now)) }
     ensures none { result ≤ BUFFER_TOO_SMALL → (count.new ≡ 0) ↔ KeepsAll (rules_up_to (level_for last) (books.rules_of kind)) (platform_for platform) (view value.now) }
     ensures untouched { BUFFER_TOO_SMALL < result → Untouched buffer.old buffer.new output_len.new × (count.new ≡ 0) }
@@ -116,7 +109,7 @@ fn write(
     match found_in(kind, last, platform, value, alloc) {
         Ok(found) => {
             *count = found.count;
-            put(found.lines.as_bytes(), buffer, output_len)
+            put(found.fields.as_slice(), buffer, output_len)
         }
         Err(_) => OUT_OF_MEMORY,
     }
@@ -133,8 +126,8 @@ fn report(
     output_len: &mut usize,
     count: &mut usize,
 ) -> u32
-    ensures done { result ≡ DONE → (text : List ℕ) × Fills buffer.old buffer.new output_len.new text }
-    ensures small { result ≡ BUFFER_TOO_SMALL → (text : List ℕ) × Overflows buffer.old buffer.new output_len.new text }
+    ensures done { result ≡ DONE → (list : List ℕ) × Fills buffer.old buffer.new output_len.new list × Lists kind (level_for last) platform document.now list }
+    ensures small { result ≡ BUFFER_TOO_SMALL → (list : List ℕ) × Overflows buffer.old buffer.new output_len.new list × Lists kind (level_for last) platform document.now list }
     ensures counted { result ≤ BUFFER_TOO_SMALL → Counts kind (level_for last) platform document.now count.new }
     ensures json { result ≡ INVALID_JSON → IsNoJson document.now }
     ensures platform { result ≡ UNKNOWN_PLATFORM → FREEBSD < platform }
@@ -154,16 +147,15 @@ fn report(
     }
 }
 
-/// Writes a line for each part of a document that breaks a rule of its kind, of the levels up to `level` and for the platform: its
-/// place as a JSON pointer (RFC 6901), a colon, a space, the name of the rule, in parentheses its level and where it is stated, a
-/// colon, a space, what is wanted and a newline. Sets `*count` to their number, which is 0 exactly if every such rule is kept. That a
-/// document is valid is not asked here.
+/// Writes the list of all parts of a document that break a rule of its kind, of the levels up to `level` and for the platform: of each
+/// the place as a JSON pointer (RFC 6901), the name of the rule, the word of its level (must, stated, should or host), the section in
+/// which it is stated, and what is wanted. Each of the five is a field, which ciderglen_next_field reads. Sets `*count` to the number
+/// of parts, which is 0 exactly if every such rule is kept. That a document is valid is not asked here.
 ///
 /// Returns CIDERGLEN_INVALID_JSON, CIDERGLEN_UNKNOWN_KIND, CIDERGLEN_UNKNOWN_LEVEL or CIDERGLEN_UNKNOWN_PLATFORM if there is nothing
 /// to list. After any status but CIDERGLEN_DONE and CIDERGLEN_BUFFER_TOO_SMALL `*count` is 0.
 ///
-/// A newline in the name of a member, and what else could move a terminal's cursor or turn the direction of a text, is `\uXXXX` in the
-/// pointer, so a line is a broken rule.
+/// Fields are UTF-8, and are not escaped: a name in a pointer is as the document has it, with any newline, NUL or escape sequence.
 #[unsafe(no_mangle)]
 pub extern "C" fn ciderglen_broken_rules(
     alloc: Global,
@@ -175,8 +167,8 @@ pub extern "C" fn ciderglen_broken_rules(
     output_len: &mut usize,
     count: &mut usize,
 ) -> u32
-    ensures done { result ≡ DONE → (text : List ℕ) × Fills buffer.old buffer.new output_len.new text }
-    ensures small { result ≡ BUFFER_TOO_SMALL → (text : List ℕ) × Overflows buffer.old buffer.new output_len.new text }
+    ensures done { result ≡ DONE → (list : List ℕ) × Fills buffer.old buffer.new output_len.new list × IsSomeAnd (kind_numbered kind) (λ k. IsSomeAnd (level_numbered level) (λ l. Lists k l platform document.now list)) }
+    ensures small { result ≡ BUFFER_TOO_SMALL → (list : List ℕ) × Overflows buffer.old buffer.new output_len.new list × IsSomeAnd (kind_numbered kind) (λ k. IsSomeAnd (level_numbered level) (λ l. Lists k l platform document.now list)) }
     ensures counted { result ≤ BUFFER_TOO_SMALL → IsSomeAnd (kind_numbered kind) (λ k. IsSomeAnd (level_numbered level) (λ l. Counts k l platform document.now count.new)) }
     ensures json { result ≡ INVALID_JSON → IsNoJson document.now }
     ensures kind { (result ≡ UNKNOWN_KIND) ↔ (kind_numbered kind ≡ None) }

@@ -39,6 +39,14 @@ BEGINNING = """\
  * - allocates with malloc, realloc and free of this process, frees all that it allocates before it returns, and returns
  *   CIDERGLEN_OUT_OF_MEMORY if an allocation fails. There is nothing for a caller to free.
  *
+ * A list, which ciderglen_violations and ciderglen_broken_rules write, is fields, one behind the other to the end of the output. A
+ * field is the length of a text in eight bytes, the lowest first, and the text, which is UTF-8 and may hold any character, zero bytes
+ * and newlines, too. ciderglen_next_field steps through a list:
+ *
+ *     const uint8_t *cursor = buffer, *end = buffer + output_len;
+ *     struct ciderglen_field pointer, expected;
+ *     while (ciderglen_next_field(&cursor, end, &pointer) && ciderglen_next_field(&cursor, end, &expected)) { .. }
+ *
  * A caller has to keep these rules, which nothing checks:
  * - no pointer is NULL, even if its length or capacity is 0;
  * - an output (buffer, `*output_len` and so on) overlaps neither the input nor another output, and no other thread uses it
@@ -55,6 +63,30 @@ BEGINNING = """\
 #ifdef __cplusplus
 extern "C" {
 #endif
+"""
+
+# how a list is read, behind the numbers and before the functions
+FIELDS = """
+/* A text of a list, with no zero byte behind it. */
+struct ciderglen_field {
+    const uint8_t *text;
+    size_t text_len;
+};
+
+/* Reads the field that begins at `*cursor`, and moves `*cursor` behind it. Returns 1, or 0 if no whole field stands there before
+ * `end`: at the end of a list. Then nothing is changed. It reads nothing behind `end`, whatever the bytes are. */
+static inline int ciderglen_next_field(const uint8_t **cursor, const uint8_t *end, struct ciderglen_field *field) {
+    size_t left = (size_t)(end - *cursor);
+    uint64_t text_len = 0;
+    int i;
+    if (left < 8) return 0;
+    for (i = 7; i >= 0; i--) text_len = text_len << 8 | (*cursor)[i];
+    if (text_len > left - 8) return 0;
+    field->text = *cursor + 8;
+    field->text_len = (size_t)text_len;
+    *cursor = field->text + field->text_len;
+    return 1;
+}
 """
 
 END = """
@@ -147,6 +179,7 @@ def header():
     parts.append(enum("Kinds of documents.", "ciderglen_kind", "CIDERGLEN_KIND_", "kind"))
     parts.append(enum("Levels of rules, each with those above it.", "ciderglen_level", "CIDERGLEN_LEVEL_", "level"))
     parts.append(enum("Platforms.", "ciderglen_platform", "CIDERGLEN_PLATFORM_", "platform"))
+    parts.append(FIELDS)
     for name in FUNCTIONS:
         text = source(name)
         parts += [struct(*it) for it in re.findall(r"((?:^///[^\n]*\n)+)#\[repr\(C\)\]\n(?:#[^\n]*\n)*pub struct (\w+) \{\n(.*?)\n?\}", text, re.M | re.S)]
@@ -166,20 +199,28 @@ def roff(text):
 
 
 def paragraphs(lines):
-    """Doc lines, as paragraphs and items of lists."""
+    """Doc lines, as paragraphs, items of lists and lines of code."""
     text = ""
     for line in lines:
         if line.startswith("- "):
             text += f".IP \\(bu 2\n{roff(line[2:])}\n"
+        elif line.startswith("    "):
+            text += f".nf\n{roff(line)}\n.fi\n"
         else:
             text += f"{roff(line.strip())}\n" if line.strip() else ".PP\n"
-    return text
+    return text.replace(".fi\n.nf\n", "")
+
+
+def next_field():
+    """The function of the header itself: doc lines, name and prototype."""
+    docs, declared = re.search(r"/\* ((?:(?!\*/).)*) \*/\n(static inline [^{]*\)) \{", FIELDS, re.S).groups()
+    return [re.sub(r"^ \* ?", "", line) for line in docs.split("\n")], "ciderglen_next_field", f"{declared};\n"
 
 
 def page():
     """The whole manual page."""
     about = [line[3:] for line in BEGINNING.split("*/")[0].split("\n")[5:]]
-    listed = [it for name in FUNCTIONS for it in functions(name)]
+    listed = [it for name in FUNCTIONS for it in functions(name)] + [next_field()]
     text = '.\\" Written by tools/gen header from crates/oci_ffi; do not edit.\n.TH CIDERGLEN 3 "" Ciderglen\n.SH NAME\n'
     text += "ciderglen \\- canonical form and validation of Open Container Initiative documents\n.SH SYNOPSIS\n.nf\n#include <ciderglen.h>\n\n"
     text += roff("\n".join(declared for _, _, declared in listed)) + ".fi\n.SH DESCRIPTION\n" + paragraphs(about)

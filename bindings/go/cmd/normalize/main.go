@@ -18,8 +18,9 @@ func run() error {
 	}
 	text, err := ciderglen.Normalize(ciderglen.Manifest, document)
 	if errors.Is(err, ciderglen.ErrInvalidDocument) {
-		if _, lines, err := ciderglen.Violations(ciderglen.Manifest, document); err == nil {
-			os.Stderr.Write(lines)
+		violations, _ := ciderglen.Violations(ciderglen.Manifest, document)
+		for _, violation := range violations {
+			fmt.Fprintln(os.Stderr, violation)
 		}
 	}
 	if err != nil {

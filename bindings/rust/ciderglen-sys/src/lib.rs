@@ -4,7 +4,7 @@
 #![allow(non_camel_case_types)]
 
 /// The interface that these declarations are for; compare it with [`ciderglen_interface`].
-pub const CIDERGLEN_INTERFACE: u32 = 1;
+pub const CIDERGLEN_INTERFACE: u32 = 2;
 
 pub const CIDERGLEN_DONE: u32 = 0;
 pub const CIDERGLEN_BUFFER_TOO_SMALL: u32 = 1;
