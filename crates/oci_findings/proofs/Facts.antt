@@ -2,7 +2,7 @@
 use Rattle.std.proofs.Common.{◌≡◌, ◌<◌, ◌+◌, ℕ, zero, suc, Bool, true, false, List, [], ◌∷◌, ◌++◌, length, take, map, get_or, refl, sym, ap, ◌∙◌, subst, arith, Option, Result, Ok, Err, inl, inr}
 use Rattle.std.specs.Io.KnownBytes.{Appends}
 use Rattle.std.specs.List.{filter}
-use Rattle.std.proofs.lemmas.List.{append_assoc, append-nil}
+use Rattle.std.proofs.lemmas.List.{append_assoc, append-nil, get_or_default}
 use Rattle.std.proofs.lemmas.List.Elements.{filter-append}
 use Rattle.oci_base.specs.Escaped.{IsLine}
 use Rattle.std.specs.Prelude.{IfOk}
@@ -28,6 +28,11 @@ made_more f g new old base xs i x lt is says before =
     says ∙ ap (λ q. q ++ g x ∷ []) before ∙ append_assoc base (map g (take i xs)) (g x ∷ []) ∙ ap (λ q. base ++ q) (sym (map_both g (take i xs) x))
     ∙ sym (ap (λ q. base ++ map g q) (ap (λ n. take n xs) step ∙ one_more xs i x lt is))
 
+-- the same of the item at an index
+pub made_more_at : {A B C : Type 0} (f : A → C) (g : B → C) (new old : List A) (base : List C) (xs : List B) (i : ℕ) (d : B) → i < length xs
+    → map f new ≡ map f old ++ g (get_or xs i d) ∷ [] → map f old ≡ base ++ map g (take i xs) → map f new ≡ base ++ map g (take (i + 1) xs)
+made_more_at f g new old base xs i d lt says before = made_more f g new old base xs i (get_or xs i d) lt (get_or_default xs i d _ lt) says before
+
 pub one_line : (line : List ℕ) → IsLine line → AreLines 1 line
 one_line line h = more none h
 
@@ -50,23 +55,23 @@ both_lines first second third e w empty one two =
     two e (subst (λ k. AreLines k second) step (one zero begun))
 
 pub one_kept : (new old : List Finding) (x : Finding) → is_error x ≡ true → new ≡ old ++ x ∷ [] → new ≡ old ++ filter is_error (x ∷ [])
-one_kept new old x yes is =
-    let one : filter is_error (x ∷ []) ≡ x ∷ [] = rw yes refl in
+one_kept new old x so is =
+    let one : filter is_error (x ∷ []) ≡ x ∷ [] = rw so refl in
     is ∙ ap (λ q. old ++ q) (sym one)
 
 pub one_passed : (new old : List Finding) (x : Finding) → is_error x ≡ false → new ≡ old → new ≡ old ++ filter is_error (x ∷ [])
-one_passed new old x no is =
-    let one : filter is_error (x ∷ []) ≡ [] = rw no refl in
+one_passed new old x so is =
+    let one : filter is_error (x ∷ []) ≡ [] = rw so refl in
     is ∙ sym (append-nil old) ∙ ap (λ q. old ++ q) (sym one)
 
 pub others_kept : (new old : List Finding) (x : Finding) → is_error x ≡ false → new ≡ old ++ x ∷ [] → new ≡ old ++ filter is_no_error (x ∷ [])
-others_kept new old x no is =
-    let one : filter is_no_error (x ∷ []) ≡ x ∷ [] = rw no refl in
+others_kept new old x so is =
+    let one : filter is_no_error (x ∷ []) ≡ x ∷ [] = rw so refl in
     is ∙ ap (λ q. old ++ q) (sym one)
 
 pub others_passed : (new old : List Finding) (x : Finding) → is_error x ≡ true → new ≡ old → new ≡ old ++ filter is_no_error (x ∷ [])
-others_passed new old x yes is =
-    let one : filter is_no_error (x ∷ []) ≡ [] = rw yes refl in
+others_passed new old x so is =
+    let one : filter is_no_error (x ∷ []) ≡ [] = rw so refl in
     is ∙ sym (append-nil old) ∙ ap (λ q. old ++ q) (sym one)
 
 pub sorted_more : (p : Finding → Bool) (kept new yielded : List Finding) (x : Finding) → new ≡ kept ++ filter p (x ∷ []) → kept ≡ filter p yielded → new ≡ filter p (yielded ++ x ∷ [])

@@ -127,6 +127,12 @@ fn push_counted(text: &mut String, claimed: &str, count: &str) -> Result<(), All
 {
     text.push_str("expected ")?;
     text.push_str(claimed)?;
+    push_count(text, count)
+}
+
+fn push_count(text: &mut String, count: &str) -> Result<(), AllocError>
+    ensures { OnOk result (string_bytes text.new ≡ string_bytes text.old ++ (codes " bytes, found " ++ count.now)) }
+{
     text.push_str(" bytes, found ")?;
     text.push_str(count)
 }
