@@ -324,11 +324,23 @@ fn pin_bytes<W: Write, E: Write>(
             Ok(true)
         }
         Err(refusal) => {
-            if matches!(refusal, Refusal::Json | Refusal::Schema) {
-                let found = inspect(Some(Kind::Descriptor), file, bytes, alloc)?;
-                report_findings(file, &found, alloc, errors)?;
-            }
+            report_no_descriptor(&refusal, file, bytes, alloc, errors)?;
             refused(refusal, text, alloc, errors)
         }
     }
+}
+
+/// Reports what is wrong with a file that holds no descriptor, if that is why there is no reference.
+fn report_no_descriptor<E: Write>(
+    refusal: &Refusal,
+    file: &str,
+    bytes: &[u8],
+    alloc: Global,
+    errors: &mut E,
+) -> Result<()> {
+    if matches!(refusal, Refusal::Json | Refusal::Schema) {
+        let found = inspect(Some(Kind::Descriptor), file, bytes, alloc)?;
+        report_findings(file, &found, alloc, errors)?;
+    }
+    Ok(())
 }

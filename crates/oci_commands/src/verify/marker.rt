@@ -38,21 +38,26 @@ pub fn fault_of_file(fault: FileFault, alloc: Global) -> Finding<'static> {
 }
 
 /// What is wrong with the bytes of a marker.
-fn document_findings(bytes: &[u8], alloc: Global) -> Result<Vec<Finding<'static>>, AllocError> {
-    let mut found = Vec::new(alloc);
+fn document_findings<'a>(bytes: &[u8], alloc: Global) -> Result<Vec<Finding<'a>>, AllocError> {
     match read_value(bytes, alloc)? {
-        Ok(value) => {
-            let listed = violations(&OciRecords, oci_layout(), &value, alloc)?;
-            found = violation_findings(&listed, &value, alloc)?;
-            if found.is_empty() && !is_version_one(&value) {
-                found.push(version_finding(&value, alloc)?)?;
-            }
+        Ok(value) => value_findings(&value, alloc),
+        Err(cause) => {
+            let mut found = Vec::new(alloc);
+            found.push(Finding {
+                pointer: String::new(alloc),
+                cause,
+                severity: Severity::Error,
+            })?;
+            Ok(found)
         }
-        Err(cause) => found.push(Finding {
-            pointer: String::new(alloc),
-            cause,
-            severity: Severity::Error,
-        })?,
+    }
+}
+
+fn value_findings<'a>(value: &Value, alloc: Global) -> Result<Vec<Finding<'a>>, AllocError> {
+    let listed = violations(&OciRecords, oci_layout(), value, alloc)?;
+    let mut found = violation_findings(&listed, value, alloc)?;
+    if found.is_empty() && !is_version_one(value) {
+        found.push(version_finding(value, alloc)?)?;
     }
     Ok(found)
 }
@@ -62,7 +67,7 @@ fn is_version_one(value: &Value) -> bool {
 }
 
 /// That the version is another one.
-fn version_finding(value: &Value, alloc: Global) -> Result<Finding<'static>, AllocError> {
+fn version_finding<'a>(value: &Value, alloc: Global) -> Result<Finding<'a>, AllocError> {
     let shown = shown_at(value, VERSION, alloc)?;
     Ok(Finding {
         pointer: String::from_str(alloc, VERSION)?,

@@ -4,6 +4,6 @@ use Rattle.oci_commands.proofs.canonical.pretty_text.Goals as goal
 
 pub returns : goal.returns
 returns c = record {
-  ok = pretty_made (shape_of c.args.kind) c.args.bytes.now c.new.result.items _ c.in_ok-write_pretty.ensures.ok c.new.ensures.items;
+  ok = pretty_made (shape_of c.args.kind) c.args.bytes.now c.new-text.result.items _ c.in_ok-write_pretty.ensures.ok c.new-text.ensures.items;
   none = tt;
 }
