@@ -202,7 +202,7 @@ def plain_imports(r, text):
 def builder_source(r):
     """The builder of a long record, in a file of its own."""
     body = builder(r)
-    home = f"{r.book.crate}::{{{r.name}, bare}}" if r.above else f"crate::{r.word}::{r.name}"
+    home = f"{'crate' if r.above == r.book.crate else r.book.crate}::{{{r.name}, bare}}" if r.above else f"crate::{r.word}::{r.name}"
     out = f"//! The builder of `{r.name}`.\nghost use Rattle.std.specs.Prelude.{{◌≡◌, IfOk, IfErr}};\n\nuse {home};\n"
     out += imports(r, body, used(JOINS, body)) + "use std::alloc::Global;\n"
     if "BTreeMap" in body:

@@ -2,12 +2,12 @@
 //! The builder of `Spec`.
 ghost use Rattle.std.specs.Prelude.{◌≡◌, IfOk, IfErr};
 
+use crate::{Spec, bare};
 use oci_base::{OciSpecError, Result};
 use oci_linux::{Linux, LinuxIdMapping};
 use oci_model::{try_join2, try_join3};
 use oci_platforms::{Solaris, VM, Windows, ZOS};
 use oci_process::Process;
-use oci_runtime::{Spec, bare};
 use oci_runtime_records::{Hooks, Mount, Root, get_default_mounts, text_of};
 use std::alloc::Global;
 use std::collections::BTreeMap;
