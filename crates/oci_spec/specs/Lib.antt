@@ -144,7 +144,7 @@ pub use Rattle.oci_runtime_records.specs.MountBuilder
 pub use Rattle.oci_runtime_records.specs.Root
 pub use Rattle.oci_runtime_records.specs.State
 pub use Rattle.oci_schema.specs.Allows
-pub use Rattle.oci_schema.specs.Canonical
+pub use Rattle.oci_schema.specs.Canonical as CanonicalSchema
 pub use Rattle.oci_schema.specs.Lines
 pub use Rattle.oci_schema.specs.Normalized
 pub use Rattle.oci_schema.specs.Normalizes
