@@ -1,30 +1,35 @@
 """The rules, and what others say of documents, and what others write.
 
-  tools/peers rules [image] [runtime] [written] [oracle] [--count N] [--seed S] [--program PATH]
+  tools/peers rules [image] [runtime] [written] [oracle] [--count N] [--seed S] [--program PATH] [--ciderglen PATH] [--keep FOLDER]
 
   image    image-spec's own schema tests: each document that only rules refuse breaks the rule that tools/rules/peers.rows names, at its
            pointer; each that is to pass keeps every rule of level must, as do the examples of the texts
   runtime  runtime-tools' validation cases: each that rules decide breaks its rule; each that is to pass keeps every rule of level must,
            once what its check does not look at was added
-  written  documents of umoci, skopeo, buildah, podman, runc and crun: every rule of level must or stated that one breaks is in
-           tools/rules/peers.rows, with the reason. podman's are the configurations that it writes for a runtime (`podman init`); the
-           runtime is `false`, so that they are written also where no container can run. buildah-docker are images of Docker's format
+  written  documents that umoci, skopeo, buildah, podman, runc and crun write, made anew with many options: none breaks its schema or a
+           rule of level must or stated, by `ciderglen check --rules`. A line says which document does, and which command wrote it;
+           the words in brackets are those of commands before it. What else is found is counted. The configurations of podman and
+           buildah are those that they give a runtime, which is a script, so that they are written also where no container can run.
+           TOOL-docker is an image in Docker's format. --keep leaves the documents in FOLDER, and `rows` with a row for each: the
+           file, the tool with its version, the kind, and the command
   oracle   runtime-tools' validator over --count changed configurations (10,000; --seed 1): for the rules that both decide, every
            difference has a reason in tools/comparisons/explained.py
 
 Without a name all four are run. Each prints a line for each thing that is not as it has to be, and a last line with its counts; the
 status is 1 if there is any. It wants Debian's packages golang-go, golang-github-opencontainers-runtime-tools-dev,
-golang-github-opencontainers-image-spec-dev, umoci, skopeo, buildah, podman, runc and crun, and root for buildah and podman. Rules are asked of
---program, or of `oci_tests` as `rt run` built it, or else as `rt try` compiles it, for a thousand documents at most.
+golang-github-opencontainers-image-spec-dev, umoci, skopeo, buildah, podman, runc and crun, and root for all but the first two. Rules are
+asked of --program, or of `oci_tests` as `rt run` built it, or else as `rt try` compiles it, for a thousand documents at most; what tools
+write, of --ciderglen, or of `ciderglen` as `rt run` built it.
 """
 import argparse
 import collections
+import functools
 import json
 import os
 import tempfile
 
 from comparisons import changes, checker, explained, image_cases, oracle, runtime_cases, written
-from repository import read, rows as rows_of
+from repository import program_of, read, rows as rows_of
 
 CHECKS = False
 VOLUME = "\\\\?\\Volume{ec84d99e-3f02-11e7-ac6c-00155d7682cf}\\"
@@ -133,32 +138,42 @@ def runtime(options, rows):
     yield count.end()
 
 
+@functools.cache
+def made():
+    """The documents that tools write, made once."""
+    with tempfile.TemporaryDirectory() as room:
+        os.chmod(room, 0o755)  # a user who is not root writes there too
+        return written.documents(os.path.join(room, "written"))
+
+
 def of_tools(options, rows):
     """What tools write."""
-    count = Count("written")
-    explained = {tuple(row.split(" ", 2)[:2]): row.split(" ", 2)[2] for row in rows["written"]}
-    seen = collections.Counter()
+    count, seen = Count("written"), collections.Counter()
+    if not os.path.exists(options.ciderglen):
+        raise SystemExit(f"{options.ciderglen} is not there: `rt run` makes it")
+    documents = made()
+    yield []
     with tempfile.TemporaryDirectory() as room:
-        documents = written.documents(os.path.join(room, "written"))
-    answers = yield [(kind, "-", one_line(text)) for _, kind, text in documents]
-    for (tool, kind, _), found in zip(documents, answers):
-        count.counted[tool] += 1
-        for it in found:
-            seen[(it.level, tool, kind, it.rule)] += 1
-        for it in found:
-            if it.level in ("must", "stated") and (tool, it.rule) not in explained:
-                count.fault(f"{kind} of {tool} breaks {it}")
-    for tool, rule in explained:
-        if not any(key[1] == tool and key[3] == rule for key in seen):
-            count.fault(f"no document of {tool} breaks {rule}, which a row explains")
+        folder = options.keep or room
+        os.makedirs(folder, exist_ok=True)
+        answers = checker.examined([(it.kind, it.text) for it in documents], options.ciderglen, folder)
+        with open(os.path.join(folder, "rows"), "w", encoding="utf-8") as file:
+            file.writelines(f"{number}.json | {it.row()}\n" for number, it in enumerate(documents))
+    for number, (document, findings) in enumerate(zip(documents, answers)):
+        count.counted[f"of {document.tool} {document.version}"] += 1
+        for it in findings:
+            level = it.get("requirement", it["level"])
+            seen[(level, document.tool, document.kind, it["rule"])] += 1
+            if it["level"] == "error":
+                count.fault(f"{it['rule']} ({level}) at {it['pointer']}: {it['message']} | {number}.json | {document.row()}")
     for (level, tool, kind, rule), number in sorted(seen.items()):
-        print(f"written: {number} of {tool}'s {kind}: {rule} ({level})")
+        print(f"written: {number} times in {tool}'s {kind}: {rule} ({level})")
     yield count.end()
 
 
-def bases(room):
+def bases():
     """Configurations to change: what the tools write, and one with many parts."""
-    specs = [json.loads(text) for _, kind, text in written.documents(os.path.join(room, "written")) if kind == "spec"]
+    specs = [json.loads(it.text) for it in made() if it.kind == "spec"]
     more = json.loads(read("tools/rules/oracle.json"))
     return specs + [more["document"]] * 4, [(tuple(way), value) for way, value in more["samples"]]
 
@@ -169,7 +184,7 @@ def by_oracle(options, rows):
     codes = {rule_of: rule for rule_of, rule in (row.split() for row in rows["code"])}
     both = set(codes.values()) | {rule for _, rule in oracle.SAID} - {"capability-ambient"}
     with tempfile.TemporaryDirectory() as room:
-        documents, samples = bases(room)
+        documents, samples = bases()
         documents = changes.all_changed(documents, samples, options.count, options.seed)
         runtime_cases.cases(room)
         numbers = runtime_cases.code_names(os.path.join(room, "go/src", runtime_cases.PACKAGE), dict(os.environ, GO111MODULE="off", GOPATH=f"{room}/go:/usr/share/gocode"))
@@ -224,6 +239,8 @@ def options_of(parser):
     parser.add_argument("--count", type=int, default=10000)
     parser.add_argument("--seed", type=int, default=1)
     parser.add_argument("--program", default="")
+    parser.add_argument("--ciderglen", default=program_of("ciderglen"))
+    parser.add_argument("--keep", metavar="FOLDER", default="")
 
 
 def run(options):
