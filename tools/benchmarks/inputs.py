@@ -65,6 +65,12 @@ def write_index(file, manifests):
     file.write("]" + tail)
 
 
+def index_unknown():
+    """An index of 1,000 manifests, each with a member that no schema has."""
+    manifests = [item(number) | {"note": "of no schema"} for number in range(1000)]
+    return {"schemaVersion": 2, "mediaType": IMAGE + "index.v1+json", "manifests": manifests}
+
+
 def history(number):
     entry = {
         "created": CREATED.format(number),
@@ -176,6 +182,7 @@ FILES = {"manifest": f"{TOP}/examples/manifest.json", "spec": f"{SOURCES}/data/s
 # those that are made
 MADE = {
     "manifest_1000": lambda: manifest(1000),
+    "index_unknown": index_unknown,
     "config": lambda: config(16),
     "config_1000": lambda: config(1000),
     "artifact": artifact,

@@ -34,13 +34,16 @@ def called(command, **how):
     return done.stdout
 
 
+def collected(words):
+    """The instructions of a whole process."""
+    text = called(["valgrind", "--tool=callgrind", "--callgrind-out-file=/dev/null", *words])
+    return int(re.search(r"Collected : (\d+)", text)[1])
+
+
 def instructions(command, counted):
     """The instructions of a call."""
-    found = []
-    for count in (counted, 2 * counted):
-        text = called(["valgrind", "--tool=callgrind", "--callgrind-out-file=/dev/null", *command(count)])
-        found.append(int(re.search(r"Collected : (\d+)", text)[1]))
-    return (found[1] - found[0]) / counted
+    once, twice = (collected(command(count)) for count in (counted, 2 * counted))
+    return (twice - once) / counted
 
 
 def all_instructions(works, jobs):

@@ -1,7 +1,7 @@
 """A record's `impl OciRecord`."""
 from generator.calls import SHAPES
 from generator.records import OPEN_NAMES, snake
-from generator.text import groups, imported, together, tuple_of, used
+from generator.text import imported, together, tuple_of, used
 
 SAME_TERMS = ["same_document", "same_more", "same_last", "same_given", "same_perhaps", "same_texts", "same_lists", "same_maps",
               "same_named", "same_bytes", "same_numbers", "same_integers", "same_truths", "same_variants", "same_keys", "same_sets", "same_free"]
@@ -65,42 +65,25 @@ def law_imports(r, same, well):
     return out
 
 
-def read_of(members):
-    """The call that reads a few members of a borrowed value."""
-    types = ", ".join([m.reader() for m in members] + ["_"] * len(members))
-    return f"read{len(members)}::<{types}>(alloc, value, NAME, {', '.join(f'{chr(34)}{m.name}{chr(34)}' for m in members)})"
+def listed(words):
+    """What is listed in a call of `nested!`, a line each where one does not hold them."""
+    line = ", ".join(words)
+    return line if len(line) < 70 else "\n" + "".join(f"            {it},\n" for it in words) + "        "
 
 
-def borrowing(r):
-    """Deserialization from a borrowed value, up to five members at once."""
-    split = groups(r.members)
-    fields = "".join(f"            {m.field},\n" for m in r.members)
-    return f"""    fn from_value(alloc: Global, value: &Value) -> Result<{r.name}> {{
-        let {tuple_of([tuple_of([m.field for m in it]) for it in split])} = {together([read_of(it) for it in split])}?;
-        Ok({r.name} {{
-{fields}        }})
-    }}
-
-"""
-
-
-def consuming(r):
-    """Deserialization that consumes the value, and of a copy where the value is borrowed."""
-    names = r.names()
-    listed = ", ".join(f'"{n}"' for n, _ in names)
-    fields, count = ", ".join(f for _, f in names), len(names)
-    opened, call = (f"(({fields}))", f"taken_{count}") if count > 4 else (f"([{fields}])", f"taken::<{count}>")
+def reading(r):
+    """Deserialization: of a value that is consumed, the members one after the other, by their readers and names; and of a copy."""
+    fields, readers, names = ([of(m) for m in r.members] for of in (lambda m: m.field, lambda m: m.reader(), lambda m: m.names()))
     return f"""    fn from_value(alloc: Global, value: &Value) -> Result<{r.name}> {{
         let value = value.clone()?;
         Self::from_value_owned(alloc, value)
     }}
 
-    #[tactic(auto, using(oci_model::proofs::Readers::refuses_others))]
     fn from_value_owned(alloc: Global, value: Value) -> Result<{r.name}> {{
-        let Some{opened} = {call}(alloc, value, &[{listed}])? else {{
-            return Err(fault::refused(NAME, ""));
-        }};
-{record_of(r, [m.reads_owned() for m in r.members])}    }}
+        let nested!({listed(fields)}) = read_members::<nested!({listed(readers)}), _, _>(alloc, value, NAME, nested!({listed(names)}))?;
+        Ok({r.name} {{
+{"".join(f"            {it},{chr(10)}" for it in fields)}        }})
+    }}
 
 """
 
@@ -118,7 +101,7 @@ def conversions(r):
 
     ghost plain = {{ {r.word}_plain }};
 
-{consuming(r) if r.consuming else borrowing(r)}    fn to_value(&self, alloc: Global) -> Result<Value> {{
+{reading(r)}    fn to_value(&self, alloc: Global) -> Result<Value> {{
         let mut members = ObjectWriter::new(alloc);
 {writes}        members.object()
     }}

@@ -4,18 +4,16 @@ from generator.text import called_in, used, uses
 
 JOINS = [f"try_join{n}" for n in range(2, 6)]
 # functions and types of `oci_model`: those that are called with types, by name alone, and the others
-TYPED_CALLS = ["copy_optional_as", "write_optional_as", "optional_as_owned"] + [f"read{n}" for n in range(1, 6)]
+TYPED_CALLS = ["copy_optional_as", "read_members", "write_optional_as"]
 READERS = ["As", "Defaulted", "Nullable", "Optional", "Required", "UnlessEmpty"]
-CALLS = ["copy_optional", "optional", "optional_either", "required", "write_optional", "write_required", "optional_owned",
-         "required_owned", "optional_either_owned"]
-TAKES = ["taken"] + [f"taken_{n}" for n in range(5, 11)]
+CALLS = ["copy_optional", "write_optional", "write_required"]
 # kinds of members that are in another crate than `oci_model`
 KIND_CRATES = {"Caps": "oci_text", "CpuTexts": "oci_text"}
 
 
 def model_calls(body):
     """What a body takes from `oci_model` to read, write and copy members."""
-    return ["OciMember"] * (".copy(alloc)" in body) + called_in(CALLS, body) + used(["ObjectWriter"] + JOINS + TAKES, body)
+    return ["OciMember"] * (".copy(alloc)" in body) + called_in(CALLS, body) + used(["ObjectWriter", "nested"] + JOINS, body)
 
 
 def imports(r, body, schema):

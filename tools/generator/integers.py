@@ -24,7 +24,7 @@ fn whole(value: &Value) -> Option<i128>
 // the number of a type that a value holds, if it is in the type's range
 macro_rules! read_whole {
     ($value:expr, $number:ty) => {
-        match whole($value) {
+        match whole(&$value) {
             Some(n) => match <$number>::try_from(n) {
                 Ok(x) => Ok(x),
                 Err(_) => Err(refused("", "")),
@@ -48,7 +48,7 @@ impl OciMember for {name} {{
     ghost plain = {{ {word}_plain }};
 
     #[tactic(auto, using(crate::proofs::Readers::not_whole, crate::proofs::Readers::out_of_range))]
-    fn read(_alloc: Global, value: &Value) -> Result<{name}> {{
+    fn read(_alloc: Global, value: Value) -> Result<{name}> {{
         read_whole!(value, {name})
     }}
 

@@ -229,8 +229,8 @@ impl OciMember for {name} {{
 
     ghost plain = {{ variant_plain {w}_name }};
 
-    fn read(_alloc: Global, value: &Value) -> Result<{name}> {{
-        read_name(value)
+    fn read(_alloc: Global, value: Value) -> Result<{name}> {{
+        read_name(&value)
     }}
 
     fn write(&self, alloc: Global) -> Result<Value> {{

@@ -14,7 +14,7 @@ def head(n):
     return out + """use crate::place::place;
 use oci_model::OciMember;
 use oci_model::fault::refused;
-use oci_model::owned::into_text;
+use oci_model::parts::into_text;
 use oci_base::{OciSpecError, Result};
 use serde_json::Value;
 use std::alloc::Global;
@@ -183,15 +183,7 @@ def member(n):
     ghost plain = {{ λ m. name_plain ({w}_name m) }};
 
     #[tactic(auto, using(oci_model::proofs::Readers::no_name, crate::proofs::OpenMembers::name_means))]
-    fn read(alloc: Global, value: &Value) -> Result<{name}> {{
-        match value.as_str() {{
-            Some(text) => {name}::from_text(alloc, text),
-            None => Err(refused("", "")),
-        }}
-    }}
-
-    #[tactic(auto, using(oci_model::proofs::Readers::no_name, crate::proofs::OpenMembers::name_means))]
-    fn read_owned(_alloc: Global, value: Value) -> Result<{name}> {{
+    fn read(_alloc: Global, value: Value) -> Result<{name}> {{
         match into_text(value) {{
             Some(text) => Ok({name}::from_string(text)),
             None => Err(refused("", "")),

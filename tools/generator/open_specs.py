@@ -71,24 +71,11 @@ returns-in_default c =
 def read_answers(n):
     w, name = n.word, n.name
     return f"""-- The text means the name that it opens.
-use Rattle.serde_json.specs.View.{{view}}
-use Rattle.{n.crate}.specs.{name}.{{{w}_name, {n.table}}}
-use Rattle.oci_text.proofs.OpenMembers.{{answer_means}}
-use Rattle.{n.crate}.proofs.{w}.{name}OciMember.read.Goals as goal
-
-pub returns-in-Some-clause-ok : goal.returns-in-Some-clause-ok
-returns-in-Some-clause-ok c = answer_means {n.table} {w}_name c.in-Some.text.now (view c.args.value.now) c.from_text.result c.in-Some.ensures c.from_text.ensures.ok
-"""
-
-
-def read_owned_answers(n):
-    w, name = n.word, n.name
-    return f"""-- The text means the name that it opens.
 use Rattle.std.proofs.Common.{{string_bytes}}
 use Rattle.serde_json.specs.View.{{view}}
 use Rattle.{n.crate}.specs.{name}.{{{w}_name, {n.table}}}
 use Rattle.oci_text.proofs.OpenMembers.{{name_means}}
-use Rattle.{n.crate}.proofs.{w}.{name}OciMember.read_owned.Goals as goal
+use Rattle.{n.crate}.proofs.{w}.{name}OciMember.read.Goals as goal
 
 pub returns-in-Some-clause-ok : goal.returns-in-Some-clause-ok
 returns-in-Some-clause-ok c = name_means {n.table} (string_bytes c.in-Some.text) (view c.args.value) ({w}_name c.from_string.result) c.in-Some.ensures c.from_string.ensures
@@ -99,4 +86,4 @@ def open_files(n):
     """Its specification and proofs, by their paths in its crate."""
     proofs = f"proofs/{n.word}"
     return {f"specs/{n.name}.antt": open_spec(n), f"proofs/Named{n.name}.antt": named(n), f"{proofs}/{n.name}/clone/Answers.antt": clone_answers(n),
-            f"{proofs}/{n.name}OciMember/read/Answers.antt": read_answers(n), f"{proofs}/{n.name}OciMember/read_owned/Answers.antt": read_owned_answers(n)}
+            f"{proofs}/{n.name}OciMember/read/Answers.antt": read_answers(n)}

@@ -9,24 +9,14 @@ ORDINALS = ("first", "second", "third", "fourth", "fifth")
 
 
 def read_answers(r):
-    """The answer for what a record has read, whose members are read in one group or in several."""
-    split = groups(r.members)
-    told = f"c.in_ok-{r.members[0].field}.ensures.ok"
-    lets, lines = "", ""
-    for at, (word, call, members) in enumerate(zip(ORDINALS, called([f"read{len(it)}" for it in split]), split)):
-        known = told if len(split) == 1 else f"answered _ _ _ {told}.{at} c.{call}.ensures.ok"
-        lets += f"    let {word} = {known} in\n"
-        for n, m in enumerate(members):
-            known = f"{word}.{n + 1}"
-            lines += f"    (let told = {known} in search rules,\n" if m.type.text in ("i32", "i64") else f"    ({known},\n"
-    together = imported("oci_model.proofs.Together", ["answered"] if len(split) > 1 else [])
-    return f"""-- What each member decodes to.
-{imported("std.proofs.Common", ["refl"] + used(["rules"], lines))}{together}use Rattle.{r.book.crate}.proofs.{r.word}.{r.name}OciRecord.from_value.Goals as goal
+    """The answer for the error of a record that is read: it is that of its members."""
+    exit = f"returns-in_err-{r.members[0].field}-clause-err"
+    return f"""-- The error of its members.
+use Rattle.oci_model.proofs.Lists.{{exits}}
+use Rattle.{r.book.crate}.proofs.{r.word}.{r.name}OciRecord.from_value_owned.Goals as goal
 
-pub returns-clause-ok : goal.returns-clause-ok
-returns-clause-ok c =
-{lets}    (_, first.0, refl,
-{lines}    tt{")" * (len(r.members) + 1)}
+pub {exit} : goal.{exit}
+{exit} c = exits _ _ _ c.from_residual.ensures.1 c.in_err-{r.members[0].field}.ensures.err
 """
 
 
@@ -40,31 +30,6 @@ def told_of(told, calls, lets):
         lets.append(f"{word} = answered _ _ _ {told}.{at} c.{join}.ensures.ok")
         out += told_of(word, group, lets)
     return out
-
-
-def owned_answers(r):
-    """The answer for what a record has read of a value that was taken apart, which has more than four names."""
-    name = r.members[0].field
-    lets = ["d = view c.args.value", f"stood = MatchOption-at_some _ _ _ c.in-Some.is c.in_ok-{name}.ensures.ok"]
-    calls = called([re.match(r"\w+", m.reads_owned())[0] for m in r.members])
-    lines, at = "", 0
-    for m, known in zip(r.members, told_of(f"c.in_ok-{name}-2.ensures.ok", calls, lets)):
-        stood = [f"stood.{at + 1}"] + [f"stood.{at + 2}"] * bool(m.second)
-        at += len(stood)
-        lines += f"    ({known} d {' '.join(stood)},\n"
-    names = "".join(f"    let {it} in\n" for it in lets)
-    return f"""-- What each member decodes to.
-use Rattle.std.proofs.Common.{{refl}}
-use Rattle.std.proofs.lemmas.Option.{{MatchOption-at_some}}
-use Rattle.serde_json.specs.View.{{view}}
-use Rattle.oci_model.proofs.Together.{{answered}}
-use Rattle.{r.book.crate}.proofs.{r.word}.{r.name}OciRecord.from_value_owned.Goals as goal
-
-pub returns-clause-ok : goal.returns-clause-ok
-returns-clause-ok c =
-{names}    (_, stood.0, refl,
-{lines}    tt{")" * (len(r.members) + 1)}
-"""
 
 
 def write_answers(r):

@@ -12,8 +12,8 @@ KEYWORDS = {"type": "typ", "ociVersion": "version", "final": "cpu_affinity_final
 HIDDEN = {"data": "embedded_data"}
 # records whose name is a keyword in snake case
 WORDS = {"Box": "console_box"}
-READ = {"R": "required", "O": "optional", "D": "defaulted", "N": "nullable", "E": "unless_empty"}
-# how a member that is borrowed is read, as a type
+# the presences of members in shapes, and how members are read, as types
+PRESENCES = {"R": "required", "O": "optional", "D": "defaulted", "N": "nullable", "E": "unless_empty"}
 READERS = {"R": "Required", "O": "Optional", "D": "Defaulted", "N": "Nullable", "E": "UnlessEmpty"}
 WRITE = {"R": "required", "O": "optional", "D": "required", "N": "nullable", "E": "unless_empty"}
 # the defaults of a member's type: in code, as content, and the lemma by which the shape is well formed
@@ -125,20 +125,16 @@ class Member:
         return ("perhaps " if self.optional else "given ") + self.type.plain
 
     def reader(self):
-        """How the member is read of a value that is borrowed, as a type."""
+        """How the member is read, as a type."""
         if self.type.kind:
             return f"As<{self.type.kind}>"
         if self.presence == "D" and self.type.records:
             return f"Default{self.type.text}"
         return READERS[self.presence]
 
-    def reads_owned(self):
-        """How the member is read of a value that is consumed."""
-        if self.type.kind:
-            return f'optional_as_owned::<{self.type.kind}, {self.type.rust}>(alloc, {self.field}, NAME, "{self.name}")'
-        if self.second:
-            return f'optional_either_owned(alloc, {self.field}, other_{self.field}, NAME, "{self.name}", "{self.second}")'
-        return f'{READ[self.presence]}_owned(alloc, {self.field}, NAME, "{self.name}")'
+    def names(self):
+        """The name that the member is read by, or that and its alias."""
+        return f'("{self.name}", "{self.second}")' if self.second else f'"{self.name}"'
 
     def writes(self):
         if self.type.kind:
@@ -160,7 +156,7 @@ class Member:
 
 class Record:
     # marks of one word
-    FLAGS = ("whole", "copy", "consuming", "calls")
+    FLAGS = ("whole", "copy", "calls")
     # lists of words
     LISTS = ("required", "long", "by_hand", "fixed")
     # a text
@@ -190,14 +186,12 @@ class Record:
         elif word == "public":
             part, *items = rest.split()
             self.reexports[part] = items
-        elif word in READ:
+        elif word in READERS:
             self.members.append(Member(word, *rest.split(None, 3), self.book))
         else:
             raise SystemExit(f"{self.book.path}: no such word: {word} {rest}")
 
     def fill_defaults(self):
-        if self.consuming and any(m.presence in "DNE" for m in self.members):
-            raise SystemExit(f"{self.book.path}: {self.name} is consuming, so its members have to be required or optional")
         for m in self.members:
             if m.field in self.defaults:
                 continue
@@ -236,15 +230,6 @@ class Record:
     def default_is_in_a_shape(self):
         """Whether another record's shape names its default, so that it is specified beside the shapes."""
         return any(m.presence == "D" and m.type.text == self.name for book in self.book.all() for r in book.records for m in r.members)
-
-    def names(self):
-        """The JSON names of its members, each with the local that holds what was taken by it."""
-        listed = []
-        for m in self.members:
-            listed.append((m.name, m.field))
-            if m.second:
-                listed.append((m.second, f"other_{m.field}"))
-        return listed
 
 
 class Book:

@@ -5,7 +5,7 @@ from generator.accessors import fields_source
 from generator.builders import builder_source, refusable
 from generator.calls import SHAPES, calls_source
 from generator.output import module_list
-from generator.proofs import build_answers, copy_answers, owned_answers, read_answers, write_answers
+from generator.proofs import build_answers, copy_answers, read_answers, write_answers
 from generator.shapes import shape_spec, well
 from generator.source import source
 from generator.specs import builder_spec, spec
@@ -33,11 +33,8 @@ def files(r):
     answers = f"proofs/{r.word}/{r.name}OciRecord"
     if not r.copy and any(m.copies() for m in r.members):
         out[f"{answers}/duplicate/Answers.antt"] = copy_answers(r)
+    out[f"{answers}/from_value_owned/Answers.antt"] = read_answers(r)
     out[f"{answers}/to_value/Answers.antt"] = write_answers(r)
-    if r.consuming and len(r.names()) > 4:
-        out[f"{answers}/from_value_owned/Answers.antt"] = owned_answers(r)
-    if not r.consuming:
-        out[f"{answers}/from_value/Answers.antt"] = read_answers(r)
     return {os.path.normpath(f"crates/{r.book.crate}/{path}"): text for path, text in out.items()}
 
 

@@ -3,7 +3,7 @@ import os
 import re
 
 from generator.calls import SHAPES
-from generator.records import NUMBERS, OPEN_NAMES, READ, snake
+from generator.records import NUMBERS, OPEN_NAMES, PRESENCES, snake
 from generator.specs import default_content
 from generator.text import imported, used
 
@@ -15,7 +15,7 @@ SHAPE_WORDS = ["row", "listed", "required", "optional", "defaulted", "nullable",
 def shape_rows(r):
     rows = "rows (\n"
     for i, m in enumerate(r.members):
-        presence = READ[m.presence]
+        presence = PRESENCES[m.presence]
         if m.presence == "D":
             presence = f"(defaulted ({m.absent()[0]}))"
         shape = m.type.shape

@@ -158,7 +158,7 @@ def source(r):
     body = struct(r) + "\n" + (bare(r) + "\n" if r.above else "") + inherent(r) + (display(r) if r.display else "") + "\n" + conversions(r)
     if "builder" not in r.long and not r.above:
         body += "\n" + builder(r)
-    schema = ["OciRecord"] + ["fault"] * ("fault::" in body) + model_calls(body)
+    schema = ["OciRecord"] + model_calls(body)
     out = f"//! {r.about}\nghost use Rattle.std.specs.Prelude.{{◌≡◌, {'None, ' if r.above else ''}IfOk, IfErr}};\n\n"
     out += modules(r) + "".join(reexports(r)) + imports(r, body, schema) + std_imports(r, body)
     return out + f'\nconst NAME: &str = "{r.name}";\n\n' + body

@@ -6,7 +6,7 @@ use crate::linux_throttle_device::LinuxThrottleDevice;
 use crate::linux_weight_device::LinuxWeightDevice;
 use oci_base::{OciSpecError, Result};
 use oci_model::{
-    ObjectWriter, OciRecord, Optional, copy_optional, read3, read4, try_join2, try_join5,
+    ObjectWriter, OciRecord, Optional, copy_optional, nested, read_members, try_join5,
     write_optional,
 };
 use serde_json::Value;
@@ -206,23 +206,34 @@ impl OciRecord for LinuxBlockIo {
     ghost plain = { linux_block_io_plain };
 
     fn from_value(alloc: Global, value: &Value) -> Result<LinuxBlockIo> {
-        let (
-            (weight, leaf_weight, weight_device, throttle_read_bps_device),
-            (throttle_write_bps_device, throttle_read_iops_device, throttle_write_iops_device),
-        ) = try_join2(
-            read4::<Optional, Optional, Optional, Optional, _, _, _, _>(
-                alloc,
-                value,
-                NAME,
+        let value = value.clone()?;
+        Self::from_value_owned(alloc, value)
+    }
+
+    fn from_value_owned(alloc: Global, value: Value) -> Result<LinuxBlockIo> {
+        let nested!(
+            weight,
+            leaf_weight,
+            weight_device,
+            throttle_read_bps_device,
+            throttle_write_bps_device,
+            throttle_read_iops_device,
+            throttle_write_iops_device,
+        ) = read_members::<
+            nested!(
+                Optional, Optional, Optional, Optional, Optional, Optional, Optional
+            ),
+            _,
+            _,
+        >(
+            alloc,
+            value,
+            NAME,
+            nested!(
                 "weight",
                 "leafWeight",
                 "weightDevice",
                 "throttleReadBpsDevice",
-            ),
-            read3::<Optional, Optional, Optional, _, _, _>(
-                alloc,
-                value,
-                NAME,
                 "throttleWriteBpsDevice",
                 "throttleReadIOPSDevice",
                 "throttleWriteIOPSDevice",

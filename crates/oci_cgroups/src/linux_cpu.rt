@@ -7,7 +7,8 @@ pub mod builder;
 pub use builder::LinuxCpuBuilder;
 use oci_base::{OciSpecError, Result};
 use oci_model::{
-    ObjectWriter, OciRecord, Optional, copy_optional, read4, read5, try_join2, write_optional,
+    ObjectWriter, OciRecord, Optional, copy_optional, nested, read_members, try_join2,
+    write_optional,
 };
 use serde_json::Value;
 use std::alloc::Global;
@@ -230,17 +231,38 @@ impl OciRecord for LinuxCpu {
     ghost plain = { linux_cpu_plain };
 
     fn from_value(alloc: Global, value: &Value) -> Result<LinuxCpu> {
-        let (
-            (shares, quota, idle, burst, period),
-            (realtime_runtime, realtime_period, cpus, mems),
-        ) = try_join2(
-            read5::<Optional, Optional, Optional, Optional, Optional, _, _, _, _, _>(
-                alloc, value, NAME, "shares", "quota", "idle", "burst", "period",
+        let value = value.clone()?;
+        Self::from_value_owned(alloc, value)
+    }
+
+    fn from_value_owned(alloc: Global, value: Value) -> Result<LinuxCpu> {
+        let nested!(
+            shares,
+            quota,
+            idle,
+            burst,
+            period,
+            realtime_runtime,
+            realtime_period,
+            cpus,
+            mems,
+        ) = read_members::<
+            nested!(
+                Optional, Optional, Optional, Optional, Optional, Optional, Optional, Optional,
+                Optional,
             ),
-            read4::<Optional, Optional, Optional, Optional, _, _, _, _>(
-                alloc,
-                value,
-                NAME,
+            _,
+            _,
+        >(
+            alloc,
+            value,
+            NAME,
+            nested!(
+                "shares",
+                "quota",
+                "idle",
+                "burst",
+                "period",
                 "realtimeRuntime",
                 "realtimePeriod",
                 "cpus",

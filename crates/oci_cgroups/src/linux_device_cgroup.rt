@@ -4,8 +4,8 @@ ghost use Rattle.std.specs.Prelude.{◌≡◌, IfOk, IfErr};
 
 use oci_base::{OciSpecError, Result};
 use oci_model::{
-    Defaulted, Nullable, ObjectWriter, OciRecord, Optional, copy_optional, read5, write_nullable,
-    write_optional, write_required,
+    Defaulted, Nullable, ObjectWriter, OciRecord, Optional, copy_optional, nested, read_members,
+    write_nullable, write_optional, write_required,
 };
 use oci_text::LinuxDeviceType;
 use serde_json::Value;
@@ -195,19 +195,20 @@ impl OciRecord for LinuxDeviceCgroup {
     ghost plain = { linux_device_cgroup_plain };
 
     fn from_value(alloc: Global, value: &Value) -> Result<LinuxDeviceCgroup> {
-        let (allow, typ, major, minor, access) = read5::<
-            Defaulted,
-            Optional,
-            Optional,
-            Optional,
-            Nullable,
-            _,
-            _,
-            _,
+        let value = value.clone()?;
+        Self::from_value_owned(alloc, value)
+    }
+
+    fn from_value_owned(alloc: Global, value: Value) -> Result<LinuxDeviceCgroup> {
+        let nested!(allow, typ, major, minor, access) = read_members::<
+            nested!(Defaulted, Optional, Optional, Optional, Nullable),
             _,
             _,
         >(
-            alloc, value, NAME, "allow", "type", "major", "minor", "access",
+            alloc,
+            value,
+            NAME,
+            nested!("allow", "type", "major", "minor", "access"),
         )?;
         Ok(LinuxDeviceCgroup {
             allow,

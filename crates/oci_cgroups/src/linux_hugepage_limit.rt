@@ -3,7 +3,9 @@
 ghost use Rattle.std.specs.Prelude.{◌≡◌, IfOk, IfErr};
 
 use oci_base::{OciSpecError, Result};
-use oci_model::{Defaulted, ObjectWriter, OciMember, OciRecord, read2, write_required};
+use oci_model::{
+    Defaulted, ObjectWriter, OciMember, OciRecord, nested, read_members, write_required,
+};
 use serde_json::Value;
 use std::alloc::Global;
 
@@ -89,8 +91,16 @@ impl OciRecord for LinuxHugepageLimit {
     ghost plain = { linux_hugepage_limit_plain };
 
     fn from_value(alloc: Global, value: &Value) -> Result<LinuxHugepageLimit> {
-        let (page_size, limit) = read2::<Defaulted, Defaulted, _, _>(
-            alloc, value, NAME, "pageSize", "limit",
+        let value = value.clone()?;
+        Self::from_value_owned(alloc, value)
+    }
+
+    fn from_value_owned(alloc: Global, value: Value) -> Result<LinuxHugepageLimit> {
+        let nested!(page_size, limit) = read_members::<nested!(Defaulted, Defaulted), _, _>(
+            alloc,
+            value,
+            NAME,
+            nested!("pageSize", "limit"),
         )?;
         Ok(LinuxHugepageLimit { page_size, limit })
     }

@@ -3,7 +3,9 @@
 ghost use Rattle.std.specs.Prelude.{◌≡◌, IfOk, IfErr};
 
 use oci_base::{OciSpecError, Result};
-use oci_model::{Defaulted, ObjectWriter, OciMember, OciRecord, read2, write_required};
+use oci_model::{
+    Defaulted, ObjectWriter, OciMember, OciRecord, nested, read_members, write_required,
+};
 use serde_json::Value;
 use std::alloc::Global;
 
@@ -88,8 +90,16 @@ impl OciRecord for LinuxInterfacePriority {
     ghost plain = { linux_interface_priority_plain };
 
     fn from_value(alloc: Global, value: &Value) -> Result<LinuxInterfacePriority> {
-        let (name, priority) = read2::<Defaulted, Defaulted, _, _>(
-            alloc, value, NAME, "name", "priority",
+        let value = value.clone()?;
+        Self::from_value_owned(alloc, value)
+    }
+
+    fn from_value_owned(alloc: Global, value: Value) -> Result<LinuxInterfacePriority> {
+        let nested!(name, priority) = read_members::<nested!(Defaulted, Defaulted), _, _>(
+            alloc,
+            value,
+            NAME,
+            nested!("name", "priority"),
         )?;
         Ok(LinuxInterfacePriority { name, priority })
     }

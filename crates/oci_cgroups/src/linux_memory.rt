@@ -6,7 +6,7 @@ pub mod builder;
 
 pub use builder::LinuxMemoryBuilder;
 use oci_base::{OciSpecError, Result};
-use oci_model::{ObjectWriter, OciRecord, Optional, read4, read5, try_join2, write_optional};
+use oci_model::{ObjectWriter, OciRecord, Optional, nested, read_members, write_optional};
 use serde_json::Value;
 use std::alloc::Global;
 
@@ -210,24 +210,38 @@ impl OciRecord for LinuxMemory {
     ghost plain = { linux_memory_plain };
 
     fn from_value(alloc: Global, value: &Value) -> Result<LinuxMemory> {
-        let (
-            (limit, reservation, swap, kernel, kernel_tcp),
-            (swappiness, disable_oom_killer, use_hierarchy, check_before_update),
-        ) = try_join2(
-            read5::<Optional, Optional, Optional, Optional, Optional, _, _, _, _, _>(
-                alloc,
-                value,
-                NAME,
+        let value = value.clone()?;
+        Self::from_value_owned(alloc, value)
+    }
+
+    fn from_value_owned(alloc: Global, value: Value) -> Result<LinuxMemory> {
+        let nested!(
+            limit,
+            reservation,
+            swap,
+            kernel,
+            kernel_tcp,
+            swappiness,
+            disable_oom_killer,
+            use_hierarchy,
+            check_before_update,
+        ) = read_members::<
+            nested!(
+                Optional, Optional, Optional, Optional, Optional, Optional, Optional, Optional,
+                Optional,
+            ),
+            _,
+            _,
+        >(
+            alloc,
+            value,
+            NAME,
+            nested!(
                 "limit",
                 "reservation",
                 "swap",
                 "kernel",
                 "kernelTCP",
-            ),
-            read4::<Optional, Optional, Optional, Optional, _, _, _, _>(
-                alloc,
-                value,
-                NAME,
                 "swappiness",
                 "disableOOMKiller",
                 "useHierarchy",

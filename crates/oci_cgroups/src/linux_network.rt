@@ -4,7 +4,9 @@ ghost use Rattle.std.specs.Prelude.{◌≡◌, IfOk, IfErr};
 
 use crate::linux_interface_priority::LinuxInterfacePriority;
 use oci_base::{OciSpecError, Result};
-use oci_model::{ObjectWriter, OciRecord, Optional, copy_optional, read2, write_optional};
+use oci_model::{
+    ObjectWriter, OciRecord, Optional, copy_optional, nested, read_members, write_optional,
+};
 use serde_json::Value;
 use std::alloc::Global;
 
@@ -93,12 +95,16 @@ impl OciRecord for LinuxNetwork {
     ghost plain = { linux_network_plain };
 
     fn from_value(alloc: Global, value: &Value) -> Result<LinuxNetwork> {
-        let (class_id, priorities) = read2::<Optional, Optional, _, _>(
+        let value = value.clone()?;
+        Self::from_value_owned(alloc, value)
+    }
+
+    fn from_value_owned(alloc: Global, value: Value) -> Result<LinuxNetwork> {
+        let nested!(class_id, priorities) = read_members::<nested!(Optional, Optional), _, _>(
             alloc,
             value,
             NAME,
-            "classID",
-            "priorities",
+            nested!("classID", "priorities"),
         )?;
         Ok(LinuxNetwork {
             class_id,

@@ -3,7 +3,7 @@
 ghost use Rattle.std.specs.Prelude.{◌≡◌, IfOk, IfErr};
 
 use oci_base::{OciSpecError, Result};
-use oci_model::{Defaulted, ObjectWriter, OciRecord, read1, write_required};
+use oci_model::{Defaulted, ObjectWriter, OciRecord, nested, read_members, write_required};
 use serde_json::Value;
 use std::alloc::Global;
 
@@ -62,7 +62,17 @@ impl OciRecord for LinuxPids {
     ghost plain = { linux_pids_plain };
 
     fn from_value(alloc: Global, value: &Value) -> Result<LinuxPids> {
-        let limit = read1::<Defaulted, _>(alloc, value, NAME, "limit")?;
+        let value = value.clone()?;
+        Self::from_value_owned(alloc, value)
+    }
+
+    fn from_value_owned(alloc: Global, value: Value) -> Result<LinuxPids> {
+        let nested!(limit) = read_members::<nested!(Defaulted), _, _>(
+            alloc,
+            value,
+            NAME,
+            nested!("limit"),
+        )?;
         Ok(LinuxPids { limit })
     }
 

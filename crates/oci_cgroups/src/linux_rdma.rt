@@ -3,7 +3,7 @@
 ghost use Rattle.std.specs.Prelude.{◌≡◌, IfOk, IfErr};
 
 use oci_base::{OciSpecError, Result};
-use oci_model::{ObjectWriter, OciRecord, Optional, read2, write_optional};
+use oci_model::{ObjectWriter, OciRecord, Optional, nested, read_members, write_optional};
 use serde_json::Value;
 use std::alloc::Global;
 
@@ -82,12 +82,16 @@ impl OciRecord for LinuxRdma {
     ghost plain = { linux_rdma_plain };
 
     fn from_value(alloc: Global, value: &Value) -> Result<LinuxRdma> {
-        let (hca_handles, hca_objects) = read2::<Optional, Optional, _, _>(
+        let value = value.clone()?;
+        Self::from_value_owned(alloc, value)
+    }
+
+    fn from_value_owned(alloc: Global, value: Value) -> Result<LinuxRdma> {
+        let nested!(hca_handles, hca_objects) = read_members::<nested!(Optional, Optional), _, _>(
             alloc,
             value,
             NAME,
-            "hcaHandles",
-            "hcaObjects",
+            nested!("hcaHandles", "hcaObjects"),
         )?;
         Ok(LinuxRdma {
             hca_handles,

@@ -15,7 +15,7 @@ use crate::linux_rdma::LinuxRdma;
 pub use builder::LinuxResourcesBuilder;
 use oci_base::{OciSpecError, Result};
 use oci_model::{
-    ObjectWriter, OciRecord, Optional, copy_optional, read4, read5, try_join2, try_join3,
+    ObjectWriter, OciRecord, Optional, copy_optional, nested, read_members, try_join2, try_join3,
     try_join4, write_optional,
 };
 use serde_json::Value;
@@ -324,21 +324,44 @@ impl OciRecord for LinuxResources {
     ghost plain = { linux_resources_plain };
 
     fn from_value(alloc: Global, value: &Value) -> Result<LinuxResources> {
-        let ((devices, memory, cpu, pids, block_io), (hugepage_limits, network, rdma, unified)) =
-            try_join2(
-                read5::<Optional, Optional, Optional, Optional, Optional, _, _, _, _, _>(
-                    alloc, value, NAME, "devices", "memory", "cpu", "pids", "blockIO",
-                ),
-                read4::<Optional, Optional, Optional, Optional, _, _, _, _>(
-                    alloc,
-                    value,
-                    NAME,
-                    "hugepageLimits",
-                    "network",
-                    "rdma",
-                    "unified",
-                ),
-            )?;
+        let value = value.clone()?;
+        Self::from_value_owned(alloc, value)
+    }
+
+    fn from_value_owned(alloc: Global, value: Value) -> Result<LinuxResources> {
+        let nested!(
+            devices,
+            memory,
+            cpu,
+            pids,
+            block_io,
+            hugepage_limits,
+            network,
+            rdma,
+            unified,
+        ) = read_members::<
+            nested!(
+                Optional, Optional, Optional, Optional, Optional, Optional, Optional, Optional,
+                Optional,
+            ),
+            _,
+            _,
+        >(
+            alloc,
+            value,
+            NAME,
+            nested!(
+                "devices",
+                "memory",
+                "cpu",
+                "pids",
+                "blockIO",
+                "hugepageLimits",
+                "network",
+                "rdma",
+                "unified",
+            ),
+        )?;
         Ok(LinuxResources {
             devices,
             memory,

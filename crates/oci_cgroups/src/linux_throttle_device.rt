@@ -3,7 +3,7 @@
 ghost use Rattle.std.specs.Prelude.{◌≡◌, IfOk, IfErr};
 
 use oci_base::{OciSpecError, Result};
-use oci_model::{Defaulted, ObjectWriter, OciRecord, read3, write_required};
+use oci_model::{Defaulted, ObjectWriter, OciRecord, nested, read_members, write_required};
 use serde_json::Value;
 use std::alloc::Global;
 
@@ -73,9 +73,16 @@ impl OciRecord for LinuxThrottleDevice {
     ghost plain = { linux_throttle_device_plain };
 
     fn from_value(alloc: Global, value: &Value) -> Result<LinuxThrottleDevice> {
-        let (major, minor, rate) = read3::<Defaulted, Defaulted, Defaulted, _, _, _>(
-            alloc, value, NAME, "major", "minor", "rate",
-        )?;
+        let value = value.clone()?;
+        Self::from_value_owned(alloc, value)
+    }
+
+    fn from_value_owned(alloc: Global, value: Value) -> Result<LinuxThrottleDevice> {
+        let nested!(major, minor, rate) = read_members::<
+            nested!(Defaulted, Defaulted, Defaulted),
+            _,
+            _,
+        >(alloc, value, NAME, nested!("major", "minor", "rate"))?;
         Ok(LinuxThrottleDevice { major, minor, rate })
     }
 

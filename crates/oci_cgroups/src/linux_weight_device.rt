@@ -4,7 +4,8 @@ ghost use Rattle.std.specs.Prelude.{◌≡◌, IfOk, IfErr};
 
 use oci_base::{OciSpecError, Result};
 use oci_model::{
-    Defaulted, ObjectWriter, OciRecord, Optional, read4, write_optional, write_required,
+    Defaulted, ObjectWriter, OciRecord, Optional, nested, read_members, write_optional,
+    write_required,
 };
 use serde_json::Value;
 use std::alloc::Global;
@@ -86,16 +87,21 @@ impl OciRecord for LinuxWeightDevice {
     ghost plain = { linux_weight_device_plain };
 
     fn from_value(alloc: Global, value: &Value) -> Result<LinuxWeightDevice> {
-        let (major, minor, weight, leaf_weight) = read4::<
-            Defaulted,
-            Defaulted,
-            Optional,
-            Optional,
+        let value = value.clone()?;
+        Self::from_value_owned(alloc, value)
+    }
+
+    fn from_value_owned(alloc: Global, value: Value) -> Result<LinuxWeightDevice> {
+        let nested!(major, minor, weight, leaf_weight) = read_members::<
+            nested!(Defaulted, Defaulted, Optional, Optional),
             _,
             _,
-            _,
-            _,
-        >(alloc, value, NAME, "major", "minor", "weight", "leafWeight")?;
+        >(
+            alloc,
+            value,
+            NAME,
+            nested!("major", "minor", "weight", "leafWeight"),
+        )?;
         Ok(LinuxWeightDevice {
             major,
             minor,

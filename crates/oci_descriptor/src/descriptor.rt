@@ -9,8 +9,8 @@ use crate::platform::Platform;
 pub use builder::DescriptorBuilder;
 use oci_base::{OciSpecError, Result};
 use oci_model::{
-    ObjectWriter, OciMember, OciRecord, copy_optional, fault, optional_owned, required_owned,
-    taken_8, try_join2, try_join3, try_join4, write_optional, write_required,
+    ObjectWriter, OciMember, OciRecord, Optional, Required, copy_optional, nested, read_members,
+    try_join2, try_join3, try_join4, write_optional, write_required,
 };
 use oci_text::{Digest, MediaType};
 use serde_json::Value;
@@ -208,14 +208,27 @@ impl OciRecord for Descriptor {
         Self::from_value_owned(alloc, value)
     }
 
-    #[tactic(auto, using(oci_model::proofs::Readers::refuses_others))]
     fn from_value_owned(alloc: Global, value: Value) -> Result<Descriptor> {
-        let Some(
-            (media_type, digest, size, urls, annotations, platform, artifact_type, embedded_data),
-        ) = taken_8(
+        let nested!(
+            media_type,
+            digest,
+            size,
+            urls,
+            annotations,
+            platform,
+            artifact_type,
+            embedded_data,
+        ) = read_members::<
+            nested!(
+                Required, Required, Required, Optional, Optional, Optional, Optional, Optional,
+            ),
+            _,
+            _,
+        >(
             alloc,
             value,
-            &[
+            NAME,
+            nested!(
                 "mediaType",
                 "digest",
                 "size",
@@ -224,26 +237,6 @@ impl OciRecord for Descriptor {
                 "platform",
                 "artifactType",
                 "data",
-            ],
-        )?
-        else {
-            return Err(fault::refused(NAME, ""));
-        };
-        let (
-            (media_type, digest, size, urls),
-            (annotations, platform, artifact_type, embedded_data),
-        ) = try_join2(
-            try_join4(
-                required_owned(alloc, media_type, NAME, "mediaType"),
-                required_owned(alloc, digest, NAME, "digest"),
-                required_owned(alloc, size, NAME, "size"),
-                optional_owned(alloc, urls, NAME, "urls"),
-            ),
-            try_join4(
-                optional_owned(alloc, annotations, NAME, "annotations"),
-                optional_owned(alloc, platform, NAME, "platform"),
-                optional_owned(alloc, artifact_type, NAME, "artifactType"),
-                optional_owned(alloc, embedded_data, NAME, "data"),
             ),
         )?;
         Ok(Descriptor {

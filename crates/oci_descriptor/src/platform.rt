@@ -4,8 +4,8 @@ ghost use Rattle.std.specs.Prelude.{◌≡◌, IfOk, IfErr};
 
 use oci_base::{OciSpecError, Result, UninitializedFieldError};
 use oci_model::{
-    ObjectWriter, OciMember, OciRecord, copy_optional, fault, optional_either_owned,
-    optional_owned, required_owned, taken_8, try_join2, try_join3, write_optional, write_required,
+    ObjectWriter, OciMember, OciRecord, Optional, Required, copy_optional, nested, read_members,
+    try_join2, try_join3, write_optional, write_required,
 };
 use oci_text::{Arch, Os};
 use serde_json::Value;
@@ -179,60 +179,22 @@ impl OciRecord for Platform {
         Self::from_value_owned(alloc, value)
     }
 
-    #[tactic(auto, using(oci_model::proofs::Readers::refuses_others))]
     fn from_value_owned(alloc: Global, value: Value) -> Result<Platform> {
-        let Some(
-            (
-                architecture,
-                os,
-                os_version,
-                other_os_version,
-                os_features,
-                other_os_features,
-                variant,
-                features,
-            ),
-        ) = taken_8(
+        let nested!(architecture, os, os_version, os_features, variant, features) = read_members::<
+            nested!(Required, Required, Optional, Optional, Optional, Optional),
+            _,
+            _,
+        >(
             alloc,
             value,
-            &[
+            NAME,
+            nested!(
                 "architecture",
                 "os",
-                "os.version",
-                "os_version",
-                "os.features",
-                "os_features",
+                ("os.version", "os_version"),
+                ("os.features", "os_features"),
                 "variant",
                 "features",
-            ],
-        )?
-        else {
-            return Err(fault::refused(NAME, ""));
-        };
-        let ((architecture, os, os_version), (os_features, variant, features)) = try_join2(
-            try_join3(
-                required_owned(alloc, architecture, NAME, "architecture"),
-                required_owned(alloc, os, NAME, "os"),
-                optional_either_owned(
-                    alloc,
-                    os_version,
-                    other_os_version,
-                    NAME,
-                    "os.version",
-                    "os_version",
-                ),
-            ),
-            try_join3(
-                optional_either_owned(
-                    alloc,
-                    os_features,
-                    other_os_features,
-                    NAME,
-                    "os.features",
-                    "os_features",
-                ),
-                optional_owned(alloc, variant, NAME, "variant"),
-                optional_owned(alloc, features, NAME, "features"),
             ),
         )?;
         Ok(Platform {

@@ -5,7 +5,7 @@ ghost use Rattle.std.specs.Prelude.{◌≡◌, IfOk, IfErr};
 use oci_base::{OciSpecError, Result, UninitializedFieldError};
 use oci_model::{
     As, Detail, ObjectWriter, OciRecord, Optional, Required, copy_optional, copy_optional_as,
-    read3, try_join2, write_optional, write_optional_as, write_required,
+    nested, read_members, try_join2, write_optional, write_optional_as, write_required,
 };
 use oci_text::ErrorCode;
 use serde_json::Value;
@@ -75,9 +75,16 @@ impl OciRecord for ErrorInfo {
     ghost plain = { error_info_plain };
 
     fn from_value(alloc: Global, value: &Value) -> Result<ErrorInfo> {
-        let (code, message, detail) = read3::<Required, Optional, As<Detail>, _, _, _>(
-            alloc, value, NAME, "code", "message", "detail",
-        )?;
+        let value = value.clone()?;
+        Self::from_value_owned(alloc, value)
+    }
+
+    fn from_value_owned(alloc: Global, value: Value) -> Result<ErrorInfo> {
+        let nested!(code, message, detail) = read_members::<
+            nested!(Required, Optional, As<Detail>),
+            _,
+            _,
+        >(alloc, value, NAME, nested!("code", "message", "detail"))?;
         Ok(ErrorInfo {
             code,
             message,

@@ -6,7 +6,9 @@ mod own;
 
 use crate::error_info::ErrorInfo;
 use oci_base::{OciSpecError, Result, UninitializedFieldError};
-use oci_model::{ObjectWriter, OciMember, OciRecord, Required, read1, write_required};
+use oci_model::{
+    ObjectWriter, OciMember, OciRecord, Required, nested, read_members, write_required,
+};
 pub use own::ERR_REGISTRY;
 use serde_json::Value;
 use std::alloc::Global;
@@ -55,7 +57,17 @@ impl OciRecord for ErrorResponse {
     ghost plain = { error_response_plain };
 
     fn from_value(alloc: Global, value: &Value) -> Result<ErrorResponse> {
-        let errors = read1::<Required, _>(alloc, value, NAME, "errors")?;
+        let value = value.clone()?;
+        Self::from_value_owned(alloc, value)
+    }
+
+    fn from_value_owned(alloc: Global, value: Value) -> Result<ErrorResponse> {
+        let nested!(errors) = read_members::<nested!(Required), _, _>(
+            alloc,
+            value,
+            NAME,
+            nested!("errors"),
+        )?;
         Ok(ErrorResponse { errors })
     }
 

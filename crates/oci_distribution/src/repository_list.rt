@@ -3,7 +3,9 @@
 ghost use Rattle.std.specs.Prelude.{◌≡◌, IfOk, IfErr};
 
 use oci_base::{OciSpecError, Result, UninitializedFieldError};
-use oci_model::{ObjectWriter, OciMember, OciRecord, Required, read1, write_required};
+use oci_model::{
+    ObjectWriter, OciMember, OciRecord, Required, nested, read_members, write_required,
+};
 use serde_json::Value;
 use std::alloc::Global;
 
@@ -59,7 +61,17 @@ impl OciRecord for RepositoryList {
     ghost plain = { repository_list_plain };
 
     fn from_value(alloc: Global, value: &Value) -> Result<RepositoryList> {
-        let repositories = read1::<Required, _>(alloc, value, NAME, "repositories")?;
+        let value = value.clone()?;
+        Self::from_value_owned(alloc, value)
+    }
+
+    fn from_value_owned(alloc: Global, value: Value) -> Result<RepositoryList> {
+        let nested!(repositories) = read_members::<nested!(Required), _, _>(
+            alloc,
+            value,
+            NAME,
+            nested!("repositories"),
+        )?;
         Ok(RepositoryList { repositories })
     }
 

@@ -3,7 +3,9 @@
 ghost use Rattle.std.specs.Prelude.{◌≡◌, IfOk, IfErr};
 
 use oci_base::{OciSpecError, Result, UninitializedFieldError};
-use oci_model::{ObjectWriter, OciMember, OciRecord, Required, read2, try_join2, write_required};
+use oci_model::{
+    ObjectWriter, OciMember, OciRecord, Required, nested, read_members, try_join2, write_required,
+};
 use serde_json::Value;
 use std::alloc::Global;
 
@@ -76,7 +78,17 @@ impl OciRecord for TagList {
     ghost plain = { tag_list_plain };
 
     fn from_value(alloc: Global, value: &Value) -> Result<TagList> {
-        let (name, tags) = read2::<Required, Required, _, _>(alloc, value, NAME, "name", "tags")?;
+        let value = value.clone()?;
+        Self::from_value_owned(alloc, value)
+    }
+
+    fn from_value_owned(alloc: Global, value: Value) -> Result<TagList> {
+        let nested!(name, tags) = read_members::<nested!(Required, Required), _, _>(
+            alloc,
+            value,
+            NAME,
+            nested!("name", "tags"),
+        )?;
         Ok(TagList { name, tags })
     }
 

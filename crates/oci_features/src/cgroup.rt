@@ -3,7 +3,7 @@
 ghost use Rattle.std.specs.Prelude.{◌≡◌, IfOk, IfErr};
 
 use oci_base::{OciSpecError, Result};
-use oci_model::{Nullable, ObjectWriter, OciRecord, read5, write_nullable};
+use oci_model::{Nullable, ObjectWriter, OciRecord, nested, read_members, write_nullable};
 use serde_json::Value;
 use std::alloc::Global;
 
@@ -188,26 +188,20 @@ impl OciRecord for Cgroup {
     ghost plain = { cgroup_plain };
 
     fn from_value(alloc: Global, value: &Value) -> Result<Cgroup> {
-        let (v1, v2, systemd, systemd_user, rdma) = read5::<
-            Nullable,
-            Nullable,
-            Nullable,
-            Nullable,
-            Nullable,
-            _,
-            _,
-            _,
+        let value = value.clone()?;
+        Self::from_value_owned(alloc, value)
+    }
+
+    fn from_value_owned(alloc: Global, value: Value) -> Result<Cgroup> {
+        let nested!(v1, v2, systemd, systemd_user, rdma) = read_members::<
+            nested!(Nullable, Nullable, Nullable, Nullable, Nullable),
             _,
             _,
         >(
             alloc,
             value,
             NAME,
-            "v1",
-            "v2",
-            "systemd",
-            "systemdUser",
-            "rdma",
+            nested!("v1", "v2", "systemd", "systemdUser", "rdma"),
         )?;
         Ok(Cgroup {
             v1,

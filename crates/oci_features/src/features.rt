@@ -5,8 +5,8 @@ ghost use Rattle.std.specs.Prelude.{◌≡◌, IfOk, IfErr};
 use crate::linux_feature::LinuxFeature;
 use oci_base::{OciSpecError, Result};
 use oci_model::{
-    Nullable, ObjectWriter, OciMember, OciRecord, Required, copy_optional, read3, read4, try_join2,
-    try_join3, try_join4, write_nullable, write_required,
+    Nullable, ObjectWriter, OciMember, OciRecord, Required, copy_optional, nested, read_members,
+    try_join2, try_join3, try_join4, write_nullable, write_required,
 };
 use serde_json::Value;
 use std::alloc::Global;
@@ -254,23 +254,34 @@ impl OciRecord for Features {
     ghost plain = { features_plain };
 
     fn from_value(alloc: Global, value: &Value) -> Result<Features> {
-        let (
-            (oci_version_min, oci_version_max, hooks, mount_options),
-            (linux, annotations, potentially_unsafe_config_annotations),
-        ) = try_join2(
-            read4::<Required, Required, Nullable, Nullable, _, _, _, _>(
-                alloc,
-                value,
-                NAME,
+        let value = value.clone()?;
+        Self::from_value_owned(alloc, value)
+    }
+
+    fn from_value_owned(alloc: Global, value: Value) -> Result<Features> {
+        let nested!(
+            oci_version_min,
+            oci_version_max,
+            hooks,
+            mount_options,
+            linux,
+            annotations,
+            potentially_unsafe_config_annotations,
+        ) = read_members::<
+            nested!(
+                Required, Required, Nullable, Nullable, Nullable, Nullable, Nullable
+            ),
+            _,
+            _,
+        >(
+            alloc,
+            value,
+            NAME,
+            nested!(
                 "ociVersionMin",
                 "ociVersionMax",
                 "hooks",
                 "mountOptions",
-            ),
-            read3::<Nullable, Nullable, Nullable, _, _, _>(
-                alloc,
-                value,
-                NAME,
                 "linux",
                 "annotations",
                 "potentiallyUnsafeConfigAnnotations",

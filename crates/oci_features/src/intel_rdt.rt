@@ -3,7 +3,7 @@
 ghost use Rattle.std.specs.Prelude.{◌≡◌, IfOk, IfErr};
 
 use oci_base::{OciSpecError, Result};
-use oci_model::{ObjectWriter, OciRecord, Optional, read3, write_optional};
+use oci_model::{ObjectWriter, OciRecord, Optional, nested, read_members, write_optional};
 use serde_json::Value;
 use std::alloc::Global;
 
@@ -135,13 +135,20 @@ impl OciRecord for IntelRdt {
     ghost plain = { intel_rdt_plain };
 
     fn from_value(alloc: Global, value: &Value) -> Result<IntelRdt> {
-        let (enabled, schemata, monitoring) = read3::<Optional, Optional, Optional, _, _, _>(
+        let value = value.clone()?;
+        Self::from_value_owned(alloc, value)
+    }
+
+    fn from_value_owned(alloc: Global, value: Value) -> Result<IntelRdt> {
+        let nested!(enabled, schemata, monitoring) = read_members::<
+            nested!(Optional, Optional, Optional),
+            _,
+            _,
+        >(
             alloc,
             value,
             NAME,
-            "enabled",
-            "schemata",
-            "monitoring",
+            nested!("enabled", "schemata", "monitoring"),
         )?;
         Ok(IntelRdt {
             enabled,

@@ -15,7 +15,8 @@ use crate::selinux::Selinux;
 pub use builder::LinuxFeatureBuilder;
 use oci_base::{OciSpecError, Result};
 use oci_model::{
-    Nullable, ObjectWriter, OciRecord, copy_optional, read5, try_join2, try_join5, write_nullable,
+    Nullable, ObjectWriter, OciRecord, copy_optional, nested, read_members, try_join2, try_join5,
+    write_nullable,
 };
 use oci_text::LinuxNamespaceType;
 use serde_json::Value;
@@ -346,24 +347,39 @@ impl OciRecord for LinuxFeature {
     ghost plain = { linux_feature_plain };
 
     fn from_value(alloc: Global, value: &Value) -> Result<LinuxFeature> {
-        let (
-            (namespaces, capabilities, cgroup, seccomp, apparmor),
-            (selinux, intel_rdt, memory_policy, mount_extensions, net_devices),
-        ) = try_join2(
-            read5::<Nullable, Nullable, Nullable, Nullable, Nullable, _, _, _, _, _>(
-                alloc,
-                value,
-                NAME,
+        let value = value.clone()?;
+        Self::from_value_owned(alloc, value)
+    }
+
+    fn from_value_owned(alloc: Global, value: Value) -> Result<LinuxFeature> {
+        let nested!(
+            namespaces,
+            capabilities,
+            cgroup,
+            seccomp,
+            apparmor,
+            selinux,
+            intel_rdt,
+            memory_policy,
+            mount_extensions,
+            net_devices,
+        ) = read_members::<
+            nested!(
+                Nullable, Nullable, Nullable, Nullable, Nullable, Nullable, Nullable, Nullable,
+                Nullable, Nullable,
+            ),
+            _,
+            _,
+        >(
+            alloc,
+            value,
+            NAME,
+            nested!(
                 "namespaces",
                 "capabilities",
                 "cgroup",
                 "seccomp",
                 "apparmor",
-            ),
-            read5::<Nullable, Nullable, Nullable, Nullable, Nullable, _, _, _, _, _>(
-                alloc,
-                value,
-                NAME,
                 "selinux",
                 "intelRdt",
                 "memoryPolicy",

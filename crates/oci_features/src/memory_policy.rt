@@ -4,7 +4,8 @@ ghost use Rattle.std.specs.Prelude.{◌≡◌, IfOk, IfErr};
 
 use oci_base::{OciSpecError, Result};
 use oci_model::{
-    Nullable, ObjectWriter, OciRecord, copy_optional, read2, try_join2, write_nullable,
+    Nullable, ObjectWriter, OciRecord, copy_optional, nested, read_members, try_join2,
+    write_nullable,
 };
 use serde_json::Value;
 use std::alloc::Global;
@@ -106,8 +107,16 @@ impl OciRecord for MemoryPolicy {
     ghost plain = { memory_policy_plain };
 
     fn from_value(alloc: Global, value: &Value) -> Result<MemoryPolicy> {
-        let (modes, flags) = read2::<Nullable, Nullable, _, _>(
-            alloc, value, NAME, "modes", "flags",
+        let value = value.clone()?;
+        Self::from_value_owned(alloc, value)
+    }
+
+    fn from_value_owned(alloc: Global, value: Value) -> Result<MemoryPolicy> {
+        let nested!(modes, flags) = read_members::<nested!(Nullable, Nullable), _, _>(
+            alloc,
+            value,
+            NAME,
+            nested!("modes", "flags"),
         )?;
         Ok(MemoryPolicy { modes, flags })
     }

@@ -4,7 +4,9 @@ ghost use Rattle.std.specs.Prelude.{◌≡◌, IfOk, IfErr};
 
 use crate::id_map::IDMap;
 use oci_base::{OciSpecError, Result};
-use oci_model::{Nullable, ObjectWriter, OciRecord, copy_optional, read1, write_nullable};
+use oci_model::{
+    Nullable, ObjectWriter, OciRecord, copy_optional, nested, read_members, write_nullable,
+};
 use serde_json::Value;
 use std::alloc::Global;
 
@@ -78,7 +80,17 @@ impl OciRecord for MountExtensions {
     ghost plain = { mount_extensions_plain };
 
     fn from_value(alloc: Global, value: &Value) -> Result<MountExtensions> {
-        let idmap = read1::<Nullable, _>(alloc, value, NAME, "idmap")?;
+        let value = value.clone()?;
+        Self::from_value_owned(alloc, value)
+    }
+
+    fn from_value_owned(alloc: Global, value: Value) -> Result<MountExtensions> {
+        let nested!(idmap) = read_members::<nested!(Nullable), _, _>(
+            alloc,
+            value,
+            NAME,
+            nested!("idmap"),
+        )?;
         Ok(MountExtensions { idmap })
     }
 

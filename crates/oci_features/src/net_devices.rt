@@ -3,7 +3,7 @@
 ghost use Rattle.std.specs.Prelude.{◌≡◌, IfOk, IfErr};
 
 use oci_base::{OciSpecError, Result};
-use oci_model::{Nullable, ObjectWriter, OciRecord, read1, write_nullable};
+use oci_model::{Nullable, ObjectWriter, OciRecord, nested, read_members, write_nullable};
 use serde_json::Value;
 use std::alloc::Global;
 
@@ -77,7 +77,17 @@ impl OciRecord for NetDevices {
     ghost plain = { net_devices_plain };
 
     fn from_value(alloc: Global, value: &Value) -> Result<NetDevices> {
-        let enabled = read1::<Nullable, _>(alloc, value, NAME, "enabled")?;
+        let value = value.clone()?;
+        Self::from_value_owned(alloc, value)
+    }
+
+    fn from_value_owned(alloc: Global, value: Value) -> Result<NetDevices> {
+        let nested!(enabled) = read_members::<nested!(Nullable), _, _>(
+            alloc,
+            value,
+            NAME,
+            nested!("enabled"),
+        )?;
         Ok(NetDevices { enabled })
     }
 

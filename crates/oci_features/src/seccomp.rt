@@ -4,7 +4,8 @@ ghost use Rattle.std.specs.Prelude.{◌≡◌, IfOk, IfErr};
 
 use oci_base::{OciSpecError, Result};
 use oci_model::{
-    Nullable, ObjectWriter, OciRecord, copy_optional, read3, try_join2, try_join5, write_nullable,
+    Nullable, ObjectWriter, OciRecord, copy_optional, nested, read_members, try_join5,
+    write_nullable,
 };
 use oci_text::{LinuxSeccompAction, SArch};
 use serde_json::Value;
@@ -221,19 +222,30 @@ impl OciRecord for Seccomp {
     ghost plain = { seccomp_plain };
 
     fn from_value(alloc: Global, value: &Value) -> Result<Seccomp> {
-        let ((enabled, actions, operators), (archs, known_flags, supported_flags)) = try_join2(
-            read3::<Nullable, Nullable, Nullable, _, _, _>(
-                alloc,
-                value,
-                NAME,
+        let value = value.clone()?;
+        Self::from_value_owned(alloc, value)
+    }
+
+    fn from_value_owned(alloc: Global, value: Value) -> Result<Seccomp> {
+        let nested!(
+            enabled,
+            actions,
+            operators,
+            archs,
+            known_flags,
+            supported_flags
+        ) = read_members::<
+            nested!(Nullable, Nullable, Nullable, Nullable, Nullable, Nullable),
+            _,
+            _,
+        >(
+            alloc,
+            value,
+            NAME,
+            nested!(
                 "enabled",
                 "actions",
                 "operators",
-            ),
-            read3::<Nullable, Nullable, Nullable, _, _, _>(
-                alloc,
-                value,
-                NAME,
                 "archs",
                 "knownFlags",
                 "supportedFlags",

@@ -3,7 +3,7 @@
 ghost use Rattle.std.specs.Prelude.{◌≡◌, IfOk, IfErr};
 
 use oci_base::{OciSpecError, Result};
-use oci_model::{Nullable, ObjectWriter, OciRecord, read1, write_nullable};
+use oci_model::{Nullable, ObjectWriter, OciRecord, nested, read_members, write_nullable};
 use serde_json::Value;
 use std::alloc::Global;
 
@@ -76,7 +76,17 @@ impl OciRecord for Selinux {
     ghost plain = { selinux_plain };
 
     fn from_value(alloc: Global, value: &Value) -> Result<Selinux> {
-        let enabled = read1::<Nullable, _>(alloc, value, NAME, "enabled")?;
+        let value = value.clone()?;
+        Self::from_value_owned(alloc, value)
+    }
+
+    fn from_value_owned(alloc: Global, value: Value) -> Result<Selinux> {
+        let nested!(enabled) = read_members::<nested!(Nullable), _, _>(
+            alloc,
+            value,
+            NAME,
+            nested!("enabled"),
+        )?;
         Ok(Selinux { enabled })
     }
 

@@ -5,8 +5,8 @@ ghost use Rattle.std.specs.Prelude.{◌≡◌, IfOk, IfErr};
 use oci_base::{OciSpecError, Result, UninitializedFieldError};
 use oci_descriptor::Descriptor;
 use oci_model::{
-    ObjectWriter, OciMember, OciRecord, copy_optional, fault, optional_owned, required_owned,
-    taken_5, try_join5, write_optional, write_required,
+    ObjectWriter, OciMember, OciRecord, Optional, Required, copy_optional, nested, read_members,
+    try_join5, write_optional, write_required,
 };
 use oci_text::MediaType;
 use serde_json::Value;
@@ -232,28 +232,22 @@ impl OciRecord for ArtifactManifest {
         Self::from_value_owned(alloc, value)
     }
 
-    #[tactic(auto, using(oci_model::proofs::Readers::refuses_others))]
     fn from_value_owned(alloc: Global, value: Value) -> Result<ArtifactManifest> {
-        let Some((media_type, artifact_type, blobs, subject, annotations)) = taken_5(
+        let nested!(media_type, artifact_type, blobs, subject, annotations) = read_members::<
+            nested!(Required, Required, Required, Optional, Optional),
+            _,
+            _,
+        >(
             alloc,
             value,
-            &[
+            NAME,
+            nested!(
                 "mediaType",
                 "artifactType",
                 "blobs",
                 "subject",
-                "annotations",
-            ],
-        )?
-        else {
-            return Err(fault::refused(NAME, ""));
-        };
-        let (media_type, artifact_type, blobs, subject, annotations) = try_join5(
-            required_owned(alloc, media_type, NAME, "mediaType"),
-            required_owned(alloc, artifact_type, NAME, "artifactType"),
-            required_owned(alloc, blobs, NAME, "blobs"),
-            optional_owned(alloc, subject, NAME, "subject"),
-            optional_owned(alloc, annotations, NAME, "annotations"),
+                "annotations"
+            ),
         )?;
         Ok(ArtifactManifest {
             media_type,

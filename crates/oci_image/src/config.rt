@@ -7,8 +7,8 @@ pub mod builder;
 pub use builder::ConfigBuilder;
 use oci_base::{OciSpecError, Result};
 use oci_model::{
-    Keys, ObjectWriter, OciRecord, copy_optional, copy_optional_as, fault, optional_as_owned,
-    optional_owned, taken_9, try_join2, try_join4, try_join5, write_optional, write_optional_as,
+    As, Keys, ObjectWriter, OciRecord, Optional, copy_optional, copy_optional_as, nested,
+    read_members, try_join2, try_join4, try_join5, write_optional, write_optional_as,
 };
 use serde_json::Value;
 use std::alloc::Global;
@@ -249,14 +249,36 @@ impl OciRecord for Config {
         Self::from_value_owned(alloc, value)
     }
 
-    #[tactic(auto, using(oci_model::proofs::Readers::refuses_others))]
     fn from_value_owned(alloc: Global, value: Value) -> Result<Config> {
-        let Some(
-            (user, exposed_ports, env, entrypoint, cmd, volumes, working_dir, labels, stop_signal),
-        ) = taken_9(
+        let nested!(
+            user,
+            exposed_ports,
+            env,
+            entrypoint,
+            cmd,
+            volumes,
+            working_dir,
+            labels,
+            stop_signal,
+        ) = read_members::<
+            nested!(
+            Optional,
+            As<Keys>,
+            Optional,
+            Optional,
+            Optional,
+            As<Keys>,
+            Optional,
+            Optional,
+            Optional,
+        ),
+            _,
+            _,
+        >(
             alloc,
             value,
-            &[
+            NAME,
+            nested!(
                 "User",
                 "ExposedPorts",
                 "Env",
@@ -266,27 +288,6 @@ impl OciRecord for Config {
                 "WorkingDir",
                 "Labels",
                 "StopSignal",
-            ],
-        )?
-        else {
-            return Err(fault::refused(NAME, ""));
-        };
-        let (
-            (user, exposed_ports, env, entrypoint, cmd),
-            (volumes, working_dir, labels, stop_signal),
-        ) = try_join2(
-            try_join5(
-                optional_owned(alloc, user, NAME, "User"),
-                optional_as_owned::<Keys, Vec<String>>(alloc, exposed_ports, NAME, "ExposedPorts"),
-                optional_owned(alloc, env, NAME, "Env"),
-                optional_owned(alloc, entrypoint, NAME, "Entrypoint"),
-                optional_owned(alloc, cmd, NAME, "Cmd"),
-            ),
-            try_join4(
-                optional_as_owned::<Keys, Vec<String>>(alloc, volumes, NAME, "Volumes"),
-                optional_owned(alloc, working_dir, NAME, "WorkingDir"),
-                optional_owned(alloc, labels, NAME, "Labels"),
-                optional_owned(alloc, stop_signal, NAME, "StopSignal"),
             ),
         )?;
         Ok(Config {

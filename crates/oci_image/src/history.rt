@@ -4,7 +4,7 @@ ghost use Rattle.std.specs.Prelude.{◌≡◌, IfOk, IfErr};
 
 use oci_base::{OciSpecError, Result};
 use oci_model::{
-    ObjectWriter, OciRecord, copy_optional, fault, optional_owned, taken_5, try_join4, try_join5,
+    ObjectWriter, OciRecord, Optional, copy_optional, nested, read_members, try_join4,
     write_optional,
 };
 use serde_json::Value;
@@ -154,22 +154,16 @@ impl OciRecord for History {
         Self::from_value_owned(alloc, value)
     }
 
-    #[tactic(auto, using(oci_model::proofs::Readers::refuses_others))]
     fn from_value_owned(alloc: Global, value: Value) -> Result<History> {
-        let Some((created, author, created_by, comment, empty_layer)) = taken_5(
+        let nested!(created, author, created_by, comment, empty_layer) = read_members::<
+            nested!(Optional, Optional, Optional, Optional, Optional),
+            _,
+            _,
+        >(
             alloc,
             value,
-            &["created", "author", "created_by", "comment", "empty_layer"],
-        )?
-        else {
-            return Err(fault::refused(NAME, ""));
-        };
-        let (created, author, created_by, comment, empty_layer) = try_join5(
-            optional_owned(alloc, created, NAME, "created"),
-            optional_owned(alloc, author, NAME, "author"),
-            optional_owned(alloc, created_by, NAME, "created_by"),
-            optional_owned(alloc, comment, NAME, "comment"),
-            optional_owned(alloc, empty_layer, NAME, "empty_layer"),
+            NAME,
+            nested!("created", "author", "created_by", "comment", "empty_layer"),
         )?;
         Ok(History {
             created,

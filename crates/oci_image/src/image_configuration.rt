@@ -13,8 +13,8 @@ pub use builder::ImageConfigurationBuilder;
 pub use labels::LABEL_VERSION;
 use oci_base::{OciSpecError, Result};
 use oci_model::{
-    ObjectWriter, OciMember, OciRecord, copy_optional, fault, optional_owned, required_owned,
-    taken_10, try_join2, try_join5, write_optional, write_required,
+    ObjectWriter, OciMember, OciRecord, Optional, Required, copy_optional, nested, read_members,
+    try_join2, try_join5, write_optional, write_required,
 };
 use oci_text::{Arch, Os};
 use serde_json::Value;
@@ -301,25 +301,30 @@ impl OciRecord for ImageConfiguration {
         Self::from_value_owned(alloc, value)
     }
 
-    #[tactic(auto, using(oci_model::proofs::Readers::refuses_others))]
     fn from_value_owned(alloc: Global, value: Value) -> Result<ImageConfiguration> {
-        let Some(
-            (
-                created,
-                author,
-                architecture,
-                os,
-                os_version,
-                os_features,
-                variant,
-                config,
-                rootfs,
-                history,
+        let nested!(
+            created,
+            author,
+            architecture,
+            os,
+            os_version,
+            os_features,
+            variant,
+            config,
+            rootfs,
+            history,
+        ) = read_members::<
+            nested!(
+                Optional, Optional, Required, Required, Optional, Optional, Optional, Optional,
+                Required, Optional,
             ),
-        ) = taken_10(
+            _,
+            _,
+        >(
             alloc,
             value,
-            &[
+            NAME,
+            nested!(
                 "created",
                 "author",
                 "architecture",
@@ -330,28 +335,6 @@ impl OciRecord for ImageConfiguration {
                 "config",
                 "rootfs",
                 "history",
-            ],
-        )?
-        else {
-            return Err(fault::refused(NAME, ""));
-        };
-        let (
-            (created, author, architecture, os, os_version),
-            (os_features, variant, config, rootfs, history),
-        ) = try_join2(
-            try_join5(
-                optional_owned(alloc, created, NAME, "created"),
-                optional_owned(alloc, author, NAME, "author"),
-                required_owned(alloc, architecture, NAME, "architecture"),
-                required_owned(alloc, os, NAME, "os"),
-                optional_owned(alloc, os_version, NAME, "os.version"),
-            ),
-            try_join5(
-                optional_owned(alloc, os_features, NAME, "os.features"),
-                optional_owned(alloc, variant, NAME, "variant"),
-                optional_owned(alloc, config, NAME, "config"),
-                required_owned(alloc, rootfs, NAME, "rootfs"),
-                optional_owned(alloc, history, NAME, "history"),
             ),
         )?;
         Ok(ImageConfiguration {

@@ -5,8 +5,8 @@ ghost use Rattle.std.specs.Prelude.{◌≡◌, IfOk, IfErr};
 use oci_base::{OciSpecError, Result, UninitializedFieldError};
 use oci_descriptor::Descriptor;
 use oci_model::{
-    ObjectWriter, OciMember, OciRecord, copy_optional, fault, optional_owned, required_owned,
-    taken_6, try_join2, try_join3, try_join5, write_optional, write_required,
+    ObjectWriter, OciMember, OciRecord, Optional, Required, copy_optional, nested, read_members,
+    try_join5, write_optional, write_required,
 };
 use oci_text::MediaType;
 use serde_json::Value;
@@ -274,37 +274,31 @@ impl OciRecord for ImageIndex {
         Self::from_value_owned(alloc, value)
     }
 
-    #[tactic(auto, using(oci_model::proofs::Readers::refuses_others))]
     fn from_value_owned(alloc: Global, value: Value) -> Result<ImageIndex> {
-        let Some((schema_version, media_type, artifact_type, manifests, subject, annotations)) =
-            taken_6(
-                alloc,
-                value,
-                &[
-                    "schemaVersion",
-                    "mediaType",
-                    "artifactType",
-                    "manifests",
-                    "subject",
-                    "annotations",
-                ],
-            )?
-        else {
-            return Err(fault::refused(NAME, ""));
-        };
-        let ((schema_version, media_type, artifact_type), (manifests, subject, annotations)) =
-            try_join2(
-                try_join3(
-                    required_owned(alloc, schema_version, NAME, "schemaVersion"),
-                    optional_owned(alloc, media_type, NAME, "mediaType"),
-                    optional_owned(alloc, artifact_type, NAME, "artifactType"),
-                ),
-                try_join3(
-                    required_owned(alloc, manifests, NAME, "manifests"),
-                    optional_owned(alloc, subject, NAME, "subject"),
-                    optional_owned(alloc, annotations, NAME, "annotations"),
-                ),
-            )?;
+        let nested!(
+            schema_version,
+            media_type,
+            artifact_type,
+            manifests,
+            subject,
+            annotations,
+        ) = read_members::<
+            nested!(Required, Optional, Optional, Required, Optional, Optional),
+            _,
+            _,
+        >(
+            alloc,
+            value,
+            NAME,
+            nested!(
+                "schemaVersion",
+                "mediaType",
+                "artifactType",
+                "manifests",
+                "subject",
+                "annotations",
+            ),
+        )?;
         Ok(ImageIndex {
             schema_version,
             media_type,

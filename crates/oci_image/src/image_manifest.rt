@@ -8,8 +8,8 @@ pub use builder::ImageManifestBuilder;
 use oci_base::{OciSpecError, Result};
 use oci_descriptor::Descriptor;
 use oci_model::{
-    ObjectWriter, OciMember, OciRecord, copy_optional, fault, optional_owned, required_owned,
-    taken_7, try_join2, try_join3, try_join4, write_optional, write_required,
+    ObjectWriter, OciMember, OciRecord, Optional, Required, copy_optional, nested, read_members,
+    try_join2, try_join3, write_optional, write_required,
 };
 use oci_text::MediaType;
 use serde_json::Value;
@@ -300,14 +300,26 @@ impl OciRecord for ImageManifest {
         Self::from_value_owned(alloc, value)
     }
 
-    #[tactic(auto, using(oci_model::proofs::Readers::refuses_others))]
     fn from_value_owned(alloc: Global, value: Value) -> Result<ImageManifest> {
-        let Some(
-            (schema_version, media_type, artifact_type, config, layers, subject, annotations),
-        ) = taken_7(
+        let nested!(
+            schema_version,
+            media_type,
+            artifact_type,
+            config,
+            layers,
+            subject,
+            annotations,
+        ) = read_members::<
+            nested!(
+                Required, Optional, Optional, Required, Required, Optional, Optional
+            ),
+            _,
+            _,
+        >(
             alloc,
             value,
-            &[
+            NAME,
+            nested!(
                 "schemaVersion",
                 "mediaType",
                 "artifactType",
@@ -315,25 +327,8 @@ impl OciRecord for ImageManifest {
                 "layers",
                 "subject",
                 "annotations",
-            ],
-        )?
-        else {
-            return Err(fault::refused(NAME, ""));
-        };
-        let ((schema_version, media_type, artifact_type, config), (layers, subject, annotations)) =
-            try_join2(
-                try_join4(
-                    required_owned(alloc, schema_version, NAME, "schemaVersion"),
-                    optional_owned(alloc, media_type, NAME, "mediaType"),
-                    optional_owned(alloc, artifact_type, NAME, "artifactType"),
-                    required_owned(alloc, config, NAME, "config"),
-                ),
-                try_join3(
-                    required_owned(alloc, layers, NAME, "layers"),
-                    optional_owned(alloc, subject, NAME, "subject"),
-                    optional_owned(alloc, annotations, NAME, "annotations"),
-                ),
-            )?;
+            ),
+        )?;
         Ok(ImageManifest {
             schema_version,
             media_type,

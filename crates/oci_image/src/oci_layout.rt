@@ -3,7 +3,9 @@
 ghost use Rattle.std.specs.Prelude.{◌≡◌, IfOk, IfErr};
 
 use oci_base::{OciSpecError, Result, UninitializedFieldError};
-use oci_model::{ObjectWriter, OciMember, OciRecord, fault, required_owned, taken, write_required};
+use oci_model::{
+    ObjectWriter, OciMember, OciRecord, Required, nested, read_members, write_required,
+};
 use serde_json::Value;
 use std::alloc::Global;
 use std::io::{Read, Write};
@@ -142,18 +144,15 @@ impl OciRecord for OciLayout {
         Self::from_value_owned(alloc, value)
     }
 
-    #[tactic(auto, using(oci_model::proofs::Readers::refuses_others))]
     fn from_value_owned(alloc: Global, value: Value) -> Result<OciLayout> {
-        let Some([image_layout_version]) = taken::<1>(alloc, value, &["imageLayoutVersion"])? else {
-            return Err(fault::refused(NAME, ""));
-        };
+        let nested!(image_layout_version) = read_members::<nested!(Required), _, _>(
+            alloc,
+            value,
+            NAME,
+            nested!("imageLayoutVersion"),
+        )?;
         Ok(OciLayout {
-            image_layout_version: required_owned(
-                alloc,
-                image_layout_version,
-                NAME,
-                "imageLayoutVersion",
-            )?,
+            image_layout_version,
         })
     }
 

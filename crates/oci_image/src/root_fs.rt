@@ -4,7 +4,7 @@ ghost use Rattle.std.specs.Prelude.{◌≡◌, IfOk, IfErr};
 
 use oci_base::{OciSpecError, Result};
 use oci_model::{
-    ObjectWriter, OciMember, OciRecord, fault, required_owned, taken, try_join2, write_required,
+    ObjectWriter, OciMember, OciRecord, Required, nested, read_members, try_join2, write_required,
 };
 use serde_json::Value;
 use std::alloc::Global;
@@ -102,14 +102,12 @@ impl OciRecord for RootFs {
         Self::from_value_owned(alloc, value)
     }
 
-    #[tactic(auto, using(oci_model::proofs::Readers::refuses_others))]
     fn from_value_owned(alloc: Global, value: Value) -> Result<RootFs> {
-        let Some([typ, diff_ids]) = taken::<2>(alloc, value, &["type", "diff_ids"])? else {
-            return Err(fault::refused(NAME, ""));
-        };
-        let (typ, diff_ids) = try_join2(
-            required_owned(alloc, typ, NAME, "type"),
-            required_owned(alloc, diff_ids, NAME, "diff_ids"),
+        let nested!(typ, diff_ids) = read_members::<nested!(Required, Required), _, _>(
+            alloc,
+            value,
+            NAME,
+            nested!("type", "diff_ids"),
         )?;
         Ok(RootFs { typ, diff_ids })
     }

@@ -23,7 +23,7 @@ pub use builder::LinuxBuilder;
 use oci_base::{OciSpecError, Result};
 use oci_cgroups::LinuxResources;
 use oci_model::{
-    ObjectWriter, OciRecord, Optional, copy_optional, read4, read5, try_join4, try_join5,
+    ObjectWriter, OciRecord, Optional, copy_optional, nested, read_members, try_join4, try_join5,
     write_optional,
 };
 use serde_json::Value;
@@ -143,44 +143,55 @@ impl OciRecord for Linux {
     ghost plain = { linux_plain };
 
     fn from_value(alloc: Global, value: &Value) -> Result<Linux> {
-        let (
-            (net_devices, uid_mappings, gid_mappings, sysctl, resources),
-            (cgroups_path, namespaces, devices, seccomp),
-            (rootfs_propagation, masked_paths, readonly_paths, mount_label),
-            (intel_rdt, memory_policy, personality, time_offsets),
-        ) = try_join4(
-            read5::<Optional, Optional, Optional, Optional, Optional, _, _, _, _, _>(
-                alloc,
-                value,
-                NAME,
+        let value = value.clone()?;
+        Self::from_value_owned(alloc, value)
+    }
+
+    fn from_value_owned(alloc: Global, value: Value) -> Result<Linux> {
+        let nested!(
+            net_devices,
+            uid_mappings,
+            gid_mappings,
+            sysctl,
+            resources,
+            cgroups_path,
+            namespaces,
+            devices,
+            seccomp,
+            rootfs_propagation,
+            masked_paths,
+            readonly_paths,
+            mount_label,
+            intel_rdt,
+            memory_policy,
+            personality,
+            time_offsets,
+        ) = read_members::<
+            nested!(
+                Optional, Optional, Optional, Optional, Optional, Optional, Optional, Optional,
+                Optional, Optional, Optional, Optional, Optional, Optional, Optional, Optional,
+                Optional,
+            ),
+            _,
+            _,
+        >(
+            alloc,
+            value,
+            NAME,
+            nested!(
                 "netDevices",
                 "uidMappings",
                 "gidMappings",
                 "sysctl",
                 "resources",
-            ),
-            read4::<Optional, Optional, Optional, Optional, _, _, _, _>(
-                alloc,
-                value,
-                NAME,
                 "cgroupsPath",
                 "namespaces",
                 "devices",
                 "seccomp",
-            ),
-            read4::<Optional, Optional, Optional, Optional, _, _, _, _>(
-                alloc,
-                value,
-                NAME,
                 "rootfsPropagation",
                 "maskedPaths",
                 "readonlyPaths",
                 "mountLabel",
-            ),
-            read4::<Optional, Optional, Optional, Optional, _, _, _, _>(
-                alloc,
-                value,
-                NAME,
                 "intelRdt",
                 "memoryPolicy",
                 "personality",

@@ -4,7 +4,7 @@ ghost use Rattle.std.specs.Prelude.{◌≡◌, IfOk, IfErr};
 
 use oci_base::{OciSpecError, Result};
 use oci_model::{
-    Defaulted, ObjectWriter, OciMember, OciRecord, Optional, Required, read3, read4, try_join2,
+    Defaulted, ObjectWriter, OciMember, OciRecord, Optional, Required, nested, read_members,
     write_optional, write_required,
 };
 use oci_text::LinuxDeviceType;
@@ -249,13 +249,22 @@ impl OciRecord for LinuxDevice {
     ghost plain = { linux_device_plain };
 
     fn from_value(alloc: Global, value: &Value) -> Result<LinuxDevice> {
-        let ((path, typ, major, minor), (file_mode, uid, gid)) = try_join2(
-            read4::<Defaulted, Required, Defaulted, Defaulted, _, _, _, _>(
-                alloc, value, NAME, "path", "type", "major", "minor",
+        let value = value.clone()?;
+        Self::from_value_owned(alloc, value)
+    }
+
+    fn from_value_owned(alloc: Global, value: Value) -> Result<LinuxDevice> {
+        let nested!(path, typ, major, minor, file_mode, uid, gid) = read_members::<
+            nested!(
+                Defaulted, Required, Defaulted, Defaulted, Optional, Optional, Optional,
             ),
-            read3::<Optional, Optional, Optional, _, _, _>(
-                alloc, value, NAME, "fileMode", "uid", "gid",
-            ),
+            _,
+            _,
+        >(
+            alloc,
+            value,
+            NAME,
+            nested!("path", "type", "major", "minor", "fileMode", "uid", "gid"),
         )?;
         Ok(LinuxDevice {
             path,

@@ -3,7 +3,7 @@
 ghost use Rattle.std.specs.Prelude.{◌≡◌, IfOk, IfErr};
 
 use oci_base::{OciSpecError, Result};
-use oci_model::{Defaulted, ObjectWriter, OciRecord, read3, write_required};
+use oci_model::{Defaulted, ObjectWriter, OciRecord, nested, read_members, write_required};
 use serde_json::Value;
 use std::alloc::Global;
 
@@ -74,14 +74,16 @@ impl OciRecord for LinuxIdMapping {
     ghost plain = { linux_id_mapping_plain };
 
     fn from_value(alloc: Global, value: &Value) -> Result<LinuxIdMapping> {
-        let (host_id, container_id, size) = read3::<Defaulted, Defaulted, Defaulted, _, _, _>(
-            alloc,
-            value,
-            NAME,
-            "hostID",
-            "containerID",
-            "size",
-        )?;
+        let value = value.clone()?;
+        Self::from_value_owned(alloc, value)
+    }
+
+    fn from_value_owned(alloc: Global, value: Value) -> Result<LinuxIdMapping> {
+        let nested!(host_id, container_id, size) = read_members::<
+            nested!(Defaulted, Defaulted, Defaulted),
+            _,
+            _,
+        >(alloc, value, NAME, nested!("hostID", "containerID", "size"))?;
         Ok(LinuxIdMapping {
             host_id,
             container_id,

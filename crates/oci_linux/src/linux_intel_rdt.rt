@@ -4,8 +4,8 @@ ghost use Rattle.std.specs.Prelude.{◌≡◌, IfOk, IfErr};
 
 use oci_base::{OciSpecError, Result};
 use oci_model::{
-    ObjectWriter, OciRecord, Optional, UnlessEmpty, copy_optional, read3, read4, try_join2,
-    try_join4, write_optional, write_unless_empty,
+    ObjectWriter, OciRecord, Optional, UnlessEmpty, copy_optional, nested, read_members, try_join4,
+    write_optional, write_unless_empty,
 };
 use serde_json::Value;
 use std::alloc::Global;
@@ -247,23 +247,40 @@ impl OciRecord for LinuxIntelRdt {
     ghost plain = { linux_intel_rdt_plain };
 
     fn from_value(alloc: Global, value: &Value) -> Result<LinuxIntelRdt> {
-        let (
-            (clos_id, schemata, l3_cache_schema, mem_bw_schema),
-            (enable_cmt, enable_mbm, enable_monitoring),
-        ) = try_join2(
-            read4::<Optional, UnlessEmpty, Optional, Optional, _, _, _, _>(
-                alloc,
-                value,
-                NAME,
+        let value = value.clone()?;
+        Self::from_value_owned(alloc, value)
+    }
+
+    fn from_value_owned(alloc: Global, value: Value) -> Result<LinuxIntelRdt> {
+        let nested!(
+            clos_id,
+            schemata,
+            l3_cache_schema,
+            mem_bw_schema,
+            enable_cmt,
+            enable_mbm,
+            enable_monitoring,
+        ) = read_members::<
+            nested!(
+                Optional,
+                UnlessEmpty,
+                Optional,
+                Optional,
+                Optional,
+                Optional,
+                Optional,
+            ),
+            _,
+            _,
+        >(
+            alloc,
+            value,
+            NAME,
+            nested!(
                 "closID",
                 "schemata",
                 "l3CacheSchema",
                 "memBwSchema",
-            ),
-            read3::<Optional, Optional, Optional, _, _, _>(
-                alloc,
-                value,
-                NAME,
                 "enableCmt",
                 "enableMbm",
                 "enableMonitoring",

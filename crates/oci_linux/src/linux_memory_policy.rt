@@ -4,8 +4,8 @@ ghost use Rattle.std.specs.Prelude.{◌≡◌, IfOk, IfErr};
 
 use oci_base::{OciSpecError, Result, UninitializedFieldError};
 use oci_model::{
-    ObjectWriter, OciRecord, Optional, Required, copy_optional, read3, try_join2, write_optional,
-    write_required,
+    ObjectWriter, OciRecord, Optional, Required, copy_optional, nested, read_members, try_join2,
+    write_optional, write_required,
 };
 use oci_text::{MemoryPolicyFlagType, MemoryPolicyModeType};
 use serde_json::Value;
@@ -120,9 +120,16 @@ impl OciRecord for LinuxMemoryPolicy {
     ghost plain = { linux_memory_policy_plain };
 
     fn from_value(alloc: Global, value: &Value) -> Result<LinuxMemoryPolicy> {
-        let (mode, nodes, flags) = read3::<Required, Optional, Optional, _, _, _>(
-            alloc, value, NAME, "mode", "nodes", "flags",
-        )?;
+        let value = value.clone()?;
+        Self::from_value_owned(alloc, value)
+    }
+
+    fn from_value_owned(alloc: Global, value: Value) -> Result<LinuxMemoryPolicy> {
+        let nested!(mode, nodes, flags) = read_members::<
+            nested!(Required, Optional, Optional),
+            _,
+            _,
+        >(alloc, value, NAME, nested!("mode", "nodes", "flags"))?;
         Ok(LinuxMemoryPolicy { mode, nodes, flags })
     }
 

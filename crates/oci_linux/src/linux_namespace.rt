@@ -4,8 +4,8 @@ ghost use Rattle.std.specs.Prelude.{◌≡◌, IfOk, IfErr};
 
 use oci_base::{OciSpecError, Result};
 use oci_model::{
-    ObjectWriter, OciRecord, Optional, Required, copy_optional, read2, write_optional,
-    write_required,
+    ObjectWriter, OciRecord, Optional, Required, copy_optional, nested, read_members,
+    write_optional, write_required,
 };
 use oci_text::LinuxNamespaceType;
 use serde_json::Value;
@@ -93,7 +93,17 @@ impl OciRecord for LinuxNamespace {
     ghost plain = { linux_namespace_plain };
 
     fn from_value(alloc: Global, value: &Value) -> Result<LinuxNamespace> {
-        let (typ, path) = read2::<Required, Optional, _, _>(alloc, value, NAME, "type", "path")?;
+        let value = value.clone()?;
+        Self::from_value_owned(alloc, value)
+    }
+
+    fn from_value_owned(alloc: Global, value: Value) -> Result<LinuxNamespace> {
+        let nested!(typ, path) = read_members::<nested!(Required, Optional), _, _>(
+            alloc,
+            value,
+            NAME,
+            nested!("type", "path"),
+        )?;
         Ok(LinuxNamespace { typ, path })
     }
 

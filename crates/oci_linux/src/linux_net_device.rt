@@ -3,7 +3,9 @@
 ghost use Rattle.std.specs.Prelude.{◌≡◌, IfOk, IfErr};
 
 use oci_base::{OciSpecError, Result};
-use oci_model::{Nullable, ObjectWriter, OciRecord, copy_optional, read1, write_nullable};
+use oci_model::{
+    Nullable, ObjectWriter, OciRecord, copy_optional, nested, read_members, write_nullable,
+};
 use serde_json::Value;
 use std::alloc::Global;
 
@@ -76,7 +78,17 @@ impl OciRecord for LinuxNetDevice {
     ghost plain = { linux_net_device_plain };
 
     fn from_value(alloc: Global, value: &Value) -> Result<LinuxNetDevice> {
-        let name = read1::<Nullable, _>(alloc, value, NAME, "name")?;
+        let value = value.clone()?;
+        Self::from_value_owned(alloc, value)
+    }
+
+    fn from_value_owned(alloc: Global, value: Value) -> Result<LinuxNetDevice> {
+        let nested!(name) = read_members::<nested!(Nullable), _, _>(
+            alloc,
+            value,
+            NAME,
+            nested!("name"),
+        )?;
         Ok(LinuxNetDevice { name })
     }
 

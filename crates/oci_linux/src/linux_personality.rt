@@ -4,8 +4,8 @@ ghost use Rattle.std.specs.Prelude.{◌≡◌, IfOk, IfErr};
 
 use oci_base::{OciSpecError, Result};
 use oci_model::{
-    ObjectWriter, OciRecord, Optional, Required, copy_optional, read2, write_optional,
-    write_required,
+    ObjectWriter, OciRecord, Optional, Required, copy_optional, nested, read_members,
+    write_optional, write_required,
 };
 use oci_text::LinuxPersonalityDomain;
 use serde_json::Value;
@@ -92,8 +92,16 @@ impl OciRecord for LinuxPersonality {
     ghost plain = { linux_personality_plain };
 
     fn from_value(alloc: Global, value: &Value) -> Result<LinuxPersonality> {
-        let (domain, flags) = read2::<Required, Optional, _, _>(
-            alloc, value, NAME, "domain", "flags",
+        let value = value.clone()?;
+        Self::from_value_owned(alloc, value)
+    }
+
+    fn from_value_owned(alloc: Global, value: Value) -> Result<LinuxPersonality> {
+        let nested!(domain, flags) = read_members::<nested!(Required, Optional), _, _>(
+            alloc,
+            value,
+            NAME,
+            nested!("domain", "flags"),
         )?;
         Ok(LinuxPersonality { domain, flags })
     }

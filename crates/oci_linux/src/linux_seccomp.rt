@@ -5,7 +5,7 @@ ghost use Rattle.std.specs.Prelude.{◌≡◌, IfOk, IfErr};
 use crate::linux_syscall::LinuxSyscall;
 use oci_base::{OciSpecError, Result};
 use oci_model::{
-    ObjectWriter, OciRecord, Optional, Required, copy_optional, read3, read4, try_join2, try_join5,
+    ObjectWriter, OciRecord, Optional, Required, copy_optional, nested, read_members, try_join5,
     write_optional, write_required,
 };
 use oci_text::{LinuxSeccompAction, LinuxSeccompFilterFlag, SArch};
@@ -194,23 +194,34 @@ impl OciRecord for LinuxSeccomp {
     ghost plain = { linux_seccomp_plain };
 
     fn from_value(alloc: Global, value: &Value) -> Result<LinuxSeccomp> {
-        let (
-            (default_action, default_errno_ret, architectures, flags),
-            (listener_path, listener_metadata, syscalls),
-        ) = try_join2(
-            read4::<Required, Optional, Optional, Optional, _, _, _, _>(
-                alloc,
-                value,
-                NAME,
+        let value = value.clone()?;
+        Self::from_value_owned(alloc, value)
+    }
+
+    fn from_value_owned(alloc: Global, value: Value) -> Result<LinuxSeccomp> {
+        let nested!(
+            default_action,
+            default_errno_ret,
+            architectures,
+            flags,
+            listener_path,
+            listener_metadata,
+            syscalls,
+        ) = read_members::<
+            nested!(
+                Required, Optional, Optional, Optional, Optional, Optional, Optional
+            ),
+            _,
+            _,
+        >(
+            alloc,
+            value,
+            NAME,
+            nested!(
                 "defaultAction",
                 "defaultErrnoRet",
                 "architectures",
                 "flags",
-            ),
-            read3::<Optional, Optional, Optional, _, _, _>(
-                alloc,
-                value,
-                NAME,
                 "listenerPath",
                 "listenerMetadata",
                 "syscalls",

@@ -4,7 +4,8 @@ ghost use Rattle.std.specs.Prelude.{◌≡◌, IfOk, IfErr};
 
 use oci_base::{OciSpecError, Result};
 use oci_model::{
-    ObjectWriter, OciRecord, Optional, Required, read4, write_optional, write_required,
+    ObjectWriter, OciRecord, Optional, Required, nested, read_members, write_optional,
+    write_required,
 };
 use oci_text::LinuxSeccompOperator;
 use serde_json::Value;
@@ -85,16 +86,21 @@ impl OciRecord for LinuxSeccompArg {
     ghost plain = { linux_seccomp_arg_plain };
 
     fn from_value(alloc: Global, value: &Value) -> Result<LinuxSeccompArg> {
-        let (index, value, value_two, op) = read4::<
-            Required,
-            Required,
-            Optional,
-            Required,
+        let value = value.clone()?;
+        Self::from_value_owned(alloc, value)
+    }
+
+    fn from_value_owned(alloc: Global, value: Value) -> Result<LinuxSeccompArg> {
+        let nested!(index, value, value_two, op) = read_members::<
+            nested!(Required, Required, Optional, Required),
             _,
             _,
-            _,
-            _,
-        >(alloc, value, NAME, "index", "value", "valueTwo", "op")?;
+        >(
+            alloc,
+            value,
+            NAME,
+            nested!("index", "value", "valueTwo", "op"),
+        )?;
         Ok(LinuxSeccompArg {
             index,
             value,

@@ -5,8 +5,8 @@ ghost use Rattle.std.specs.Prelude.{◌≡◌, IfOk, IfErr};
 use crate::linux_seccomp_arg::LinuxSeccompArg;
 use oci_base::{OciSpecError, Result};
 use oci_model::{
-    ObjectWriter, OciMember, OciRecord, Optional, Required, copy_optional, read4, try_join2,
-    write_optional, write_required,
+    ObjectWriter, OciMember, OciRecord, Optional, Required, copy_optional, nested, read_members,
+    try_join2, write_optional, write_required,
 };
 use oci_text::LinuxSeccompAction;
 use serde_json::Value;
@@ -136,16 +136,21 @@ impl OciRecord for LinuxSyscall {
     ghost plain = { linux_syscall_plain };
 
     fn from_value(alloc: Global, value: &Value) -> Result<LinuxSyscall> {
-        let (names, action, errno_ret, args) = read4::<
-            Required,
-            Required,
-            Optional,
-            Optional,
+        let value = value.clone()?;
+        Self::from_value_owned(alloc, value)
+    }
+
+    fn from_value_owned(alloc: Global, value: Value) -> Result<LinuxSyscall> {
+        let nested!(names, action, errno_ret, args) = read_members::<
+            nested!(Required, Required, Optional, Optional),
             _,
             _,
-            _,
-            _,
-        >(alloc, value, NAME, "names", "action", "errnoRet", "args")?;
+        >(
+            alloc,
+            value,
+            NAME,
+            nested!("names", "action", "errnoRet", "args"),
+        )?;
         Ok(LinuxSyscall {
             names,
             action,

@@ -3,7 +3,7 @@
 ghost use Rattle.std.specs.Prelude.{◌≡◌, IfOk, IfErr};
 
 use oci_base::{OciSpecError, Result};
-use oci_model::{ObjectWriter, OciRecord, Optional, read2, write_optional};
+use oci_model::{ObjectWriter, OciRecord, Optional, nested, read_members, write_optional};
 use serde_json::Value;
 use std::alloc::Global;
 
@@ -88,8 +88,16 @@ impl OciRecord for LinuxTimeOffset {
     ghost plain = { linux_time_offset_plain };
 
     fn from_value(alloc: Global, value: &Value) -> Result<LinuxTimeOffset> {
-        let (secs, nanosecs) = read2::<Optional, Optional, _, _>(
-            alloc, value, NAME, "secs", "nanosecs",
+        let value = value.clone()?;
+        Self::from_value_owned(alloc, value)
+    }
+
+    fn from_value_owned(alloc: Global, value: Value) -> Result<LinuxTimeOffset> {
+        let nested!(secs, nanosecs) = read_members::<nested!(Optional, Optional), _, _>(
+            alloc,
+            value,
+            NAME,
+            nested!("secs", "nanosecs"),
         )?;
         Ok(LinuxTimeOffset { secs, nanosecs })
     }

@@ -1,15 +1,16 @@
 pub mod AlwaysWritable
 pub mod ClosedMembers
 pub mod Erasing
-pub mod FoundAll
 pub mod FreeMaps
 pub mod KeySets
 pub mod Lists
 pub mod Maps
+pub mod MemberNames
 pub mod NoFloat
 pub mod NotEmpty
 pub mod Presences
 pub mod Readers
+pub mod RecordReaders
 pub mod Refusals
 pub mod RefusedDetails
 pub mod Removed

@@ -5,14 +5,13 @@ pub mod ClosedNames
 pub mod DefaultMembers
 pub mod Erased
 pub mod Fits
-pub mod Found
 pub mod FreeValues
 pub mod Keys
 pub mod Lent
-pub mod Listed
 pub mod Means
 pub mod Norm
 pub mod Plain
+pub mod Reading
 pub mod Refused
 pub mod Same
 pub mod SameFree

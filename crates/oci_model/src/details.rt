@@ -19,8 +19,8 @@ impl OciKind<String> for Detail {
     ghost plain = { text_plain };
 
     #[tactic(auto, using(crate::proofs::RefusedDetails::of_null, crate::proofs::RefusedDetails::of_other_numbers))]
-    fn read(alloc: Global, value: &Value) -> Result<String> {
-        if value.is_null() || has_other_numbers(value) {
+    fn read(alloc: Global, value: Value) -> Result<String> {
+        if value.is_null() || has_other_numbers(&value) {
             return Err(refused("", ""));
         }
         Ok(value.to_string(alloc)?)

@@ -10,6 +10,7 @@ ghost use Rattle.oci_model.specs.FreeValues.{values_view};
 use crate::OciKind;
 use crate::fault::refused;
 use crate::other_numbers::{has_other_numbers, members_have_other_numbers};
+use crate::parts::into_members;
 use oci_base::Result;
 use serde_json::{Map, Value};
 use std::alloc::{AllocError, Global};
@@ -27,10 +28,10 @@ impl OciKind<BTreeMap<String, Option<Value>>> for FreeValues {
 
     ghost plain = { free_values_plain };
 
-    fn read(alloc: Global, value: &Value) -> Result<BTreeMap<String, Option<Value>>> {
-        match value.as_object() {
+    fn read(alloc: Global, value: Value) -> Result<BTreeMap<String, Option<Value>>> {
+        match into_members(value) {
             Some(members) => {
-                if members_have_other_numbers(members) {
+                if members_have_other_numbers(&members) {
                     Err(refused("", ""))
                 } else {
                     Ok(kept_values(alloc, members)?)
@@ -56,26 +57,21 @@ impl OciKind<BTreeMap<String, Option<Value>>> for FreeValues {
     }
 }
 
-fn kept(value: &Value) -> std::result::Result<Option<Value>, AllocError>
-    ensures { IfOk result (λ o. option_map view o ≡ unless_null (view value.now)) }
+fn kept(value: Value) -> Option<Value>
+    ensures { option_map view result ≡ unless_null (view value) }
 {
-    if value.is_null() {
-        Ok(None)
-    } else {
-        Ok(Some(value.clone()?))
-    }
+    if value.is_null() { None } else { Some(value) }
 }
 
 fn kept_values(
     alloc: Global,
-    members: &Map<String, Value>,
+    members: Map<String, Value>,
 ) -> std::result::Result<BTreeMap<String, Option<Value>>, AllocError>
-    ensures { IfOk result (λ m. values_view m.entries ≡ free_values (members_view members.now.entries)) }
+    ensures { IfOk result (λ m. values_view m.entries ≡ free_values (members_view members.entries)) }
 {
     let mut entries = BTreeMap::new(alloc);
-    for (name, value) in members.iter() {
-        let name = name.clone()?;
-        drop(entries.insert(name, kept(value)?)?);
+    for (name, value) in members {
+        drop(entries.insert(name, kept(value))?);
     }
     Ok(entries)
 }

@@ -7,7 +7,7 @@ ghost use Rattle.oci_model.specs.Value.{sorted, empty_objects};
 use crate::OciMember;
 use crate::fault::refused;
 use crate::kind::OciKind;
-use crate::owned::into_members;
+use crate::parts::into_members;
 use oci_base::Result;
 use serde_json::{Map, Value};
 use std::alloc::{AllocError, Global};
@@ -24,21 +24,7 @@ impl OciKind<Vec<String>> for Keys {
     ghost plain = { keys_plain };
 
     #[tactic(auto, using(crate::proofs::KeySets::refused_other, crate::proofs::KeySets::refused_member))]
-    fn read(alloc: Global, value: &Value) -> Result<Vec<String>> {
-        match value.as_object() {
-            Some(members) => {
-                if all_objects(members) {
-                    Ok(names_of(alloc, members)?)
-                } else {
-                    Err(refused("", ""))
-                }
-            }
-            None => Err(refused("", "")),
-        }
-    }
-
-    #[tactic(auto, using(crate::proofs::KeySets::refused_other, crate::proofs::KeySets::refused_member))]
-    fn read_owned(alloc: Global, value: Value) -> Result<Vec<String>> {
+    fn read(alloc: Global, value: Value) -> Result<Vec<String>> {
         match into_members(value) {
             Some(members) => {
                 if all_objects(&members) {
@@ -70,19 +56,6 @@ fn all_objects(members: &Map<String, Value>) -> bool
         }
     }
     true
-}
-
-fn names_of(
-    alloc: Global,
-    members: &Map<String, Value>,
-) -> std::result::Result<Vec<String>, AllocError>
-    ensures { IfOk result (λ v. map string_bytes v.items ≡ member_names (members_view members.now.entries)) }
-{
-    let mut names = Vec::new(alloc);
-    for (name, _) in members.iter() {
-        names.push(name.clone()?)?;
-    }
-    Ok(names)
 }
 
 fn into_names(

@@ -28,20 +28,12 @@ pub trait OciKind<T> {
     /// The content.
     ghost plain: { T → Plain };
 
-    /// Deserializes `value`. Fails with `SerDe(Schema)` exactly if the shape rejects it, else only with `Memory`.
-    fn read(alloc: Global, value: &Value) -> Result<T>
-        ensures ok { IfOk result (λ x. Means shape (view value.now) (plain x)) }
-        ensures err { IfErr result (λ e. IsSchema e → IsRefused shape (view value.now)) }
-        ensures kind { IfErr result IsMemoryOrSchema };
-
-    /// Deserializes `value` and consumes it, in any case. Fails as `read`.
-    fn read_owned(alloc: Global, value: Value) -> Result<T>
+    /// Deserializes `value` and consumes it, in any case. Fails with `SerDe(Schema)` exactly if the shape rejects it, else only with
+    /// `Memory`.
+    fn read(alloc: Global, value: Value) -> Result<T>
         ensures ok { IfOk result (λ x. Means shape (view value) (plain x)) }
         ensures err { IfErr result (λ e. IsSchema e → IsRefused shape (view value)) }
-        ensures kind { IfErr result IsMemoryOrSchema }
-    {
-        Self::read(alloc, &value)
-    }
+        ensures kind { IfErr result IsMemoryOrSchema };
 
     /// Serializes the content to a value. Fails with `SerDe(Schema)` if it is not serializable, else only with `Memory`.
     fn write(x: &T, alloc: Global) -> Result<Value>

@@ -1,6 +1,6 @@
 //! Lists as members.
 use crate::fault::refused;
-use crate::owned::into_items;
+use crate::parts::into_items;
 use crate::record::OciMember;
 use oci_base::Result;
 use serde_json::Value;
@@ -15,25 +15,12 @@ impl<T: OciMember> OciMember for Vec<T> {
 
     ghost plain = { list_plain T.plain };
 
-    fn read(alloc: Global, value: &Value) -> Result<Vec<T>> {
-        match value.as_array() {
-            Some(items) => {
-                let mut listed = Vec::with_capacity(alloc, items.len())?;
-                for item in items {
-                    listed.push(T::read(alloc, item)?)?;
-                }
-                Ok(listed)
-            }
-            None => Err(refused("", "")),
-        }
-    }
-
-    fn read_owned(alloc: Global, value: Value) -> Result<Vec<T>> {
+    fn read(alloc: Global, value: Value) -> Result<Vec<T>> {
         match into_items(value) {
             Some(items) => {
                 let mut listed = Vec::with_capacity(alloc, items.len())?;
                 for item in items {
-                    listed.push(T::read_owned(alloc, item)?)?;
+                    listed.push(T::read(alloc, item)?)?;
                 }
                 Ok(listed)
             }

@@ -1,6 +1,6 @@
 //! Maps from texts as members.
 use crate::fault::refused;
-use crate::owned::into_members;
+use crate::parts::into_members;
 use crate::record::OciMember;
 use oci_base::Result;
 use serde_json::Value;
@@ -16,26 +16,12 @@ impl<T: OciMember> OciMember for BTreeMap<String, T> {
 
     ghost plain = { map_plain T.plain };
 
-    fn read(alloc: Global, value: &Value) -> Result<BTreeMap<String, T>> {
-        match value.as_object() {
-            Some(members) => {
-                let mut read = BTreeMap::new(alloc);
-                for (name, member) in members.iter() {
-                    let key = String::from_str(alloc, name.as_str())?;
-                    drop(read.insert(key, T::read(alloc, member)?)?);
-                }
-                Ok(read)
-            }
-            None => Err(refused("", "")),
-        }
-    }
-
-    fn read_owned(alloc: Global, value: Value) -> Result<BTreeMap<String, T>> {
+    fn read(alloc: Global, value: Value) -> Result<BTreeMap<String, T>> {
         match into_members(value) {
             Some(members) => {
                 let mut read = BTreeMap::new(alloc);
                 for (name, member) in members {
-                    let member = T::read_owned(alloc, member)?;
+                    let member = T::read(alloc, member)?;
                     drop(read.insert(name, member)?);
                 }
                 Ok(read)

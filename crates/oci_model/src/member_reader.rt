@@ -1,16 +1,14 @@
 //! How a member is read, as a type: whether it has to be there, and what it is where it is not.
-ghost use Rattle.std.specs.Prelude.{None, IfOk, IfErr};
+ghost use Rattle.std.specs.Prelude.{None, option_map, IfOk, IfErr};
 ghost use Rattle.serde_json.specs.View.{view};
-ghost use Rattle.serde_json.specs.Find.{get};
 ghost use Rattle.oci_base.specs.Refused.{IsSchema, IsMemoryOrSchema};
 ghost use Rattle.oci_model.specs.Plain.{Slot};
 ghost use Rattle.oci_model.specs.Shape.{Presence, Shape};
 ghost use Rattle.oci_model.specs.Means.{Means, MeansMember};
-ghost use Rattle.oci_model.specs.Refused.{RefusesRecords};
+ghost use Rattle.oci_model.specs.Refused.{IsMemberRefused};
 
-use crate::fault::placed;
-use crate::optional_kind::found_as;
-use crate::{OciDefault, OciKind, OciMember, optional, required};
+use crate::fault::{placed, refused};
+use crate::{OciDefault, OciKind, OciMember};
 use oci_base::Result;
 use serde_json::Value;
 use std::alloc::Global;
@@ -27,10 +25,16 @@ pub trait MemberReader<T> {
     /// The content.
     ghost slot: { T → Slot };
 
-    /// Reads the member of this name; an error is placed at the owner and the name.
-    fn read(alloc: Global, value: &Value, owner: &'static str, name: &'static str) -> Result<T>
-        ensures ok { IfOk result (λ x. MeansMember presence (Means shape) (get name.now (view value.now)) (slot x)) }
-        ensures err { IfErr result (λ e. IsSchema e → RefusesRecords name.now (None, presence, shape) (view value.now)) }
+    /// Deserializes what stood under the name. Fails with `SerDe(Schema)` exactly if it is not allowed there, placed at the owner and the
+    /// name unless the value has a place of its own, else only with `Memory`.
+    fn read(
+        alloc: Global,
+        found: Option<Value>,
+        owner: &'static str,
+        name: &'static str,
+    ) -> Result<T>
+        ensures ok { IfOk result (λ x. MeansMember presence (Means shape) (option_map view found) (slot x)) }
+        ensures err { IfErr result (λ e. IsSchema e → IsMemberRefused presence shape (option_map view found) None) }
         ensures kind { IfErr result IsMemoryOrSchema };
 }
 
@@ -47,9 +51,20 @@ impl<T: OciMember> MemberReader<T> for Required {
 
     ghost slot = { given T.plain };
 
-    #[inline(always)]
-    fn read(alloc: Global, value: &Value, owner: &'static str, name: &'static str) -> Result<T> {
-        required(alloc, value, owner, name)
+    #[tactic(auto, using(crate::proofs::Presences::missing, crate::proofs::Presences::required_refused))]
+    fn read(
+        alloc: Global,
+        found: Option<Value>,
+        owner: &'static str,
+        name: &'static str,
+    ) -> Result<T> {
+        match found {
+            Some(value) => match T::read(alloc, value) {
+                Ok(x) => Ok(x),
+                Err(fault) => Err(placed(fault, owner, name)),
+            },
+            None => Err(refused(owner, name)),
+        }
     }
 }
 
@@ -66,14 +81,25 @@ impl<T: OciMember> MemberReader<Option<T>> for Optional {
 
     ghost slot = { perhaps T.plain };
 
-    #[inline(always)]
+    #[tactic(auto, using(crate::proofs::Presences::optional_refused, crate::proofs::Presences::optional_means, crate::proofs::Presences::optional_null))]
     fn read(
         alloc: Global,
-        value: &Value,
+        found: Option<Value>,
         owner: &'static str,
         name: &'static str,
     ) -> Result<Option<T>> {
-        optional(alloc, value, owner, name)
+        match found {
+            Some(value) => {
+                if value.is_null() {
+                    return Ok(None);
+                }
+                match T::read(alloc, value) {
+                    Ok(x) => Ok(Some(x)),
+                    Err(fault) => Err(placed(fault, owner, name)),
+                }
+            }
+            None => Ok(None),
+        }
     }
 }
 
@@ -90,10 +116,15 @@ impl<T: OciDefault> MemberReader<T> for Defaulted {
 
     ghost slot = { given T.plain };
 
-    #[tactic(auto, using(crate::proofs::Presences::defaulted_refused, crate::proofs::Presences::defaulted_means, crate::proofs::Presences::absent_means))]
-    fn read(alloc: Global, value: &Value, owner: &'static str, name: &'static str) -> Result<T> {
-        match value.get(name) {
-            Some(found) => match T::read(alloc, found) {
+    #[tactic(auto, using(crate::proofs::Presences::defaulted_refused, crate::proofs::Presences::absent_means))]
+    fn read(
+        alloc: Global,
+        found: Option<Value>,
+        owner: &'static str,
+        name: &'static str,
+    ) -> Result<T> {
+        match found {
+            Some(value) => match T::read(alloc, value) {
                 Ok(x) => Ok(x),
                 Err(fault) => Err(placed(fault, owner, name)),
             },
@@ -118,14 +149,11 @@ impl<T: OciMember> MemberReader<Option<T>> for Nullable {
     #[tactic(auto, using(crate::proofs::Presences::nullable_refused))]
     fn read(
         alloc: Global,
-        value: &Value,
+        found: Option<Value>,
         owner: &'static str,
         name: &'static str,
     ) -> Result<Option<T>> {
-        match optional::<T>(alloc, value, owner, name) {
-            Ok(x) => Ok(x),
-            Err(fault) => Err(fault),
-        }
+        <Optional as MemberReader<Option<T>>>::read(alloc, found, owner, name)
     }
 }
 
@@ -145,14 +173,11 @@ impl<T: OciMember> MemberReader<Option<Vec<T>>> for UnlessEmpty {
     #[tactic(auto, using(crate::proofs::Presences::unless_empty_refused))]
     fn read(
         alloc: Global,
-        value: &Value,
+        found: Option<Value>,
         owner: &'static str,
         name: &'static str,
     ) -> Result<Option<Vec<T>>> {
-        match optional::<Vec<T>>(alloc, value, owner, name) {
-            Ok(x) => Ok(x),
-            Err(fault) => Err(fault),
-        }
+        <Optional as MemberReader<Option<Vec<T>>>>::read(alloc, found, owner, name)
     }
 }
 
@@ -169,16 +194,24 @@ impl<K: OciKind<T>, T> MemberReader<Option<T>> for As<K> {
 
     ghost slot = { perhaps K.plain };
 
-    #[tactic(auto, using(crate::proofs::Readers::optional_refused))]
+    #[tactic(auto, using(crate::proofs::Presences::optional_refused, crate::proofs::Presences::optional_means, crate::proofs::Presences::optional_null))]
     fn read(
         alloc: Global,
-        value: &Value,
+        found: Option<Value>,
         owner: &'static str,
         name: &'static str,
     ) -> Result<Option<T>> {
-        match found_as::<K, T>(alloc, value.get(name), owner, name) {
-            Ok(x) => Ok(x),
-            Err(fault) => Err(fault),
+        match found {
+            Some(value) => {
+                if value.is_null() {
+                    return Ok(None);
+                }
+                match K::read(alloc, value) {
+                    Ok(x) => Ok(Some(x)),
+                    Err(fault) => Err(placed(fault, owner, name)),
+                }
+            }
+            None => Ok(None),
         }
     }
 }

@@ -23,7 +23,7 @@ fn whole(value: &Value) -> Option<i128>
 // the number of a type that a value holds, if it is in the type's range
 macro_rules! read_whole {
     ($value:expr, $number:ty) => {
-        match whole($value) {
+        match whole(&$value) {
             Some(n) => match <$number>::try_from(n) {
                 Ok(x) => Ok(x),
                 Err(_) => Err(refused("", "")),
@@ -42,7 +42,7 @@ impl OciMember for u16 {
     ghost plain = { number_plain };
 
     #[tactic(auto, using(crate::proofs::Readers::not_whole, crate::proofs::Readers::out_of_range))]
-    fn read(_alloc: Global, value: &Value) -> Result<u16> {
+    fn read(_alloc: Global, value: Value) -> Result<u16> {
         read_whole!(value, u16)
     }
 
@@ -68,7 +68,7 @@ impl OciMember for u32 {
     ghost plain = { number_plain };
 
     #[tactic(auto, using(crate::proofs::Readers::not_whole, crate::proofs::Readers::out_of_range))]
-    fn read(_alloc: Global, value: &Value) -> Result<u32> {
+    fn read(_alloc: Global, value: Value) -> Result<u32> {
         read_whole!(value, u32)
     }
 
@@ -94,7 +94,7 @@ impl OciMember for u64 {
     ghost plain = { number_plain };
 
     #[tactic(auto, using(crate::proofs::Readers::not_whole, crate::proofs::Readers::out_of_range))]
-    fn read(_alloc: Global, value: &Value) -> Result<u64> {
+    fn read(_alloc: Global, value: Value) -> Result<u64> {
         read_whole!(value, u64)
     }
 
@@ -120,7 +120,7 @@ impl OciMember for usize {
     ghost plain = { number_plain };
 
     #[tactic(auto, using(crate::proofs::Readers::not_whole, crate::proofs::Readers::out_of_range))]
-    fn read(_alloc: Global, value: &Value) -> Result<usize> {
+    fn read(_alloc: Global, value: Value) -> Result<usize> {
         read_whole!(value, usize)
     }
 
@@ -146,7 +146,7 @@ impl OciMember for i32 {
     ghost plain = { integer_plain };
 
     #[tactic(auto, using(crate::proofs::Readers::not_whole, crate::proofs::Readers::out_of_range))]
-    fn read(_alloc: Global, value: &Value) -> Result<i32> {
+    fn read(_alloc: Global, value: Value) -> Result<i32> {
         read_whole!(value, i32)
     }
 
@@ -172,7 +172,7 @@ impl OciMember for i64 {
     ghost plain = { integer_plain };
 
     #[tactic(auto, using(crate::proofs::Readers::not_whole, crate::proofs::Readers::out_of_range))]
-    fn read(_alloc: Global, value: &Value) -> Result<i64> {
+    fn read(_alloc: Global, value: Value) -> Result<i64> {
         read_whole!(value, i64)
     }
 

@@ -25,13 +25,14 @@ pub trait OciRecord: Eq + Drop {
     /// The content.
     ghost plain: { Self → Plain };
 
-    /// Deserializes `value`. Fails with `SerDe(Schema)` exactly if the schema rejects it, else only with `Memory`.
+    /// Deserializes `value`. Fails with `SerDe(Schema)` exactly if the schema rejects it, else only with `Memory`. The records here
+    /// deserialize a copy.
     fn from_value(alloc: Global, value: &Value) -> Result<Self>
         ensures ok { IfOk result (λ x. Means shape (view value.now) (plain x)) }
         ensures err { IfErr result (λ e. IsSchema e → IsRefused shape (view value.now)) }
         ensures kind { IfErr result IsMemoryOrSchema };
 
-    /// Deserializes `value` and consumes it, in any case. Strings are moved where the type moves them. Fails as `from_value`.
+    /// Deserializes `value` and consumes it, in any case. Fails as `from_value`. The records here move strings, lists and maps.
     #[inline(always)]
     fn from_value_owned(alloc: Global, value: Value) -> Result<Self>
         ensures ok { IfOk result (λ x. Means shape (view value) (plain x)) }
@@ -70,20 +71,12 @@ pub trait OciMember: Eq + Drop {
     /// The content.
     ghost plain: { Self → Plain };
 
-    /// Deserializes `value`. Fails with `SerDe(Schema)` exactly if the shape rejects it, else only with `Memory`.
-    fn read(alloc: Global, value: &Value) -> Result<Self>
-        ensures ok { IfOk result (λ x. Means shape (view value.now) (plain x)) }
-        ensures err { IfErr result (λ e. IsSchema e → IsRefused shape (view value.now)) }
-        ensures kind { IfErr result IsMemoryOrSchema };
-
-    /// Deserializes `value` and consumes it. Fails as `read`.
-    fn read_owned(alloc: Global, value: Value) -> Result<Self>
+    /// Deserializes `value` and consumes it, in any case. Fails with `SerDe(Schema)` exactly if the shape rejects it, else only with
+    /// `Memory`.
+    fn read(alloc: Global, value: Value) -> Result<Self>
         ensures ok { IfOk result (λ x. Means shape (view value) (plain x)) }
         ensures err { IfErr result (λ e. IsSchema e → IsRefused shape (view value)) }
-        ensures kind { IfErr result IsMemoryOrSchema }
-    {
-        Self::read(alloc, &value)
-    }
+        ensures kind { IfErr result IsMemoryOrSchema };
 
     /// Serializes the content to a value. Fails with `SerDe(Schema)` if it is not serializable, else only with `Memory`.
     fn write(&self, alloc: Global) -> Result<Value>
@@ -110,11 +103,7 @@ impl<T: OciRecord> OciMember for T {
 
     ghost plain = { T.OciRecord.plain };
 
-    fn read(alloc: Global, value: &Value) -> Result<T> {
-        T::from_value(alloc, value)
-    }
-
-    fn read_owned(alloc: Global, value: Value) -> Result<T> {
+    fn read(alloc: Global, value: Value) -> Result<T> {
         T::from_value_owned(alloc, value)
     }
 

@@ -1,6 +1,6 @@
 //! Texts as members.
 use crate::fault::refused;
-use crate::owned::into_text;
+use crate::parts::into_text;
 use crate::record::OciMember;
 use oci_base::Result;
 use serde_json::Value;
@@ -16,15 +16,7 @@ impl OciMember for String {
     ghost plain = { text_plain };
 
     #[tactic(auto, using(crate::proofs::Readers::not_text))]
-    fn read(alloc: Global, value: &Value) -> Result<String> {
-        match value.as_str() {
-            Some(text) => Ok(String::from_str(alloc, text)?),
-            None => Err(refused("", "")),
-        }
-    }
-
-    #[tactic(auto, using(crate::proofs::Readers::not_text))]
-    fn read_owned(_alloc: Global, value: Value) -> Result<String> {
+    fn read(_alloc: Global, value: Value) -> Result<String> {
         match into_text(value) {
             Some(text) => Ok(text),
             None => Err(refused("", "")),

@@ -15,7 +15,7 @@ impl OciMember for bool {
     ghost plain = { truth_plain };
 
     #[tactic(auto, using(crate::proofs::Readers::not_truth))]
-    fn read(_alloc: Global, value: &Value) -> Result<bool> {
+    fn read(_alloc: Global, value: Value) -> Result<bool> {
         match value.as_bool() {
             Some(x) => Ok(x),
             None => Err(refused("", "")),

@@ -7,7 +7,8 @@ use crate::solaris_capped_cpu::SolarisCappedCPU;
 use crate::solaris_capped_memory::SolarisCappedMemory;
 use oci_base::{OciSpecError, Result};
 use oci_model::{
-    ObjectWriter, OciRecord, Optional, copy_optional, read3, try_join2, try_join3, write_optional,
+    ObjectWriter, OciRecord, Optional, copy_optional, nested, read_members, try_join2, try_join3,
+    write_optional,
 };
 use serde_json::Value;
 use std::alloc::Global;
@@ -174,19 +175,30 @@ impl OciRecord for Solaris {
     ghost plain = { solaris_plain };
 
     fn from_value(alloc: Global, value: &Value) -> Result<Solaris> {
-        let ((milestone, limitpriv, max_shm_memory), (anet, capped_cpu, capped_memory)) = try_join2(
-            read3::<Optional, Optional, Optional, _, _, _>(
-                alloc,
-                value,
-                NAME,
+        let value = value.clone()?;
+        Self::from_value_owned(alloc, value)
+    }
+
+    fn from_value_owned(alloc: Global, value: Value) -> Result<Solaris> {
+        let nested!(
+            milestone,
+            limitpriv,
+            max_shm_memory,
+            anet,
+            capped_cpu,
+            capped_memory
+        ) = read_members::<
+            nested!(Optional, Optional, Optional, Optional, Optional, Optional),
+            _,
+            _,
+        >(
+            alloc,
+            value,
+            NAME,
+            nested!(
                 "milestone",
                 "limitpriv",
                 "maxShmMemory",
-            ),
-            read3::<Optional, Optional, Optional, _, _, _>(
-                alloc,
-                value,
-                NAME,
                 "anet",
                 "cappedCPU",
                 "cappedMemory",

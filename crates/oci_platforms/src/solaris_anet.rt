@@ -4,7 +4,7 @@ ghost use Rattle.std.specs.Prelude.{◌≡◌, IfOk, IfErr};
 
 use oci_base::{OciSpecError, Result};
 use oci_model::{
-    ObjectWriter, OciRecord, Optional, copy_optional, read3, read4, try_join2, try_join3,
+    ObjectWriter, OciRecord, Optional, copy_optional, nested, read_members, try_join2, try_join3,
     try_join4, write_optional,
 };
 use serde_json::Value;
@@ -192,23 +192,34 @@ impl OciRecord for SolarisAnet {
     ghost plain = { solaris_anet_plain };
 
     fn from_value(alloc: Global, value: &Value) -> Result<SolarisAnet> {
-        let (
-            (linkname, lower_link, allowed_address, configure_allowed_address),
-            (defrouter, link_protection, mac_address),
-        ) = try_join2(
-            read4::<Optional, Optional, Optional, Optional, _, _, _, _>(
-                alloc,
-                value,
-                NAME,
+        let value = value.clone()?;
+        Self::from_value_owned(alloc, value)
+    }
+
+    fn from_value_owned(alloc: Global, value: Value) -> Result<SolarisAnet> {
+        let nested!(
+            linkname,
+            lower_link,
+            allowed_address,
+            configure_allowed_address,
+            defrouter,
+            link_protection,
+            mac_address,
+        ) = read_members::<
+            nested!(
+                Optional, Optional, Optional, Optional, Optional, Optional, Optional
+            ),
+            _,
+            _,
+        >(
+            alloc,
+            value,
+            NAME,
+            nested!(
                 "linkname",
                 "lowerLink",
                 "allowedAddress",
                 "configureAllowedAddress",
-            ),
-            read3::<Optional, Optional, Optional, _, _, _>(
-                alloc,
-                value,
-                NAME,
                 "defrouter",
                 "linkProtection",
                 "macAddress",

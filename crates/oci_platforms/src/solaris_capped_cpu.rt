@@ -3,7 +3,9 @@
 ghost use Rattle.std.specs.Prelude.{◌≡◌, IfOk, IfErr};
 
 use oci_base::{OciSpecError, Result};
-use oci_model::{ObjectWriter, OciRecord, Optional, copy_optional, read1, write_optional};
+use oci_model::{
+    ObjectWriter, OciRecord, Optional, copy_optional, nested, read_members, write_optional,
+};
 use serde_json::Value;
 use std::alloc::Global;
 
@@ -67,7 +69,17 @@ impl OciRecord for SolarisCappedCPU {
     ghost plain = { solaris_capped_cpu_plain };
 
     fn from_value(alloc: Global, value: &Value) -> Result<SolarisCappedCPU> {
-        let ncpus = read1::<Optional, _>(alloc, value, NAME, "ncpus")?;
+        let value = value.clone()?;
+        Self::from_value_owned(alloc, value)
+    }
+
+    fn from_value_owned(alloc: Global, value: Value) -> Result<SolarisCappedCPU> {
+        let nested!(ncpus) = read_members::<nested!(Optional), _, _>(
+            alloc,
+            value,
+            NAME,
+            nested!("ncpus"),
+        )?;
         Ok(SolarisCappedCPU { ncpus })
     }
 

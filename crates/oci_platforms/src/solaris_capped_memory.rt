@@ -4,7 +4,8 @@ ghost use Rattle.std.specs.Prelude.{◌≡◌, IfOk, IfErr};
 
 use oci_base::{OciSpecError, Result};
 use oci_model::{
-    ObjectWriter, OciRecord, Optional, copy_optional, read2, try_join2, write_optional,
+    ObjectWriter, OciRecord, Optional, copy_optional, nested, read_members, try_join2,
+    write_optional,
 };
 use serde_json::Value;
 use std::alloc::Global;
@@ -89,8 +90,16 @@ impl OciRecord for SolarisCappedMemory {
     ghost plain = { solaris_capped_memory_plain };
 
     fn from_value(alloc: Global, value: &Value) -> Result<SolarisCappedMemory> {
-        let (physical, swap) = read2::<Optional, Optional, _, _>(
-            alloc, value, NAME, "physical", "swap",
+        let value = value.clone()?;
+        Self::from_value_owned(alloc, value)
+    }
+
+    fn from_value_owned(alloc: Global, value: Value) -> Result<SolarisCappedMemory> {
+        let nested!(physical, swap) = read_members::<nested!(Optional, Optional), _, _>(
+            alloc,
+            value,
+            NAME,
+            nested!("physical", "swap"),
         )?;
         Ok(SolarisCappedMemory { physical, swap })
     }

@@ -7,8 +7,8 @@ use crate::vm_image::VMImage;
 use crate::vm_kernel::VMKernel;
 use oci_base::{OciSpecError, Result};
 use oci_model::{
-    ObjectWriter, OciMember, OciRecord, Optional, Required, copy_optional, read3, try_join3,
-    write_optional, write_required,
+    ObjectWriter, OciMember, OciRecord, Optional, Required, copy_optional, nested, read_members,
+    try_join3, write_optional, write_required,
 };
 use serde_json::Value;
 use std::alloc::Global;
@@ -118,14 +118,16 @@ impl OciRecord for VM {
     ghost plain = { vm_plain };
 
     fn from_value(alloc: Global, value: &Value) -> Result<VM> {
-        let (hypervisor, kernel, image) = read3::<Optional, Required, Optional, _, _, _>(
-            alloc,
-            value,
-            NAME,
-            "hypervisor",
-            "kernel",
-            "image",
-        )?;
+        let value = value.clone()?;
+        Self::from_value_owned(alloc, value)
+    }
+
+    fn from_value_owned(alloc: Global, value: Value) -> Result<VM> {
+        let nested!(hypervisor, kernel, image) = read_members::<
+            nested!(Optional, Required, Optional),
+            _,
+            _,
+        >(alloc, value, NAME, nested!("hypervisor", "kernel", "image"))?;
         Ok(VM {
             hypervisor,
             kernel,

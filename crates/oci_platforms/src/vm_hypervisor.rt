@@ -4,8 +4,8 @@ ghost use Rattle.std.specs.Prelude.{◌≡◌, IfOk, IfErr};
 
 use oci_base::{OciSpecError, Result};
 use oci_model::{
-    ObjectWriter, OciMember, OciRecord, Optional, Required, copy_optional, read2, try_join2,
-    write_optional, write_required,
+    ObjectWriter, OciMember, OciRecord, Optional, Required, copy_optional, nested, read_members,
+    try_join2, write_optional, write_required,
 };
 use serde_json::Value;
 use std::alloc::Global;
@@ -90,12 +90,16 @@ impl OciRecord for VMHypervisor {
     ghost plain = { vm_hypervisor_plain };
 
     fn from_value(alloc: Global, value: &Value) -> Result<VMHypervisor> {
-        let (path, parameters) = read2::<Required, Optional, _, _>(
+        let value = value.clone()?;
+        Self::from_value_owned(alloc, value)
+    }
+
+    fn from_value_owned(alloc: Global, value: Value) -> Result<VMHypervisor> {
+        let nested!(path, parameters) = read_members::<nested!(Required, Optional), _, _>(
             alloc,
             value,
             NAME,
-            "path",
-            "parameters",
+            nested!("path", "parameters"),
         )?;
         Ok(VMHypervisor { path, parameters })
     }

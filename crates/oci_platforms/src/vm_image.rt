@@ -3,7 +3,9 @@
 ghost use Rattle.std.specs.Prelude.{◌≡◌, IfOk, IfErr};
 
 use oci_base::{OciSpecError, Result};
-use oci_model::{ObjectWriter, OciMember, OciRecord, Required, read2, try_join2, write_required};
+use oci_model::{
+    ObjectWriter, OciMember, OciRecord, Required, nested, read_members, try_join2, write_required,
+};
 use serde_json::Value;
 use std::alloc::Global;
 
@@ -88,8 +90,16 @@ impl OciRecord for VMImage {
     ghost plain = { vm_image_plain };
 
     fn from_value(alloc: Global, value: &Value) -> Result<VMImage> {
-        let (path, format) = read2::<Required, Required, _, _>(
-            alloc, value, NAME, "path", "format",
+        let value = value.clone()?;
+        Self::from_value_owned(alloc, value)
+    }
+
+    fn from_value_owned(alloc: Global, value: Value) -> Result<VMImage> {
+        let nested!(path, format) = read_members::<nested!(Required, Required), _, _>(
+            alloc,
+            value,
+            NAME,
+            nested!("path", "format"),
         )?;
         Ok(VMImage { path, format })
     }

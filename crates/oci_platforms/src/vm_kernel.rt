@@ -4,8 +4,8 @@ ghost use Rattle.std.specs.Prelude.{◌≡◌, IfOk, IfErr};
 
 use oci_base::{OciSpecError, Result};
 use oci_model::{
-    ObjectWriter, OciMember, OciRecord, Optional, Required, copy_optional, read3, try_join3,
-    write_optional, write_required,
+    ObjectWriter, OciMember, OciRecord, Optional, Required, copy_optional, nested, read_members,
+    try_join3, write_optional, write_required,
 };
 use serde_json::Value;
 use std::alloc::Global;
@@ -112,14 +112,16 @@ impl OciRecord for VMKernel {
     ghost plain = { vm_kernel_plain };
 
     fn from_value(alloc: Global, value: &Value) -> Result<VMKernel> {
-        let (path, parameters, initrd) = read3::<Required, Optional, Optional, _, _, _>(
-            alloc,
-            value,
-            NAME,
-            "path",
-            "parameters",
-            "initrd",
-        )?;
+        let value = value.clone()?;
+        Self::from_value_owned(alloc, value)
+    }
+
+    fn from_value_owned(alloc: Global, value: Value) -> Result<VMKernel> {
+        let nested!(path, parameters, initrd) = read_members::<
+            nested!(Required, Optional, Optional),
+            _,
+            _,
+        >(alloc, value, NAME, nested!("path", "parameters", "initrd"))?;
         Ok(VMKernel {
             path,
             parameters,

@@ -9,7 +9,7 @@ use crate::windows_resources::WindowsResources;
 use oci_base::{OciSpecError, Result};
 use oci_model::{
     As, FreeValues, ObjectWriter, OciRecord, Optional, copy_optional, copy_optional_as,
-    equal_optional_values, read4, try_join2, try_join5, write_optional, write_optional_as,
+    equal_optional_values, nested, read_members, try_join5, write_optional, write_optional_as,
 };
 use serde_json::Value;
 use std::alloc::Global;
@@ -249,23 +249,42 @@ impl OciRecord for Windows {
     ghost plain = { windows_plain };
 
     fn from_value(alloc: Global, value: &Value) -> Result<Windows> {
-        let (
-            (layer_folders, devices, resources, credential_spec),
-            (servicing, ignore_flushes_during_boot, hyperv, network),
-        ) = try_join2(
-            read4::<Optional, Optional, Optional, As<FreeValues>, _, _, _, _>(
-                alloc,
-                value,
-                NAME,
+        let value = value.clone()?;
+        Self::from_value_owned(alloc, value)
+    }
+
+    fn from_value_owned(alloc: Global, value: Value) -> Result<Windows> {
+        let nested!(
+            layer_folders,
+            devices,
+            resources,
+            credential_spec,
+            servicing,
+            ignore_flushes_during_boot,
+            hyperv,
+            network,
+        ) = read_members::<
+            nested!(
+            Optional,
+            Optional,
+            Optional,
+            As<FreeValues>,
+            Optional,
+            Optional,
+            Optional,
+            Optional,
+        ),
+            _,
+            _,
+        >(
+            alloc,
+            value,
+            NAME,
+            nested!(
                 "layerFolders",
                 "devices",
                 "resources",
                 "credentialSpec",
-            ),
-            read4::<Optional, Optional, Optional, Optional, _, _, _, _>(
-                alloc,
-                value,
-                NAME,
                 "servicing",
                 "ignoreFlushesDuringBoot",
                 "hyperv",

@@ -3,7 +3,7 @@
 ghost use Rattle.std.specs.Prelude.{◌≡◌, IfOk, IfErr};
 
 use oci_base::{OciSpecError, Result};
-use oci_model::{ObjectWriter, OciRecord, Optional, read3, write_optional};
+use oci_model::{ObjectWriter, OciRecord, Optional, nested, read_members, write_optional};
 use serde_json::Value;
 use std::alloc::Global;
 
@@ -99,9 +99,16 @@ impl OciRecord for WindowsCPUResources {
     ghost plain = { windows_cpu_resources_plain };
 
     fn from_value(alloc: Global, value: &Value) -> Result<WindowsCPUResources> {
-        let (count, shares, maximum) = read3::<Optional, Optional, Optional, _, _, _>(
-            alloc, value, NAME, "count", "shares", "maximum",
-        )?;
+        let value = value.clone()?;
+        Self::from_value_owned(alloc, value)
+    }
+
+    fn from_value_owned(alloc: Global, value: Value) -> Result<WindowsCPUResources> {
+        let nested!(count, shares, maximum) = read_members::<
+            nested!(Optional, Optional, Optional),
+            _,
+            _,
+        >(alloc, value, NAME, nested!("count", "shares", "maximum"))?;
         Ok(WindowsCPUResources {
             count,
             shares,

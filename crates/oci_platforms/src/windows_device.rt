@@ -3,7 +3,9 @@
 ghost use Rattle.std.specs.Prelude.{◌≡◌, IfOk, IfErr};
 
 use oci_base::{OciSpecError, Result};
-use oci_model::{ObjectWriter, OciMember, OciRecord, Required, read2, try_join2, write_required};
+use oci_model::{
+    ObjectWriter, OciMember, OciRecord, Required, nested, read_members, try_join2, write_required,
+};
 use serde_json::Value;
 use std::alloc::Global;
 
@@ -87,7 +89,17 @@ impl OciRecord for WindowsDevice {
     ghost plain = { windows_device_plain };
 
     fn from_value(alloc: Global, value: &Value) -> Result<WindowsDevice> {
-        let (id, id_type) = read2::<Required, Required, _, _>(alloc, value, NAME, "id", "idType")?;
+        let value = value.clone()?;
+        Self::from_value_owned(alloc, value)
+    }
+
+    fn from_value_owned(alloc: Global, value: Value) -> Result<WindowsDevice> {
+        let nested!(id, id_type) = read_members::<nested!(Required, Required), _, _>(
+            alloc,
+            value,
+            NAME,
+            nested!("id", "idType"),
+        )?;
         Ok(WindowsDevice { id, id_type })
     }
 

@@ -3,7 +3,9 @@
 ghost use Rattle.std.specs.Prelude.{◌≡◌, IfOk, IfErr};
 
 use oci_base::{OciSpecError, Result};
-use oci_model::{ObjectWriter, OciRecord, Optional, copy_optional, read1, write_optional};
+use oci_model::{
+    ObjectWriter, OciRecord, Optional, copy_optional, nested, read_members, write_optional,
+};
 use serde_json::Value;
 use std::alloc::Global;
 
@@ -69,7 +71,17 @@ impl OciRecord for WindowsHyperV {
     ghost plain = { windows_hyper_v_plain };
 
     fn from_value(alloc: Global, value: &Value) -> Result<WindowsHyperV> {
-        let utility_vm_path = read1::<Optional, _>(alloc, value, NAME, "utilityVmPath")?;
+        let value = value.clone()?;
+        Self::from_value_owned(alloc, value)
+    }
+
+    fn from_value_owned(alloc: Global, value: Value) -> Result<WindowsHyperV> {
+        let nested!(utility_vm_path) = read_members::<nested!(Optional), _, _>(
+            alloc,
+            value,
+            NAME,
+            nested!("utilityVmPath"),
+        )?;
         Ok(WindowsHyperV { utility_vm_path })
     }
 

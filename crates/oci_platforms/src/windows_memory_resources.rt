@@ -3,7 +3,7 @@
 ghost use Rattle.std.specs.Prelude.{◌≡◌, IfOk, IfErr};
 
 use oci_base::{OciSpecError, Result};
-use oci_model::{ObjectWriter, OciRecord, Optional, read1, write_optional};
+use oci_model::{ObjectWriter, OciRecord, Optional, nested, read_members, write_optional};
 use serde_json::Value;
 use std::alloc::Global;
 
@@ -61,7 +61,17 @@ impl OciRecord for WindowsMemoryResources {
     ghost plain = { windows_memory_resources_plain };
 
     fn from_value(alloc: Global, value: &Value) -> Result<WindowsMemoryResources> {
-        let limit = read1::<Optional, _>(alloc, value, NAME, "limit")?;
+        let value = value.clone()?;
+        Self::from_value_owned(alloc, value)
+    }
+
+    fn from_value_owned(alloc: Global, value: Value) -> Result<WindowsMemoryResources> {
+        let nested!(limit) = read_members::<nested!(Optional), _, _>(
+            alloc,
+            value,
+            NAME,
+            nested!("limit"),
+        )?;
         Ok(WindowsMemoryResources { limit })
     }
 

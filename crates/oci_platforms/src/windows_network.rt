@@ -4,7 +4,8 @@ ghost use Rattle.std.specs.Prelude.{◌≡◌, IfOk, IfErr};
 
 use oci_base::{OciSpecError, Result};
 use oci_model::{
-    ObjectWriter, OciRecord, Optional, copy_optional, read5, try_join4, write_optional,
+    ObjectWriter, OciRecord, Optional, copy_optional, nested, read_members, try_join4,
+    write_optional,
 };
 use serde_json::Value;
 use std::alloc::Global;
@@ -155,21 +156,28 @@ impl OciRecord for WindowsNetwork {
     ghost plain = { windows_network_plain };
 
     fn from_value(alloc: Global, value: &Value) -> Result<WindowsNetwork> {
-        let (
+        let value = value.clone()?;
+        Self::from_value_owned(alloc, value)
+    }
+
+    fn from_value_owned(alloc: Global, value: Value) -> Result<WindowsNetwork> {
+        let nested!(
             endpoint_list,
             allow_unqualified_dns_query,
             dns_search_list,
             network_shared_container_name,
             network_namespace,
-        ) = read5::<Optional, Optional, Optional, Optional, Optional, _, _, _, _, _>(
+        ) = read_members::<nested!(Optional, Optional, Optional, Optional, Optional), _, _>(
             alloc,
             value,
             NAME,
-            "endpointList",
-            "allowUnqualifiedDNSQuery",
-            "DNSSearchList",
-            "networkSharedContainerName",
-            "networkNamespace",
+            nested!(
+                "endpointList",
+                "allowUnqualifiedDNSQuery",
+                "DNSSearchList",
+                "networkSharedContainerName",
+                "networkNamespace",
+            ),
         )?;
         Ok(WindowsNetwork {
             endpoint_list,

@@ -6,7 +6,7 @@ use crate::windows_cpu_resources::WindowsCPUResources;
 use crate::windows_memory_resources::WindowsMemoryResources;
 use crate::windows_storage_resources::WindowsStorageResources;
 use oci_base::{OciSpecError, Result};
-use oci_model::{ObjectWriter, OciRecord, Optional, read3, write_optional};
+use oci_model::{ObjectWriter, OciRecord, Optional, nested, read_members, write_optional};
 use serde_json::Value;
 use std::alloc::Global;
 
@@ -105,9 +105,16 @@ impl OciRecord for WindowsResources {
     ghost plain = { windows_resources_plain };
 
     fn from_value(alloc: Global, value: &Value) -> Result<WindowsResources> {
-        let (memory, cpu, storage) = read3::<Optional, Optional, Optional, _, _, _>(
-            alloc, value, NAME, "memory", "cpu", "storage",
-        )?;
+        let value = value.clone()?;
+        Self::from_value_owned(alloc, value)
+    }
+
+    fn from_value_owned(alloc: Global, value: Value) -> Result<WindowsResources> {
+        let nested!(memory, cpu, storage) = read_members::<
+            nested!(Optional, Optional, Optional),
+            _,
+            _,
+        >(alloc, value, NAME, nested!("memory", "cpu", "storage"))?;
         Ok(WindowsResources {
             memory,
             cpu,

@@ -3,7 +3,7 @@
 ghost use Rattle.std.specs.Prelude.{◌≡◌, IfOk, IfErr};
 
 use oci_base::{OciSpecError, Result};
-use oci_model::{ObjectWriter, OciRecord, Optional, read3, write_optional};
+use oci_model::{ObjectWriter, OciRecord, Optional, nested, read_members, write_optional};
 use serde_json::Value;
 use std::alloc::Global;
 
@@ -99,14 +99,16 @@ impl OciRecord for WindowsStorageResources {
     ghost plain = { windows_storage_resources_plain };
 
     fn from_value(alloc: Global, value: &Value) -> Result<WindowsStorageResources> {
-        let (iops, bps, sandbox_size) = read3::<Optional, Optional, Optional, _, _, _>(
-            alloc,
-            value,
-            NAME,
-            "iops",
-            "bps",
-            "sandboxSize",
-        )?;
+        let value = value.clone()?;
+        Self::from_value_owned(alloc, value)
+    }
+
+    fn from_value_owned(alloc: Global, value: Value) -> Result<WindowsStorageResources> {
+        let nested!(iops, bps, sandbox_size) = read_members::<
+            nested!(Optional, Optional, Optional),
+            _,
+            _,
+        >(alloc, value, NAME, nested!("iops", "bps", "sandboxSize"))?;
         Ok(WindowsStorageResources {
             iops,
             bps,

@@ -4,7 +4,9 @@ ghost use Rattle.std.specs.Prelude.{◌≡◌, IfOk, IfErr};
 
 use crate::zos_namespace::ZOSNamespace;
 use oci_base::{OciSpecError, Result};
-use oci_model::{ObjectWriter, OciRecord, Optional, copy_optional, read1, write_optional};
+use oci_model::{
+    ObjectWriter, OciRecord, Optional, copy_optional, nested, read_members, write_optional,
+};
 use serde_json::Value;
 use std::alloc::Global;
 
@@ -69,7 +71,17 @@ impl OciRecord for ZOS {
     ghost plain = { zos_plain };
 
     fn from_value(alloc: Global, value: &Value) -> Result<ZOS> {
-        let namespaces = read1::<Optional, _>(alloc, value, NAME, "namespaces")?;
+        let value = value.clone()?;
+        Self::from_value_owned(alloc, value)
+    }
+
+    fn from_value_owned(alloc: Global, value: Value) -> Result<ZOS> {
+        let nested!(namespaces) = read_members::<nested!(Optional), _, _>(
+            alloc,
+            value,
+            NAME,
+            nested!("namespaces"),
+        )?;
         Ok(ZOS { namespaces })
     }
 

@@ -4,8 +4,8 @@ ghost use Rattle.std.specs.Prelude.{◌≡◌, IfOk, IfErr};
 
 use oci_base::{OciSpecError, Result};
 use oci_model::{
-    ObjectWriter, OciRecord, Optional, Required, copy_optional, read2, write_optional,
-    write_required,
+    ObjectWriter, OciRecord, Optional, Required, copy_optional, nested, read_members,
+    write_optional, write_required,
 };
 use oci_text::ZOSNamespaceType;
 use serde_json::Value;
@@ -92,7 +92,17 @@ impl OciRecord for ZOSNamespace {
     ghost plain = { zos_namespace_plain };
 
     fn from_value(alloc: Global, value: &Value) -> Result<ZOSNamespace> {
-        let (typ, path) = read2::<Required, Optional, _, _>(alloc, value, NAME, "type", "path")?;
+        let value = value.clone()?;
+        Self::from_value_owned(alloc, value)
+    }
+
+    fn from_value_owned(alloc: Global, value: Value) -> Result<ZOSNamespace> {
+        let nested!(typ, path) = read_members::<nested!(Required, Optional), _, _>(
+            alloc,
+            value,
+            NAME,
+            nested!("type", "path"),
+        )?;
         Ok(ZOSNamespace { typ, path })
     }
 

@@ -3,7 +3,7 @@
 ghost use Rattle.std.specs.Prelude.{◌≡◌, IfOk, IfErr};
 
 use oci_base::{OciSpecError, Result};
-use oci_model::{Defaulted, ObjectWriter, OciRecord, read2, write_required};
+use oci_model::{Defaulted, ObjectWriter, OciRecord, nested, read_members, write_required};
 use serde_json::Value;
 use std::alloc::Global;
 
@@ -64,8 +64,16 @@ impl OciRecord for Box {
     ghost plain = { console_box_plain };
 
     fn from_value(alloc: Global, value: &Value) -> Result<Box> {
-        let (height, width) = read2::<Defaulted, Defaulted, _, _>(
-            alloc, value, NAME, "height", "width",
+        let value = value.clone()?;
+        Self::from_value_owned(alloc, value)
+    }
+
+    fn from_value_owned(alloc: Global, value: Value) -> Result<Box> {
+        let nested!(height, width) = read_members::<nested!(Defaulted, Defaulted), _, _>(
+            alloc,
+            value,
+            NAME,
+            nested!("height", "width"),
         )?;
         Ok(Box { height, width })
     }

@@ -6,7 +6,8 @@ mod build;
 
 use oci_base::{OciSpecError, Result};
 use oci_model::{
-    As, ObjectWriter, OciRecord, copy_optional_as, read2, try_join2, write_optional_as,
+    As, ObjectWriter, OciRecord, copy_optional_as, nested, read_members, try_join2,
+    write_optional_as,
 };
 use oci_text::CpuTexts;
 use serde_json::Value;
@@ -98,9 +99,16 @@ impl OciRecord for ExecCPUAffinity {
     ghost plain = { exec_cpu_affinity_plain };
 
     fn from_value(alloc: Global, value: &Value) -> Result<ExecCPUAffinity> {
-        let (initial, cpu_affinity_final) = read2::<As<CpuTexts>, As<CpuTexts>, _, _>(
-            alloc, value, NAME, "initial", "final",
-        )?;
+        let value = value.clone()?;
+        Self::from_value_owned(alloc, value)
+    }
+
+    fn from_value_owned(alloc: Global, value: Value) -> Result<ExecCPUAffinity> {
+        let nested!(initial, cpu_affinity_final) = read_members::<
+            nested!(As<CpuTexts>, As<CpuTexts>),
+            _,
+            _,
+        >(alloc, value, NAME, nested!("initial", "final"))?;
         Ok(ExecCPUAffinity {
             initial,
             cpu_affinity_final,

@@ -4,7 +4,8 @@ ghost use Rattle.std.specs.Prelude.{◌≡◌, IfOk, IfErr};
 
 use oci_base::{OciSpecError, Result};
 use oci_model::{
-    As, ObjectWriter, OciRecord, copy_optional_as, read5, try_join5, write_optional_as,
+    As, ObjectWriter, OciRecord, copy_optional_as, nested, read_members, try_join5,
+    write_optional_as,
 };
 use oci_text::{Capability, Caps, default_capabilities};
 use serde_json::Value;
@@ -159,26 +160,26 @@ impl OciRecord for LinuxCapabilities {
     ghost plain = { linux_capabilities_plain };
 
     fn from_value(alloc: Global, value: &Value) -> Result<LinuxCapabilities> {
-        let (bounding, effective, inheritable, permitted, ambient) = read5::<
-            As<Caps>,
-            As<Caps>,
-            As<Caps>,
-            As<Caps>,
-            As<Caps>,
-            _,
-            _,
-            _,
+        let value = value.clone()?;
+        Self::from_value_owned(alloc, value)
+    }
+
+    fn from_value_owned(alloc: Global, value: Value) -> Result<LinuxCapabilities> {
+        let nested!(bounding, effective, inheritable, permitted, ambient) = read_members::<
+            nested!(As<Caps>, As<Caps>, As<Caps>, As<Caps>, As<Caps>),
             _,
             _,
         >(
             alloc,
             value,
             NAME,
-            "bounding",
-            "effective",
-            "inheritable",
-            "permitted",
-            "ambient",
+            nested!(
+                "bounding",
+                "effective",
+                "inheritable",
+                "permitted",
+                "ambient"
+            ),
         )?;
         Ok(LinuxCapabilities {
             bounding,

@@ -3,7 +3,7 @@
 ghost use Rattle.std.specs.Prelude.{◌≡◌, IfOk, IfErr};
 
 use oci_base::{OciSpecError, Result};
-use oci_model::{Defaulted, ObjectWriter, OciRecord, read2, write_required};
+use oci_model::{Defaulted, ObjectWriter, OciRecord, nested, read_members, write_required};
 use oci_text::IOPriorityClass;
 use serde_json::Value;
 use std::alloc::Global;
@@ -67,8 +67,16 @@ impl OciRecord for LinuxIOPriority {
     ghost plain = { linux_io_priority_plain };
 
     fn from_value(alloc: Global, value: &Value) -> Result<LinuxIOPriority> {
-        let (class, priority) = read2::<Defaulted, Defaulted, _, _>(
-            alloc, value, NAME, "class", "priority",
+        let value = value.clone()?;
+        Self::from_value_owned(alloc, value)
+    }
+
+    fn from_value_owned(alloc: Global, value: Value) -> Result<LinuxIOPriority> {
+        let nested!(class, priority) = read_members::<nested!(Defaulted, Defaulted), _, _>(
+            alloc,
+            value,
+            NAME,
+            nested!("class", "priority"),
         )?;
         Ok(LinuxIOPriority { class, priority })
     }

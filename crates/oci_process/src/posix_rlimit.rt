@@ -3,7 +3,9 @@
 ghost use Rattle.std.specs.Prelude.{◌≡◌, IfOk, IfErr};
 
 use oci_base::{OciSpecError, Result};
-use oci_model::{Defaulted, ObjectWriter, OciRecord, Required, read3, write_required};
+use oci_model::{
+    Defaulted, ObjectWriter, OciRecord, Required, nested, read_members, write_required,
+};
 use oci_text::PosixRlimitType;
 use serde_json::Value;
 use std::alloc::Global;
@@ -76,9 +78,16 @@ impl OciRecord for PosixRlimit {
     ghost plain = { posix_rlimit_plain };
 
     fn from_value(alloc: Global, value: &Value) -> Result<PosixRlimit> {
-        let (typ, hard, soft) = read3::<Required, Defaulted, Defaulted, _, _, _>(
-            alloc, value, NAME, "type", "hard", "soft",
-        )?;
+        let value = value.clone()?;
+        Self::from_value_owned(alloc, value)
+    }
+
+    fn from_value_owned(alloc: Global, value: Value) -> Result<PosixRlimit> {
+        let nested!(typ, hard, soft) = read_members::<
+            nested!(Required, Defaulted, Defaulted),
+            _,
+            _,
+        >(alloc, value, NAME, nested!("type", "hard", "soft"))?;
         Ok(PosixRlimit { typ, hard, soft })
     }
 

@@ -16,8 +16,8 @@ use crate::user::User;
 pub use builder::ProcessBuilder;
 use oci_base::{OciSpecError, Result};
 use oci_model::{
-    ObjectWriter, OciMember, OciRecord, Optional, Required, copy_optional, read4, try_join2,
-    try_join3, try_join4, write_optional, write_required,
+    ObjectWriter, OciMember, OciRecord, Optional, Required, copy_optional, nested, read_members,
+    try_join2, try_join3, try_join4, write_optional, write_required,
 };
 use serde_json::Value;
 use std::alloc::Global;
@@ -135,43 +135,52 @@ impl OciRecord for Process {
     ghost plain = { process_plain };
 
     fn from_value(alloc: Global, value: &Value) -> Result<Process> {
-        let (
-            (terminal, console_size, user, args),
-            (command_line, env, cwd, capabilities),
-            (rlimits, no_new_privileges, apparmor_profile, oom_score_adj),
-            (selinux_label, io_priority, scheduler, exec_cpu_affinity),
-        ) = try_join4(
-            read4::<Optional, Optional, Required, Optional, _, _, _, _>(
-                alloc,
-                value,
-                NAME,
+        let value = value.clone()?;
+        Self::from_value_owned(alloc, value)
+    }
+
+    fn from_value_owned(alloc: Global, value: Value) -> Result<Process> {
+        let nested!(
+            terminal,
+            console_size,
+            user,
+            args,
+            command_line,
+            env,
+            cwd,
+            capabilities,
+            rlimits,
+            no_new_privileges,
+            apparmor_profile,
+            oom_score_adj,
+            selinux_label,
+            io_priority,
+            scheduler,
+            exec_cpu_affinity,
+        ) = read_members::<
+            nested!(
+                Optional, Optional, Required, Optional, Optional, Optional, Required, Optional,
+                Optional, Optional, Optional, Optional, Optional, Optional, Optional, Optional,
+            ),
+            _,
+            _,
+        >(
+            alloc,
+            value,
+            NAME,
+            nested!(
                 "terminal",
                 "consoleSize",
                 "user",
                 "args",
-            ),
-            read4::<Optional, Optional, Required, Optional, _, _, _, _>(
-                alloc,
-                value,
-                NAME,
                 "commandLine",
                 "env",
                 "cwd",
                 "capabilities",
-            ),
-            read4::<Optional, Optional, Optional, Optional, _, _, _, _>(
-                alloc,
-                value,
-                NAME,
                 "rlimits",
                 "noNewPrivileges",
                 "apparmorProfile",
                 "oomScoreAdj",
-            ),
-            read4::<Optional, Optional, Optional, Optional, _, _, _, _>(
-                alloc,
-                value,
-                NAME,
                 "selinuxLabel",
                 "ioPriority",
                 "scheduler",

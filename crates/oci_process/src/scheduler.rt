@@ -4,7 +4,7 @@ ghost use Rattle.std.specs.Prelude.{◌≡◌, IfOk, IfErr};
 
 use oci_base::{OciSpecError, Result};
 use oci_model::{
-    ObjectWriter, OciRecord, Optional, Required, copy_optional, read3, read4, try_join2,
+    ObjectWriter, OciRecord, Optional, Required, copy_optional, nested, read_members,
     write_optional, write_required,
 };
 use oci_text::{LinuxSchedulerFlag, LinuxSchedulerPolicy};
@@ -191,12 +191,23 @@ impl OciRecord for Scheduler {
     ghost plain = { scheduler_plain };
 
     fn from_value(alloc: Global, value: &Value) -> Result<Scheduler> {
-        let ((policy, nice, priority, flags), (runtime, deadline, period)) = try_join2(
-            read4::<Required, Optional, Optional, Optional, _, _, _, _>(
-                alloc, value, NAME, "policy", "nice", "priority", "flags",
+        let value = value.clone()?;
+        Self::from_value_owned(alloc, value)
+    }
+
+    fn from_value_owned(alloc: Global, value: Value) -> Result<Scheduler> {
+        let nested!(policy, nice, priority, flags, runtime, deadline, period) = read_members::<
+            nested!(
+                Required, Optional, Optional, Optional, Optional, Optional, Optional
             ),
-            read3::<Optional, Optional, Optional, _, _, _>(
-                alloc, value, NAME, "runtime", "deadline", "period",
+            _,
+            _,
+        >(
+            alloc,
+            value,
+            NAME,
+            nested!(
+                "policy", "nice", "priority", "flags", "runtime", "deadline", "period",
             ),
         )?;
         Ok(Scheduler {

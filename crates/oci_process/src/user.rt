@@ -4,8 +4,8 @@ ghost use Rattle.std.specs.Prelude.{◌≡◌, IfOk, IfErr};
 
 use oci_base::{OciSpecError, Result};
 use oci_model::{
-    Defaulted, ObjectWriter, OciRecord, Optional, copy_optional, read5, try_join2, write_optional,
-    write_required,
+    Defaulted, ObjectWriter, OciRecord, Optional, copy_optional, nested, read_members, try_join2,
+    write_optional, write_required,
 };
 use serde_json::Value;
 use std::alloc::Global;
@@ -192,26 +192,20 @@ impl OciRecord for User {
     ghost plain = { user_plain };
 
     fn from_value(alloc: Global, value: &Value) -> Result<User> {
-        let (uid, gid, umask, additional_gids, username) = read5::<
-            Defaulted,
-            Defaulted,
-            Optional,
-            Optional,
-            Optional,
-            _,
-            _,
-            _,
+        let value = value.clone()?;
+        Self::from_value_owned(alloc, value)
+    }
+
+    fn from_value_owned(alloc: Global, value: Value) -> Result<User> {
+        let nested!(uid, gid, umask, additional_gids, username) = read_members::<
+            nested!(Defaulted, Defaulted, Optional, Optional, Optional),
             _,
             _,
         >(
             alloc,
             value,
             NAME,
-            "uid",
-            "gid",
-            "umask",
-            "additionalGids",
-            "username",
+            nested!("uid", "gid", "umask", "additionalGids", "username"),
         )?;
         Ok(User {
             uid,

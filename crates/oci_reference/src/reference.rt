@@ -11,8 +11,8 @@ use crate::texts::{copied, lent, mark_if, owned, some_text, tag_or_latest, text_
 use crate::{ParseError, parts};
 use oci_base::OciSpecError;
 use oci_model::{
-    ObjectWriter, OciRecord, fault, optional_owned, required_owned, taken_5, try_join5,
-    write_optional, write_required,
+    ObjectWriter, OciRecord, Optional, Required, nested, read_members, write_optional,
+    write_required,
 };
 use serde_json::Value;
 use std::alloc::{AllocError, Global};
@@ -348,22 +348,16 @@ impl OciRecord for Reference {
         Self::from_value_owned(alloc, value)
     }
 
-    #[tactic(auto, using(oci_model::proofs::Readers::refuses_others))]
     fn from_value_owned(alloc: Global, value: Value) -> oci_base::Result<Reference> {
-        let Some((registry, mirror_registry, repository, tag, digest)) = taken_5(
+        let nested!(registry, mirror_registry, repository, tag, digest) = read_members::<
+            nested!(Required, Optional, Required, Optional, Optional),
+            _,
+            _,
+        >(
             alloc,
             value,
-            &["registry", "mirror_registry", "repository", "tag", "digest"],
-        )?
-        else {
-            return Err(fault::refused(NAME, ""));
-        };
-        let (registry, mirror_registry, repository, tag, digest) = try_join5(
-            required_owned(alloc, registry, NAME, "registry"),
-            optional_owned(alloc, mirror_registry, NAME, "mirror_registry"),
-            required_owned(alloc, repository, NAME, "repository"),
-            optional_owned(alloc, tag, NAME, "tag"),
-            optional_owned(alloc, digest, NAME, "digest"),
+            NAME,
+            nested!("registry", "mirror_registry", "repository", "tag", "digest"),
         )?;
         Ok(Reference {
             registry,

@@ -10,8 +10,8 @@ mod rootless;
 use oci_base::{OciSpecError, Result};
 use oci_linux::{Linux, LinuxIdMapping};
 use oci_model::{
-    Defaulted, ObjectWriter, OciMember, OciRecord, Optional, copy_optional, read5, try_join2,
-    try_join3, try_join5, write_optional, write_required,
+    Defaulted, ObjectWriter, OciMember, OciRecord, Optional, copy_optional, nested, read_members,
+    try_join2, try_join3, try_join5, write_optional, write_required,
 };
 use oci_platforms::{Solaris, VM, Windows, ZOS};
 use oci_process::Process;
@@ -172,35 +172,49 @@ impl OciRecord for Spec {
     ghost plain = { spec_plain };
 
     fn from_value(alloc: Global, value: &Value) -> Result<Spec> {
-        let (
-            (version, root, mounts, process, hostname),
-            (domainname, hooks, annotations, linux, solaris),
-            (windows, vm, zos, uid_mappings, gid_mappings),
-        ) = try_join3(
-            read5::<Defaulted, Optional, Optional, Optional, Optional, _, _, _, _, _>(
-                alloc,
-                value,
-                NAME,
+        let value = value.clone()?;
+        Self::from_value_owned(alloc, value)
+    }
+
+    fn from_value_owned(alloc: Global, value: Value) -> Result<Spec> {
+        let nested!(
+            version,
+            root,
+            mounts,
+            process,
+            hostname,
+            domainname,
+            hooks,
+            annotations,
+            linux,
+            solaris,
+            windows,
+            vm,
+            zos,
+            uid_mappings,
+            gid_mappings,
+        ) = read_members::<
+            nested!(
+                Defaulted, Optional, Optional, Optional, Optional, Optional, Optional, Optional,
+                Optional, Optional, Optional, Optional, Optional, Optional, Optional,
+            ),
+            _,
+            _,
+        >(
+            alloc,
+            value,
+            NAME,
+            nested!(
                 "ociVersion",
                 "root",
                 "mounts",
                 "process",
                 "hostname",
-            ),
-            read5::<Optional, Optional, Optional, Optional, Optional, _, _, _, _, _>(
-                alloc,
-                value,
-                NAME,
                 "domainname",
                 "hooks",
                 "annotations",
                 "linux",
                 "solaris",
-            ),
-            read5::<Optional, Optional, Optional, Optional, Optional, _, _, _, _, _>(
-                alloc,
-                value,
-                NAME,
                 "windows",
                 "vm",
                 "zos",

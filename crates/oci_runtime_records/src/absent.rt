@@ -1,11 +1,10 @@
 //! A state as a member, which may be absent.
-ghost use Rattle.std.specs.Prelude.{None, IfOk, IfErr};
+ghost use Rattle.std.specs.Prelude.{None, option_map, IfOk, IfErr};
 ghost use Rattle.serde_json.specs.View.{view};
-ghost use Rattle.serde_json.specs.Find.{get};
 ghost use Rattle.oci_base.specs.Refused.{IsSchema, IsMemoryOrSchema};
 ghost use Rattle.oci_model.specs.Shape as presence;
 ghost use Rattle.oci_model.specs.Means.{Means, MeansMember};
-ghost use Rattle.oci_model.specs.Refused.{RefusesRecords};
+ghost use Rattle.oci_model.specs.Refused.{IsMemberRefused};
 ghost use Rattle.oci_model.specs.Types.{given};
 ghost use Rattle.oci_shapes.specs.State.{state, default_state};
 ghost use Rattle.oci_runtime_records.specs.State.{state_plain};
@@ -27,15 +26,15 @@ impl MemberReader<State> for DefaultState {
 
     ghost slot = { given state_plain };
 
-    #[tactic(auto, using(oci_model::proofs::Presences::defaulted_refused, oci_model::proofs::Presences::defaulted_means, oci_model::proofs::Presences::absent_means))]
+    #[tactic(auto, using(oci_model::proofs::Presences::defaulted_refused, oci_model::proofs::Presences::absent_means))]
     fn read(
         alloc: Global,
-        value: &Value,
+        found: Option<Value>,
         owner: &'static str,
         name: &'static str,
     ) -> Result<State> {
-        match value.get(name) {
-            Some(found) => match State::read(alloc, found) {
+        match found {
+            Some(value) => match State::read(alloc, value) {
                 Ok(x) => Ok(x),
                 Err(fault) => Err(placed(fault, owner, name)),
             },

@@ -6,8 +6,8 @@ use crate::absent::DefaultState;
 use crate::state::State;
 use oci_base::{OciSpecError, Result};
 use oci_model::{
-    Defaulted, ObjectWriter, OciMember, OciRecord, Optional, copy_optional, read5, try_join4,
-    write_optional, write_required,
+    Defaulted, ObjectWriter, OciMember, OciRecord, Optional, copy_optional, nested, read_members,
+    try_join4, write_optional, write_required,
 };
 use serde_json::Value;
 use std::alloc::Global;
@@ -198,26 +198,20 @@ impl OciRecord for ContainerProcessState {
     ghost plain = { container_process_state_plain };
 
     fn from_value(alloc: Global, value: &Value) -> Result<ContainerProcessState> {
-        let (version, fds, pid, metadata, state) = read5::<
-            Defaulted,
-            Defaulted,
-            Defaulted,
-            Optional,
-            DefaultState,
-            _,
-            _,
-            _,
+        let value = value.clone()?;
+        Self::from_value_owned(alloc, value)
+    }
+
+    fn from_value_owned(alloc: Global, value: Value) -> Result<ContainerProcessState> {
+        let nested!(version, fds, pid, metadata, state) = read_members::<
+            nested!(Defaulted, Defaulted, Defaulted, Optional, DefaultState),
             _,
             _,
         >(
             alloc,
             value,
             NAME,
-            "ociVersion",
-            "fds",
-            "pid",
-            "metadata",
-            "state",
+            nested!("ociVersion", "fds", "pid", "metadata", "state"),
         )?;
         Ok(ContainerProcessState {
             version,

@@ -4,8 +4,8 @@ ghost use Rattle.std.specs.Prelude.{◌≡◌, IfOk, IfErr};
 
 use oci_base::{OciSpecError, Result};
 use oci_model::{
-    ObjectWriter, OciMember, OciRecord, Optional, Required, copy_optional, read4, try_join3,
-    write_optional, write_required,
+    ObjectWriter, OciMember, OciRecord, Optional, Required, copy_optional, nested, read_members,
+    try_join3, write_optional, write_required,
 };
 use serde_json::Value;
 use std::alloc::Global;
@@ -164,16 +164,21 @@ impl OciRecord for Hook {
     ghost plain = { hook_plain };
 
     fn from_value(alloc: Global, value: &Value) -> Result<Hook> {
-        let (path, args, env, timeout) = read4::<
-            Required,
-            Optional,
-            Optional,
-            Optional,
+        let value = value.clone()?;
+        Self::from_value_owned(alloc, value)
+    }
+
+    fn from_value_owned(alloc: Global, value: Value) -> Result<Hook> {
+        let nested!(path, args, env, timeout) = read_members::<
+            nested!(Required, Optional, Optional, Optional),
             _,
             _,
-            _,
-            _,
-        >(alloc, value, NAME, "path", "args", "env", "timeout")?;
+        >(
+            alloc,
+            value,
+            NAME,
+            nested!("path", "args", "env", "timeout"),
+        )?;
         Ok(Hook {
             path,
             args,

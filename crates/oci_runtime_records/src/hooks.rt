@@ -5,7 +5,8 @@ ghost use Rattle.std.specs.Prelude.{◌≡◌, IfOk, IfErr};
 use crate::hook::Hook;
 use oci_base::{OciSpecError, Result};
 use oci_model::{
-    ObjectWriter, OciRecord, Optional, copy_optional, read3, try_join2, try_join3, write_optional,
+    ObjectWriter, OciRecord, Optional, copy_optional, nested, read_members, try_join2, try_join3,
+    write_optional,
 };
 use serde_json::Value;
 use std::alloc::Global;
@@ -224,25 +225,35 @@ impl OciRecord for Hooks {
     ghost plain = { hooks_plain };
 
     fn from_value(alloc: Global, value: &Value) -> Result<Hooks> {
-        let ((prestart, create_runtime, create_container), (start_container, poststart, poststop)) =
-            try_join2(
-                read3::<Optional, Optional, Optional, _, _, _>(
-                    alloc,
-                    value,
-                    NAME,
-                    "prestart",
-                    "createRuntime",
-                    "createContainer",
-                ),
-                read3::<Optional, Optional, Optional, _, _, _>(
-                    alloc,
-                    value,
-                    NAME,
-                    "startContainer",
-                    "poststart",
-                    "poststop",
-                ),
-            )?;
+        let value = value.clone()?;
+        Self::from_value_owned(alloc, value)
+    }
+
+    fn from_value_owned(alloc: Global, value: Value) -> Result<Hooks> {
+        let nested!(
+            prestart,
+            create_runtime,
+            create_container,
+            start_container,
+            poststart,
+            poststop,
+        ) = read_members::<
+            nested!(Optional, Optional, Optional, Optional, Optional, Optional),
+            _,
+            _,
+        >(
+            alloc,
+            value,
+            NAME,
+            nested!(
+                "prestart",
+                "createRuntime",
+                "createContainer",
+                "startContainer",
+                "poststart",
+                "poststop",
+            ),
+        )?;
         Ok(Hooks {
             prestart,
             create_runtime,

@@ -8,8 +8,8 @@ mod rows;
 use oci_base::{OciSpecError, Result};
 use oci_linux::LinuxIdMapping;
 use oci_model::{
-    ObjectWriter, OciMember, OciRecord, Optional, Required, copy_optional, read3, taken, try_join2,
-    try_join3, write_optional, write_required,
+    ObjectWriter, OciMember, OciRecord, Optional, Required, copy_optional, nested, read_members,
+    try_join2, try_join3, write_optional, write_required,
 };
 use serde_json::Value;
 use std::alloc::Global;
@@ -228,19 +228,30 @@ impl OciRecord for Mount {
     ghost plain = { mount_plain };
 
     fn from_value(alloc: Global, value: &Value) -> Result<Mount> {
-        let ((destination, typ, source), (options, uid_mappings, gid_mappings)) = try_join2(
-            read3::<Required, Optional, Optional, _, _, _>(
-                alloc,
-                value,
-                NAME,
+        let value = value.clone()?;
+        Self::from_value_owned(alloc, value)
+    }
+
+    fn from_value_owned(alloc: Global, value: Value) -> Result<Mount> {
+        let nested!(
+            destination,
+            typ,
+            source,
+            options,
+            uid_mappings,
+            gid_mappings
+        ) = read_members::<
+            nested!(Required, Optional, Optional, Optional, Optional, Optional),
+            _,
+            _,
+        >(
+            alloc,
+            value,
+            NAME,
+            nested!(
                 "destination",
                 "type",
                 "source",
-            ),
-            read3::<Optional, Optional, Optional, _, _, _>(
-                alloc,
-                value,
-                NAME,
                 "options",
                 "uidMappings",
                 "gidMappings",

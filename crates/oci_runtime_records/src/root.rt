@@ -4,7 +4,8 @@ ghost use Rattle.std.specs.Prelude.{◌≡◌, IfOk, IfErr};
 
 use oci_base::{OciSpecError, Result};
 use oci_model::{
-    Defaulted, ObjectWriter, OciMember, OciRecord, Optional, read2, write_optional, write_required,
+    Defaulted, ObjectWriter, OciMember, OciRecord, Optional, nested, read_members, write_optional,
+    write_required,
 };
 use serde_json::Value;
 use std::alloc::Global;
@@ -92,8 +93,16 @@ impl OciRecord for Root {
     ghost plain = { root_plain };
 
     fn from_value(alloc: Global, value: &Value) -> Result<Root> {
-        let (path, readonly) = read2::<Defaulted, Optional, _, _>(
-            alloc, value, NAME, "path", "readonly",
+        let value = value.clone()?;
+        Self::from_value_owned(alloc, value)
+    }
+
+    fn from_value_owned(alloc: Global, value: Value) -> Result<Root> {
+        let nested!(path, readonly) = read_members::<nested!(Defaulted, Optional), _, _>(
+            alloc,
+            value,
+            NAME,
+            nested!("path", "readonly"),
         )?;
         Ok(Root { path, readonly })
     }

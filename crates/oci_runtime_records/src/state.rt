@@ -6,7 +6,7 @@ mod files;
 
 use oci_base::{OciSpecError, Result};
 use oci_model::{
-    Defaulted, ObjectWriter, OciMember, OciRecord, Optional, copy_optional, read3, try_join2,
+    Defaulted, ObjectWriter, OciMember, OciRecord, Optional, copy_optional, nested, read_members,
     try_join4, write_optional, write_required,
 };
 use oci_text::ContainerState;
@@ -228,23 +228,22 @@ impl OciRecord for State {
     ghost plain = { state_plain };
 
     fn from_value(alloc: Global, value: &Value) -> Result<State> {
-        let ((version, id, status), (pid, bundle, annotations)) = try_join2(
-            read3::<Defaulted, Defaulted, Defaulted, _, _, _>(
-                alloc,
-                value,
-                NAME,
-                "ociVersion",
-                "id",
-                "status",
+        let value = value.clone()?;
+        Self::from_value_owned(alloc, value)
+    }
+
+    fn from_value_owned(alloc: Global, value: Value) -> Result<State> {
+        let nested!(version, id, status, pid, bundle, annotations) = read_members::<
+            nested!(
+                Defaulted, Defaulted, Defaulted, Optional, Defaulted, Optional
             ),
-            read3::<Optional, Defaulted, Optional, _, _, _>(
-                alloc,
-                value,
-                NAME,
-                "pid",
-                "bundle",
-                "annotations",
-            ),
+            _,
+            _,
+        >(
+            alloc,
+            value,
+            NAME,
+            nested!("ociVersion", "id", "status", "pid", "bundle", "annotations"),
         )?;
         Ok(State {
             version,

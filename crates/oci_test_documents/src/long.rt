@@ -66,11 +66,11 @@ fn streamed(harness: &mut Harness<'_>, text: &str, pretty: &str) {
     check_written(harness, "normalize", done, text);
     let output = &mut harness.output;
     let input = Input::new(text.as_bytes(), Manner::AMPLE);
-    let done = oci_schema::normalize(&OciRecords, schema, alloc, input, output);
+    let done = oci_schema::bytes::normalize(&OciRecords, schema, alloc, input, output);
     check_written(harness, "normalize by schema", done, text);
     let output = &mut harness.output;
     let input = Input::new(text.as_bytes(), Manner::AMPLE);
-    let done = oci_schema::normalize_pretty(&OciRecords, schema, alloc, input, output);
+    let done = oci_schema::bytes::normalize_pretty(&OciRecords, schema, alloc, input, output);
     check_written(harness, "normalize_pretty by schema", done, pretty);
 }
 

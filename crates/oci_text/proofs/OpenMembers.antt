@@ -24,12 +24,6 @@ opens table t n e = ap name_plain e ∙ same_choice (is_listed table t) t
 pub name_means : (table : List (List ℕ)) (t : List ℕ) (d : Data) (n : Name) → Some t ≡ as_str d → n ≡ names.opened table t → Means (open_name table) d (name_plain n)
 name_means table t d n found e = (t, sym found, opens table t n e)
 
--- the same of a call's answer
-pub answer_means : {T : Type 0} (table : List (List ℕ)) (name : T → Name) (t : List ℕ) (d : Data) (r : Result T OciSpecError) → Some t ≡ as_str d
-    → IfOk r (λ m. name m ≡ names.opened table t) → IfOk r (λ m. Means (open_name table) d (name_plain (name m)))
-answer_means table name t d (Ok m) found e = name_means table t d (name m) found e
-answer_means table name t d (Err e) found h = h
-
 -- what is written is the name's text
 pub text_of_name : (n : Name) → text_of (name_plain n) ≡ name_text n
 text_of_name (variant t) = refl

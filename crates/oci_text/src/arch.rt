@@ -9,7 +9,7 @@ use crate::place::place;
 use oci_base::{OciSpecError, Result};
 use oci_model::OciMember;
 use oci_model::fault::refused;
-use oci_model::owned::into_text;
+use oci_model::parts::into_text;
 use serde_json::Value;
 use std::alloc::Global;
 use std::fmt;
@@ -275,15 +275,7 @@ impl OciMember for Arch {
     ghost plain = { λ m. name_plain (arch_name m) };
 
     #[tactic(auto, using(oci_model::proofs::Readers::no_name, crate::proofs::OpenMembers::name_means))]
-    fn read(alloc: Global, value: &Value) -> Result<Arch> {
-        match value.as_str() {
-            Some(text) => Arch::from_text(alloc, text),
-            None => Err(refused("", "")),
-        }
-    }
-
-    #[tactic(auto, using(oci_model::proofs::Readers::no_name, crate::proofs::OpenMembers::name_means))]
-    fn read_owned(_alloc: Global, value: Value) -> Result<Arch> {
+    fn read(_alloc: Global, value: Value) -> Result<Arch> {
         match into_text(value) {
             Some(text) => Ok(Arch::from_string(text)),
             None => Err(refused("", "")),

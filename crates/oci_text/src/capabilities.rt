@@ -4,7 +4,9 @@ ghost use Rattle.std.specs.Prelude.{◌≡◌, ℕ, List, IfOk, IfErr, IsTrue};
 ghost use Rattle.serde_json.specs.View.{view};
 ghost use Rattle.oci_base.specs.Names.{is_listed};
 ghost use Rattle.oci_base.specs.Refused.{IsSchema, IsMemoryOrSchema};
-ghost use Rattle.oci_model.specs.Means.{IsCapability};
+ghost use Rattle.oci_model.specs.Means.{IsCapability, Means};
+ghost use Rattle.oci_model.specs.Refused.{IsRefused};
+ghost use Rattle.oci_model.specs.Shape.{cap_set};
 ghost use Rattle.oci_text.specs.Capability.{capability_name, capability_table};
 ghost use Rattle.oci_text.specs.CapabilitySets.{default_set, set_plain};
 
@@ -50,24 +52,30 @@ fn read_capability(value: &Value) -> Result<Capability>
     }
 }
 
-impl OciKind<HashSet<Capability>> for Caps {
-    ghost use Rattle.oci_model.specs.Shape.{cap_set};
+fn read_set(alloc: Global, value: &Value) -> Result<HashSet<Capability>>
+    ensures ok { IfOk result (λ s. Means (cap_set capability_table) (view value.now) (set_plain s)) }
+    ensures err { IfErr result (λ e. IsSchema e → IsRefused (cap_set capability_table) (view value.now)) }
+    ensures kind { IfErr result IsMemoryOrSchema }
+{
+    match value.as_array() {
+        Some(items) => {
+            let mut read = HashSet::new(alloc);
+            for item in items {
+                read.insert(read_capability(item)?)?;
+            }
+            Ok(read)
+        }
+        None => Err(refused("", "")),
+    }
+}
 
+impl OciKind<HashSet<Capability>> for Caps {
     ghost shape = { cap_set capability_table };
 
     ghost plain = { set_plain };
 
-    fn read(alloc: Global, value: &Value) -> Result<HashSet<Capability>> {
-        match value.as_array() {
-            Some(items) => {
-                let mut read = HashSet::new(alloc);
-                for item in items {
-                    read.insert(read_capability(item)?)?;
-                }
-                Ok(read)
-            }
-            None => Err(refused("", "")),
-        }
+    fn read(alloc: Global, value: Value) -> Result<HashSet<Capability>> {
+        read_set(alloc, &value)
     }
 
     fn write(x: &HashSet<Capability>, alloc: Global) -> Result<Value> {

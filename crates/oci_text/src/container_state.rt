@@ -82,8 +82,8 @@ impl OciMember for ContainerState {
 
     ghost plain = { variant_plain container_state_name };
 
-    fn read(_alloc: Global, value: &Value) -> Result<ContainerState> {
-        read_name(value)
+    fn read(_alloc: Global, value: Value) -> Result<ContainerState> {
+        read_name(&value)
     }
 
     fn write(&self, alloc: Global) -> Result<Value> {

@@ -3,6 +3,7 @@ use crate::cpu_list::is_cpu_list;
 use oci_base::Result;
 use oci_model::OciKind;
 use oci_model::fault::refused;
+use oci_model::parts::into_text;
 use serde_json::Value;
 use std::alloc::Global;
 
@@ -19,11 +20,11 @@ impl OciKind<String> for CpuTexts {
     ghost plain = { text_plain };
 
     #[tactic(auto, using(crate::proofs::CpuMembers::no_text, crate::proofs::CpuMembers::no_list))]
-    fn read(alloc: Global, value: &Value) -> Result<String> {
-        match value.as_str() {
+    fn read(_alloc: Global, value: Value) -> Result<String> {
+        match into_text(value) {
             Some(text) => {
-                if is_cpu_list(text) {
-                    Ok(String::from_str(alloc, text)?)
+                if is_cpu_list(text.as_str()) {
+                    Ok(text)
                 } else {
                     Err(refused("", ""))
                 }

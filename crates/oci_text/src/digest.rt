@@ -12,7 +12,7 @@ use crate::fault::{are_lower_hex, digest_fault};
 use oci_base::{OciSpecError, Result};
 use oci_model::OciMember;
 use oci_model::fault::refused;
-use oci_model::owned::into_text;
+use oci_model::parts::into_text;
 use serde_json::Value;
 use std::alloc::Global;
 use std::fmt;
@@ -176,21 +176,7 @@ impl OciMember for Digest {
     ghost plain = { λ d. plain_tree.text d };
 
     #[tactic(auto, using(oci_model::proofs::Readers::no_text, oci_model::proofs::Readers::not_digest))]
-    fn read(alloc: Global, value: &Value) -> Result<Digest> {
-        match value.as_str() {
-            Some(text) => {
-                if is_digest(text) {
-                    Digest::sound(String::from_str(alloc, text)?)
-                } else {
-                    Err(refused("", ""))
-                }
-            }
-            None => Err(refused("", "")),
-        }
-    }
-
-    #[tactic(auto, using(oci_model::proofs::Readers::no_text, oci_model::proofs::Readers::not_digest))]
-    fn read_owned(_alloc: Global, value: Value) -> Result<Digest> {
+    fn read(_alloc: Global, value: Value) -> Result<Digest> {
         match into_text(value) {
             Some(text) => {
                 if is_digest(text.as_str()) {

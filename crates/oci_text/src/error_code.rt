@@ -150,8 +150,8 @@ impl OciMember for ErrorCode {
 
     ghost plain = { variant_plain error_code_name };
 
-    fn read(_alloc: Global, value: &Value) -> Result<ErrorCode> {
-        read_name(value)
+    fn read(_alloc: Global, value: Value) -> Result<ErrorCode> {
+        read_name(&value)
     }
 
     fn write(&self, alloc: Global) -> Result<Value> {

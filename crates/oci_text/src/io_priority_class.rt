@@ -90,8 +90,8 @@ impl OciMember for IOPriorityClass {
 
     ghost plain = { variant_plain io_priority_class_name };
 
-    fn read(_alloc: Global, value: &Value) -> Result<IOPriorityClass> {
-        read_name(value)
+    fn read(_alloc: Global, value: Value) -> Result<IOPriorityClass> {
+        read_name(&value)
     }
 
     fn write(&self, alloc: Global) -> Result<Value> {

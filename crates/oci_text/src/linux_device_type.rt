@@ -91,8 +91,8 @@ impl OciMember for LinuxDeviceType {
 
     ghost plain = { variant_plain linux_device_type_name };
 
-    fn read(_alloc: Global, value: &Value) -> Result<LinuxDeviceType> {
-        read_name(value)
+    fn read(_alloc: Global, value: Value) -> Result<LinuxDeviceType> {
+        read_name(&value)
     }
 
     fn write(&self, alloc: Global) -> Result<Value> {

@@ -146,8 +146,8 @@ impl OciMember for LinuxNamespaceType {
 
     ghost plain = { variant_plain linux_namespace_type_name };
 
-    fn read(_alloc: Global, value: &Value) -> Result<LinuxNamespaceType> {
-        read_name(value)
+    fn read(_alloc: Global, value: Value) -> Result<LinuxNamespaceType> {
+        read_name(&value)
     }
 
     fn write(&self, alloc: Global) -> Result<Value> {

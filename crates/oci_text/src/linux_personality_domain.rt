@@ -87,8 +87,8 @@ impl OciMember for LinuxPersonalityDomain {
 
     ghost plain = { variant_plain linux_personality_domain_name };
 
-    fn read(_alloc: Global, value: &Value) -> Result<LinuxPersonalityDomain> {
-        read_name(value)
+    fn read(_alloc: Global, value: Value) -> Result<LinuxPersonalityDomain> {
+        read_name(&value)
     }
 
     fn write(&self, alloc: Global) -> Result<Value> {

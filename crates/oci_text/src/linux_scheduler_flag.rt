@@ -125,8 +125,8 @@ impl OciMember for LinuxSchedulerFlag {
 
     ghost plain = { variant_plain linux_scheduler_flag_name };
 
-    fn read(_alloc: Global, value: &Value) -> Result<LinuxSchedulerFlag> {
-        read_name(value)
+    fn read(_alloc: Global, value: Value) -> Result<LinuxSchedulerFlag> {
+        read_name(&value)
     }
 
     fn write(&self, alloc: Global) -> Result<Value> {

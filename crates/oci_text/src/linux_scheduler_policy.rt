@@ -110,8 +110,8 @@ impl OciMember for LinuxSchedulerPolicy {
 
     ghost plain = { variant_plain linux_scheduler_policy_name };
 
-    fn read(_alloc: Global, value: &Value) -> Result<LinuxSchedulerPolicy> {
-        read_name(value)
+    fn read(_alloc: Global, value: Value) -> Result<LinuxSchedulerPolicy> {
+        read_name(&value)
     }
 
     fn write(&self, alloc: Global) -> Result<Value> {

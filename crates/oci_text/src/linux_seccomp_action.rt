@@ -118,8 +118,8 @@ impl OciMember for LinuxSeccompAction {
 
     ghost plain = { variant_plain linux_seccomp_action_name };
 
-    fn read(_alloc: Global, value: &Value) -> Result<LinuxSeccompAction> {
-        read_name(value)
+    fn read(_alloc: Global, value: Value) -> Result<LinuxSeccompAction> {
+        read_name(&value)
     }
 
     fn write(&self, alloc: Global) -> Result<Value> {

@@ -87,8 +87,8 @@ impl OciMember for LinuxSeccompFilterFlag {
 
     ghost plain = { variant_plain linux_seccomp_filter_flag_name };
 
-    fn read(_alloc: Global, value: &Value) -> Result<LinuxSeccompFilterFlag> {
-        read_name(value)
+    fn read(_alloc: Global, value: Value) -> Result<LinuxSeccompFilterFlag> {
+        read_name(&value)
     }
 
     fn write(&self, alloc: Global) -> Result<Value> {

@@ -119,8 +119,8 @@ impl OciMember for LinuxSeccompOperator {
 
     ghost plain = { variant_plain linux_seccomp_operator_name };
 
-    fn read(_alloc: Global, value: &Value) -> Result<LinuxSeccompOperator> {
-        read_name(value)
+    fn read(_alloc: Global, value: Value) -> Result<LinuxSeccompOperator> {
+        read_name(&value)
     }
 
     fn write(&self, alloc: Global) -> Result<Value> {

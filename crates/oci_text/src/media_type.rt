@@ -11,7 +11,7 @@ use crate::place::place;
 use oci_base::{OciSpecError, Result};
 use oci_model::OciMember;
 use oci_model::fault::refused;
-use oci_model::owned::into_text;
+use oci_model::parts::into_text;
 pub use own::ToDockerV2S2;
 use serde_json::Value;
 use std::alloc::Global;
@@ -213,15 +213,7 @@ impl OciMember for MediaType {
     ghost plain = { λ m. name_plain (media_type_name m) };
 
     #[tactic(auto, using(oci_model::proofs::Readers::no_name, crate::proofs::OpenMembers::name_means))]
-    fn read(alloc: Global, value: &Value) -> Result<MediaType> {
-        match value.as_str() {
-            Some(text) => MediaType::from_text(alloc, text),
-            None => Err(refused("", "")),
-        }
-    }
-
-    #[tactic(auto, using(oci_model::proofs::Readers::no_name, crate::proofs::OpenMembers::name_means))]
-    fn read_owned(_alloc: Global, value: Value) -> Result<MediaType> {
+    fn read(_alloc: Global, value: Value) -> Result<MediaType> {
         match into_text(value) {
             Some(text) => Ok(MediaType::from_string(text)),
             None => Err(refused("", "")),

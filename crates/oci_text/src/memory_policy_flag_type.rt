@@ -83,8 +83,8 @@ impl OciMember for MemoryPolicyFlagType {
 
     ghost plain = { variant_plain memory_policy_flag_type_name };
 
-    fn read(_alloc: Global, value: &Value) -> Result<MemoryPolicyFlagType> {
-        read_name(value)
+    fn read(_alloc: Global, value: Value) -> Result<MemoryPolicyFlagType> {
+        read_name(&value)
     }
 
     fn write(&self, alloc: Global) -> Result<Value> {

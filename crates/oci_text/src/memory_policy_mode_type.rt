@@ -110,8 +110,8 @@ impl OciMember for MemoryPolicyModeType {
 
     ghost plain = { variant_plain memory_policy_mode_type_name };
 
-    fn read(_alloc: Global, value: &Value) -> Result<MemoryPolicyModeType> {
-        read_name(value)
+    fn read(_alloc: Global, value: Value) -> Result<MemoryPolicyModeType> {
+        read_name(&value)
     }
 
     fn write(&self, alloc: Global) -> Result<Value> {

@@ -146,8 +146,8 @@ impl OciMember for PosixRlimitType {
 
     ghost plain = { variant_plain posix_rlimit_type_name };
 
-    fn read(_alloc: Global, value: &Value) -> Result<PosixRlimitType> {
-        read_name(value)
+    fn read(_alloc: Global, value: Value) -> Result<PosixRlimitType> {
+        read_name(&value)
     }
 
     fn write(&self, alloc: Global) -> Result<Value> {

@@ -181,8 +181,8 @@ impl OciMember for SArch {
 
     ghost plain = { variant_plain s_arch_name };
 
-    fn read(_alloc: Global, value: &Value) -> Result<SArch> {
-        read_name(value)
+    fn read(_alloc: Global, value: Value) -> Result<SArch> {
+        read_name(&value)
     }
 
     fn write(&self, alloc: Global) -> Result<Value> {

@@ -105,8 +105,8 @@ impl OciMember for ZOSNamespaceType {
 
     ghost plain = { variant_plain zos_namespace_type_name };
 
-    fn read(_alloc: Global, value: &Value) -> Result<ZOSNamespaceType> {
-        read_name(value)
+    fn read(_alloc: Global, value: Value) -> Result<ZOSNamespaceType> {
+        read_name(&value)
     }
 
     fn write(&self, alloc: Global) -> Result<Value> {

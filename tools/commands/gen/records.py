@@ -26,8 +26,6 @@ A file of tools/records describes the records of one crate, a line each:
   calls                         it has calls of its own that deserialize and serialize it; its documents have to be always serializable (no
                                 `detail`, free map or CPU list in it)
   display FIELD                 it displays as pretty JSON, made with the allocator of this field
-  consuming                     it is deserialized from a value that is consumed, also of a copy where the value is borrowed (else the
-                                trait's own body borrows a value that could be consumed); its members have to be R or O
   long PART..                   its `builder`, or also its `calls` or its accessors (`fields`), are in files of their own, RECORD/PART.rt
   above CRATE                   its builder is in this crate above, in src/RECORD_builder.rt, and makes the document by setters from a
                                 bare one, which a function of the record's own crate returns

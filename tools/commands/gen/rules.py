@@ -36,7 +36,8 @@ Other lines:
   book NAME                  a book begins: one constant of the code, of at most some 40 rules
   kind NAME = RECORD BOOK..  the books of a kind of documents
 
-tools/rules/left_out.rows lists the rules that are left out, with the reason; tools/rules/rows has the golden rows.
+tools/rules/left_out.rows lists the rules that are left out, with the reason; tools/rules/sources.rows has the sentence that each rule is from,
+which `tools/peers sources` looks up; tools/rules/rows has the golden rows.
 """
 import os
 

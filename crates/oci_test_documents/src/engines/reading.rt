@@ -3,7 +3,7 @@ use crate::checks::{Answer, check, check_io, repeated, written};
 use oci_base::Result;
 use oci_distribution::RepositoryList;
 use oci_json::{from_reader, from_slice, normalize};
-use oci_model::optional_either;
+use oci_model::{Optional, nested, read_members};
 use oci_test_support::{Harness, HarnessOutOfMemory, Input, Manner};
 use serde_json::Value;
 use std::alloc::Global;
@@ -122,15 +122,21 @@ static SECOND_NAMES: [(&str, Answer<'_>); 6] = [
     ("{\"a\":\"x\",\"b\":\"x\"}", Err(("Trial", "a"))),
 ];
 
-fn found(alloc: Global, value: &Value) -> Result<String> {
-    match optional_either(alloc, value, "Trial", "a", "b")? {
+fn found(alloc: Global, value: Value) -> Result<String> {
+    let nested!(text) = read_members::<nested!(Optional), _, _>(
+        alloc,
+        value,
+        "Trial",
+        nested!(("a", "b")),
+    )?;
+    match text {
         Some(text) => Ok(text),
         None => Ok(String::from_str(alloc, "absent")?),
     }
 }
 
 fn either(alloc: Global, text: &str) -> Result<String> {
-    found(alloc, &Value::from_str(alloc, text)?)
+    found(alloc, Value::from_str(alloc, text)?)
 }
 
 fn second_names(harness: &mut Harness<'_>) {

@@ -1,7 +1,6 @@
-use Rattle.std.proofs.Common.{◌≡◌, [], ◌∷◌, ◌++◌, string_bytes, sym, ap, ◌∙◌, subst, append_assoc}
+use Rattle.std.proofs.Common.{◌≡◌, [], ◌∷◌, ◌++◌, string_bytes, string_cmp, sym, ap, ◌∙◌, subst, append_assoc}
 use Rattle.std.specs.List.Sorted.{IsStrictlySortedBy}
 use Rattle.std.specs.Map.{keys_of}
-use Rattle.std.specs.String.{string_cmp}
 use Rattle.serde_json.specs.View.{view, members_view}
 use Rattle.serde_json.proofs.Views.{Entry, put_last}
 use Rattle.oci_model.specs.FreeValues.{values_view}
@@ -13,13 +12,14 @@ pub loop-name-preserved : goal.loop-name-preserved
 loop-name-preserved c =
     let l = c.loop-name in
     let done = l.invariant.0 in
-    let e : Entry = (c.in-Some.name.now, c.in-Some.value.now) in
+    let e : Entry = (c.in-Some.name, c.in-Some.value) in
     let left = c.next.new.self in
-    let all : c.args.members.now.entries ≡ done ++ e ∷ left = l.invariant.1 ∙ ap (λ es. done ++ es) c.in-Some.ensures.steps in
-    let last = put_last done e left (subst (λ es. IsStrictlySortedBy string_cmp (keys_of es)) all c.iter-name-items.ensures.ordered) in
-    let named : string_bytes c.in_ok-name.name ≡ string_bytes e.0 = c.in_ok-name.ensures.cases in (
+    let given = c.into_iter-name-iterator.ensures.into_iter_gives in
+    let all : c.into_iter-name-iterator.result ≡ done ++ e ∷ left = l.invariant.1 ∙ ap (λ es. done ++ es) c.in-Some.ensures.steps in
+    let sorted = subst (λ es. IsStrictlySortedBy string_cmp (keys_of es)) (sym given.0 ∙ all) given.5 in
+    let last = put_last done e left sorted in (
       done ++ e ∷ [],
       all ∙ sym (append_assoc done (e ∷ []) left),
-      ap values_view c.in_ok-insert.ensures.entries ∙ values_view-insert_entry l.entries.entries c.in_ok-name.name c.in_ok-kept.field-0
-          ∙ rw (named, c.in_ok-kept.ensures, l.invariant.2) (free_values-put (string_bytes e.0) (view e.1) (members_view done) ∙ ap free_values last),
+      ap values_view c.in_ok-insert.ensures.entries ∙ values_view-insert_entry l.entries.entries e.0 c.kept.result
+          ∙ rw (c.kept.ensures, l.invariant.2) (free_values-put (string_bytes e.0) (view e.1) (members_view done) ∙ ap free_values last),
     )

@@ -7,4 +7,4 @@ use Rattle.oci_model.proofs.free_values.kept_values.Given as goal
 
 abbrev pub invariant-loop-name : goal.invariant-loop-name
 invariant-loop-name l =
-    (done : List Entry) × (l.members.entries ≡ done ++ l.name-iterator) × (values_view l.entries.entries ≡ free_values (members_view done))
+    (done : List Entry) × (l.initial.name-iterator ≡ done ++ l.name-iterator) × (values_view l.entries.entries ≡ free_values (members_view done))

@@ -1,7 +1,9 @@
-use Rattle.std.proofs.Common.{◌≡◌, ◌∷◌, [], ◌++◌, take}
-use Rattle.std.proofs.lemmas.List.{take_more}
-use Rattle.oci_model.specs.Means.{Means}
-use Rattle.oci_model.proofs.Lists.{exits, not_array, each_more, list_refused}
+use Rattle.std.proofs.Common.{[], ◌∷◌, ◌++◌, map, sym, ap, ◌∙◌, subst, append_assoc}
+use Rattle.std.specs.Vec.Iter.{into_iter_items}
+use Rattle.serde_json.specs.View.{items_view}
+use Rattle.oci_model.specs.Means.{Means, EachMeans}
+use Rattle.oci_model.specs.Plain.{plains}
+use Rattle.oci_model.proofs.Lists.{exits, not_array, each_more, items_refused}
 use Rattle.std.proofs.lemmas.Result.{IfOk-from_err}
 use Rattle.oci_base.specs.declared.error.OciSpecError.TheVariants.{Memory}
 use Rattle.oci_base.specs.Refused.{IsMemoryOrSchema}
@@ -11,17 +13,20 @@ use Rattle.oci_model.proofs.list.VecOciMember.read.Goals as goal
 pub returns-in_err-read-in-Some-clause-err : goal.returns-in_err-read-in-Some-clause-err
 returns-in_err-read-in-Some-clause-err g c =
     exits _ _ _ c.from_residual-in_err-read-in-Some.ensures.1 (λ h.
-    list_refused g.T.OciMember.shape _ c.in-Some.items.now.items _ _ _ c.in-Some.ensures c.deref-item-items.ensures.value c.loop-item-test.true c.item-item.is (c.in_err-read-in-Some.ensures.err h))
+    let i = c.loop-item.invariant in
+    items_refused g.T.OciMember.shape _ c.in-Some.items.items i.0 c.in-Some-item.item (into_iter_items c.next.new.self) c.in-Some.ensures
+    (sym c.into_iter-item-iterator.ensures.into_iter_gives.0 ∙ i.1 ∙ ap (λ vs. i.0 ++ vs) c.in-Some-item.ensures.steps.0) (c.in_err-read-in-Some.ensures.err h))
 
 pub loop-item-preserved : goal.loop-item-preserved
 loop-item-preserved g c =
-    let vs = c.deref-item-items.result.now in
-    let M = Means g.T.OciMember.shape in
-    let f = g.T.OciMember.plain in
-    let more = each_more M f (take c.loop-item.item-index vs) c.loop-item.listed.items c.item-item.result c.in_ok-read-in-Some.field-0 c.loop-item.invariant c.in_ok-read-in-Some.ensures.ok in
-    let taken = take_more vs c.loop-item.item-index c.item-item.result c.loop-item-test.true in
-    let pushed : c.push.new.self.items ≡ c.loop-item.listed.items ++ c.in_ok-read-in-Some.field-0 ∷ [] = c.in_ok-push-in-Some.ensures.items in
-    rw (taken, ← c.item-item.is, pushed) more
+    let i = c.loop-item.invariant in
+    let v = c.in-Some-item.item in
+    let x = c.in_ok-read-in-Some.field-0 in
+    let more = each_more (Means g.T.OciMember.shape) g.T.OciMember.plain i.0 c.loop-item.listed.items v x i.2 c.in_ok-read-in-Some.ensures.ok in (
+      i.0 ++ v ∷ [],
+      i.1 ∙ ap (λ vs. i.0 ++ vs) c.in-Some-item.ensures.steps.0 ∙ sym (append_assoc i.0 (v ∷ []) (into_iter_items c.next.new.self)),
+      subst (λ xs. EachMeans (Means g.T.OciMember.shape) (items_view (i.0 ++ v ∷ [])) (plains (map g.T.OciMember.plain xs))) (sym c.in_ok-push-in-Some.ensures.items) more,
+    )
 
 pub returns-in-None-clause-err : goal.returns-in-None-clause-err
 returns-in-None-clause-err g c = λ h. not_array _ _ c.in-None.ensures
