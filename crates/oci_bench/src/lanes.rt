@@ -1,9 +1,10 @@
-//! Both lanes, from a document's bytes to its canonical form: straight from the bytes, and by way of a value.
+//! Both lanes, from a document's bytes to its canonical form, compact and pretty: straight from the bytes, and by way of a value.
 use crate::cases::{Case, next_case};
 use anyhow::Result as Done;
 use oci_base::{OciSpecError, Result, SerDeError};
-use oci_schema::bytes::{Workspace, is_valid_bytes, normalize_bytes};
-use oci_schema::{is_valid, normalize};
+use oci_schema::by_value::{normalize, normalize_pretty};
+use oci_schema::bytes::{Workspace, is_valid_bytes, normalize_bytes, normalize_pretty_bytes};
+use oci_schema::is_valid;
 use oci_schemas::OciRecords;
 use serde_json::Value;
 use std::alloc::Global;
@@ -58,11 +59,28 @@ fn compare(alloc: Global, case: Case<'_>, workspace: &mut Workspace) -> Result<V
     );
     let outcome = outcome_of(&slow);
     let same = outcome == outcome_of(&fast) && by_value.as_slice() == by_bytes.as_slice();
-    if same && same_validity(alloc, case, workspace)? {
+    if same && same_pretty(alloc, case, workspace) && same_validity(alloc, case, workspace)? {
         Ok(Verdict::Same(outcome == Outcome::Done))
     } else {
         Ok(Verdict::Different)
     }
+}
+
+/// Whether both ways write one pretty text, or report the same.
+fn same_pretty(alloc: Global, case: Case<'_>, workspace: &mut Workspace) -> bool {
+    let schema = case.kind.schema();
+    let mut by_value = Vec::new(alloc);
+    let slow = normalize_pretty(&OciRecords, schema, alloc, case.bytes, &mut by_value);
+    let mut by_bytes = Vec::new(alloc);
+    let fast = normalize_pretty_bytes(
+        &OciRecords,
+        schema,
+        alloc,
+        case.bytes,
+        workspace,
+        &mut by_bytes,
+    );
+    outcome_of(&slow) == outcome_of(&fast) && by_value.as_slice() == by_bytes.as_slice()
 }
 
 /// Whether both ways find the document valid, or neither does.

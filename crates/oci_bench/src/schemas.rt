@@ -79,7 +79,7 @@ fn by_fresh_bytes(alloc: Global, kind: Kind, bytes: &[u8]) -> Result<()> {
 
 fn by_value(alloc: Global, kind: Kind, bytes: &[u8]) -> Result<()> {
     let mut written = Vec::new(alloc);
-    oci_schema::normalize(&OciRecords, kind.schema(), alloc, bytes, &mut written)?;
+    oci_schema::by_value::normalize(&OciRecords, kind.schema(), alloc, bytes, &mut written)?;
     Ok(())
 }
 

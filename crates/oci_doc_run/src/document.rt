@@ -1,4 +1,4 @@
-//! The commands on documents.
+//! The commands on documents. They read and print by `serde_json`, so they go by way of a value.
 ghost use Rattle.std.specs.Prelude.{OnOk, IfErr};
 ghost use Rattle.std.specs.Io.KnownBytes.{Appends};
 ghost use Rattle.oci_json.specs.Engines.{WritesDocument};
@@ -7,7 +7,7 @@ ghost use Rattle.oci_schemas.specs.Kinds.{shape_of};
 ghost use Rattle.oci_doc_run.specs.Refusals.{TellsOfNormal, TellsOfPretty};
 
 use crate::refusal::Refusal;
-use oci_schema::{normalize, normalize_pretty};
+use oci_schema::by_value::{normalize, normalize_pretty};
 use oci_schemas::{Kind, OciRecords};
 use std::alloc::Global;
 use std::io::{Read, Write};

@@ -10,14 +10,13 @@ pub use Rattle.oci_model.specs.Built
 pub use Rattle.oci_model.specs.DefaultMembers
 pub use Rattle.oci_model.specs.Erased
 pub use Rattle.oci_model.specs.Fits
-pub use Rattle.oci_model.specs.Found
 pub use Rattle.oci_model.specs.FreeValues
 pub use Rattle.oci_model.specs.Keys
 pub use Rattle.oci_model.specs.Lent
-pub use Rattle.oci_model.specs.Listed
 pub use Rattle.oci_model.specs.Means
 pub use Rattle.oci_model.specs.Norm
 pub use Rattle.oci_model.specs.Plain
+pub use Rattle.oci_model.specs.Reading
 pub use Rattle.oci_model.specs.Refused
 pub use Rattle.oci_model.specs.Same
 pub use Rattle.oci_model.specs.Shape

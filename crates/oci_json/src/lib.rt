@@ -12,12 +12,10 @@ pub use display::display_pretty;
 pub use file::{from_file, to_file, to_file_pretty};
 pub use normal::normalize;
 pub use oci_model::{
-    As, Defaulted, Detail, Found, FreeValues, Keys, MemberReader, Nullable, ObjectWriter,
-    OciDefault, OciKind, OciMember, OciRecord, Optional, Required, UnlessEmpty, copy_optional,
-    copy_optional_as, equal_optional_values, equal_trees, equal_values, fault, optional,
-    optional_as_owned, optional_either, optional_either_owned, optional_owned, read1, read2, read3,
-    read4, read5, required, required_owned, taken, taken_5, taken_6, taken_7, taken_8, taken_9,
-    taken_10, try_join2, try_join3, try_join4, try_join5, write_nullable, write_optional,
+    As, Defaulted, Detail, FreeValues, Keys, MemberName, MemberReader, Nullable, ObjectWriter,
+    OciDefault, OciKind, OciMember, OciRecord, Optional, RecordReader, Required, UnlessEmpty,
+    copy_optional, copy_optional_as, equal_optional_values, equal_trees, equal_values, fault,
+    read_members, try_join2, try_join3, try_join4, try_join5, write_nullable, write_optional,
     write_optional_as, write_required, write_unless_empty,
 };
 pub use reading::{

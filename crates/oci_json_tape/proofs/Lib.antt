@@ -1,10 +1,13 @@
+pub mod Adding
 pub mod Bridge
 pub mod Containers
 pub mod Fitting
 pub mod Kept
+pub mod Layouts
 pub mod LookUps
 pub mod Made
 pub mod Nesting
 pub mod Ordered
 pub mod Passes
+pub mod Sinks
 pub mod Walks

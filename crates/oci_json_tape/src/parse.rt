@@ -1,6 +1,8 @@
 //! A text as a tape.
-ghost use Rattle.std.specs.Prelude.{◌≡◌, ◌≢◌, map, is_some, IfOk, Err, Some, None, MatchOption};
+ghost use Rattle.std.specs.Prelude.{◌≡◌, ◌≢◌, map, is_some, IfOk, IfSome, IsSomeAnd, Err, Some, None, MatchOption};
 ghost use Rattle.serde_json.specs.Data.{Data};
+ghost use Rattle.json.specs.Json.{document};
+ghost use Rattle.json.specs.Strict.{HasUniqueKeys};
 ghost use Rattle.json.specs.Tape.{node_token};
 ghost use Rattle.serde_json.specs.Read.{read, number_of};
 ghost use Rattle.oci_json_tape.specs.Elements.{BeginsWithData};
@@ -25,6 +27,29 @@ pub fn open<'a>(
     ensures err { (result ≢ Err Error.Invalid) × (result ≢ Err Error.DuplicateKey) }
 {
     match Tape::parse(text, scratch, Vec::new(alloc)) {
+        Ok(tape) => {
+            if !nodes_fit(tape.nodes()) {
+                return Ok(None);
+            }
+            Ok(Some(tape))
+        }
+        Err(Error::Invalid) => Ok(None),
+        Err(e) => Err(e),
+    }
+}
+
+/// As `open`, of a text in which no object has a name twice. Fails with `DuplicateKey` for one that has.
+pub fn open_strict<'a>(
+    alloc: Global,
+    text: &'a str,
+    scratch: &'a mut Scratch,
+) -> Result<Option<Tape<'a>>, Error>
+    ensures ok { IfOk result (λ o. MatchOption o (read text.now ≡ None)
+        (λ tape. (d : Data) × (read text.now ≡ Some d) × BeginsWithData tape d)) }
+    ensures unique { IfOk result (λ o. IfSome o (λ tape. IsSomeAnd (document text.now) HasUniqueKeys)) }
+    ensures err { result ≢ Err Error.Invalid }
+{
+    match Tape::parse_strict(text, scratch, Vec::new(alloc)) {
         Ok(tape) => {
             if !nodes_fit(tape.nodes()) {
                 return Ok(None);

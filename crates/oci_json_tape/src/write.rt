@@ -1,22 +1,23 @@
-//! Values as compact JSON.
+//! Values as the tokens of their text.
 ghost use Rattle.std.specs.Prelude.{◌≡◌, ◌++◌, IfOk, IsTrue, not};
 ghost use Rattle.serde_json.specs.Data.{array, boolean as boolean_data, null as null_data, number as number_data, object, string as string_data};
 ghost use Rattle.serde_json.specs.Find.{is_float};
 ghost use Rattle.serde_json.specs.View.{view, number_view, items_view, members_view};
 ghost use Rattle.serde_json.specs.Written.{has_float, items_have_float, members_have_float};
 ghost use Rattle.oci_json.specs.Readable.{IsHeld, IsReadable, AreReadable, IsInOrder, HoldReadable};
+ghost use Rattle.oci_json_tape.specs.Sinks.{Writes};
 ghost use Rattle.oci_json_tape.specs.Tokens.{data_tokens};
 ghost use Rattle.oci_json_tape.specs.Values.{IfDone};
 
-use crate::compact::CompactWriter;
+use crate::sink::Sink;
 use serde_json::{Map, Number, Value};
 use std::alloc::AllocError;
 
 /// Writes the value; `false` if it holds a number that is no 64-bit integer. What was written then is of no use, and so it is if
 /// out of memory. It recurses as deep as the value nests.
 #[cycle(writes)]
-pub fn write_value(value: &Value, out: &mut CompactWriter) -> Result<bool, AllocError>
-    ensures writes { IfDone result (out.new ≡ out.old ++ data_tokens (view value.now)) }
+pub fn write_value<K: Sink>(value: &Value, out: &mut K) -> Result<bool, AllocError>
+    ensures writes { IfDone result (Writes K.holds (λ a b. b ≡ a ++ data_tokens (view value.now)) out.old out.new) }
     ensures readable { IfDone result (IsReadable (view value.now)) }
     ensures whole { IfOk result (λ done. has_float (view value.now) ≡ not done) }
 {
@@ -31,8 +32,8 @@ pub fn write_value(value: &Value, out: &mut CompactWriter) -> Result<bool, Alloc
 }
 
 #[cycle(writes)]
-fn write_items(items: &Vec<Value>, out: &mut CompactWriter) -> Result<bool, AllocError>
-    ensures writes { IfDone result (out.new ≡ out.old ++ data_tokens (array (items_view items.now.items))) }
+fn write_items<K: Sink>(items: &Vec<Value>, out: &mut K) -> Result<bool, AllocError>
+    ensures writes { IfDone result (Writes K.holds (λ a b. b ≡ a ++ data_tokens (array (items_view items.now.items))) out.old out.new) }
     ensures readable { IfDone result (AreReadable (items_view items.now.items)) }
     ensures whole { IfOk result (λ done. items_have_float (items_view items.now.items) ≡ not done) }
 {
@@ -47,8 +48,8 @@ fn write_items(items: &Vec<Value>, out: &mut CompactWriter) -> Result<bool, Allo
 }
 
 #[cycle(writes)]
-fn write_members(members: &Map<String, Value>, out: &mut CompactWriter) -> Result<bool, AllocError>
-    ensures writes { IfDone result (out.new ≡ out.old ++ data_tokens (object (members_view members.now.entries))) }
+fn write_members<K: Sink>(members: &Map<String, Value>, out: &mut K) -> Result<bool, AllocError>
+    ensures writes { IfDone result (Writes K.holds (λ a b. b ≡ a ++ data_tokens (object (members_view members.now.entries))) out.old out.new) }
     ensures ordered { IfDone result (IsInOrder (members_view members.now.entries)) }
     ensures readable { IfDone result (HoldReadable (members_view members.now.entries)) }
     ensures whole { IfOk result (λ done. members_have_float (members_view members.now.entries) ≡ not done) }
@@ -64,24 +65,24 @@ fn write_members(members: &Map<String, Value>, out: &mut CompactWriter) -> Resul
     Ok(true)
 }
 
-fn write_null(out: &mut CompactWriter) -> Result<bool, AllocError>
-    ensures writes { IfDone result (out.new ≡ out.old ++ data_tokens null_data) }
+fn write_null<K: Sink>(out: &mut K) -> Result<bool, AllocError>
+    ensures writes { IfDone result (Writes K.holds (λ a b. b ≡ a ++ data_tokens null_data) out.old out.new) }
     ensures done { IfOk result IsTrue }
 {
     out.null()?;
     Ok(true)
 }
 
-fn write_boolean(truth: bool, out: &mut CompactWriter) -> Result<bool, AllocError>
-    ensures writes { IfDone result (out.new ≡ out.old ++ data_tokens (boolean_data truth)) }
+fn write_boolean<K: Sink>(truth: bool, out: &mut K) -> Result<bool, AllocError>
+    ensures writes { IfDone result (Writes K.holds (λ a b. b ≡ a ++ data_tokens (boolean_data truth)) out.old out.new) }
     ensures done { IfOk result IsTrue }
 {
     out.boolean(truth)?;
     Ok(true)
 }
 
-fn write_string(text: &str, out: &mut CompactWriter) -> Result<bool, AllocError>
-    ensures writes { IfDone result (out.new ≡ out.old ++ data_tokens (string_data text.now)) }
+fn write_string<K: Sink>(text: &str, out: &mut K) -> Result<bool, AllocError>
+    ensures writes { IfDone result (Writes K.holds (λ a b. b ≡ a ++ data_tokens (string_data text.now)) out.old out.new) }
     ensures done { IfOk result IsTrue }
 {
     out.string(text)?;
@@ -89,8 +90,8 @@ fn write_string(text: &str, out: &mut CompactWriter) -> Result<bool, AllocError>
 }
 
 /// Writes a number, if it is a 64-bit integer.
-fn write_number(number: &Number, out: &mut CompactWriter) -> Result<bool, AllocError>
-    ensures writes { IfDone result (out.new ≡ out.old ++ data_tokens (number_data (number_view number.now))) }
+fn write_number<K: Sink>(number: &Number, out: &mut K) -> Result<bool, AllocError>
+    ensures writes { IfDone result (Writes K.holds (λ a b. b ≡ a ++ data_tokens (number_data (number_view number.now))) out.old out.new) }
     ensures held { IfDone result (IsHeld (number_view number.now)) }
     ensures whole { IfOk result (λ done. is_float (number_view number.now) ≡ not done) }
 {

@@ -1,12 +1,9 @@
 -- What bytes mean by a schema, of which it was found out what they are read as.
-use Rattle.std.proofs.Common.{◌≡◌, ℕ, List, [], true, true≢false, Option, Some, None, Result, Ok, Err, sym, ap, ◌∙◌, subst}
-use Rattle.std.specs.Prelude.{◌↔◌, IsUtf8, is_some, IfSome, IfErr, Vec}
+use Rattle.std.proofs.Common.{◌≡◌, ℕ, List, [], true, false, Option, Some, None, Result, Ok, Err, sym, ap, ◌∙◌, subst}
+use Rattle.std.specs.Prelude.{◌↔◌, IfSome, IfErr, Vec}
 use Rattle.std.specs.declared.alloc.Global.{Global}
-use Rattle.json.specs.Token.{Token}
 use Rattle.serde_json.specs.Data.{Data}
-use Rattle.serde_json.specs.Read.{read}
-use Rattle.serde_json.specs.Written.{compact_text}
-use Rattle.oci_json_tape.specs.Elements.{BeginsWithData}
+use Rattle.serde_json.specs.Written.{has_float, compact_text}
 use Rattle.oci_base.specs.Refused.{IsMemory, IsSchema, IsJson, IsMemoryOrSerDe}
 use Rattle.oci_base.specs.declared.error.OciSpecError.{OciSpecError}
 use Rattle.oci_base.specs.declared.error.OciSpecError.TheVariants.{Other, Io, SerDe, Builder, Memory}
@@ -16,7 +13,7 @@ use Rattle.oci_model.specs.Means.{Means}
 use Rattle.oci_model.specs.Value.{value}
 use Rattle.oci_model.specs.WellFormed.{WellFormed}
 use Rattle.oci_model.specs.Writable.{Writable}
-use Rattle.oci_json.specs.Engines.{ReadsAs, MeansBytes}
+use Rattle.oci_json.specs.Engines.{ReadsAs, MeansBytes, IsPretty}
 use Rattle.oci_json.specs.Readable.{IsReadable}
 use Rattle.oci_json.proofs.OneMeaning.{one_meaning}
 use Rattle.oci_json.proofs.ReadAgain.{compact_read}
@@ -26,7 +23,7 @@ use Rattle.oci_schema.specs.Violations.{violations}
 use Rattle.oci_schema.proofs.Empty.{none_is_meant}
 use Rattle.oci_schema.proofs.Accepted.{sound, accepted}
 use Rattle.oci_schema.proofs.NormalForms.{told}
-use Rattle.oci_schema.specs.Canonical.{IsNormalText, IsDocumentText, MakesText}
+use Rattle.oci_schema.specs.Canonical.{IsNormalText, IsNormalPretty, IsDocumentText, IsDocumentPretty, Makes}
 
 -- bytes are read as one value
 one_value : (bytes : List ℕ) (d e : Data) → ReadsAs bytes d → ReadsAs bytes e → d ≡ e
@@ -45,6 +42,12 @@ document_text s bytes d text well read (accepts_it, is, readable) =
     let m = accepted_document s bytes d well read accepts_it in
     (m.0, m.1, is ∙ ap compact_text m.3, λ shallow. compact_read (value s m.0) (subst IsReadable m.3 readable) shallow (none_written s m.0 m.2))
 
+-- so is a pretty one
+pub document_pretty : (s : Shape) (bytes : List ℕ) (d : Data) (text : List ℕ) → WellFormed s → ReadsAs bytes d → IsNormalPretty s d text → IsDocumentPretty s (Some bytes) text
+document_pretty s bytes d text well read (accepts_it, is) =
+    let m = accepted_document s bytes d well read accepts_it in
+    (m.0, m.1, subst (λ n. IsPretty n text) m.3 (is (subst (λ n. has_float n ≡ false) (sym m.3) (none_written s m.0 m.2))))
+
 -- whatever the same bytes mean is written as one text
 pub same_text : (s : Shape) (bytes : List ℕ) (p q : Plain) → MeansBytes s bytes p → MeansBytes s bytes q → compact_text (value s p) ≡ compact_text (value s q)
 same_text s bytes p q a b =
@@ -58,33 +61,16 @@ valid_bytes s bytes d P read told = (
   (λ m. told.1 (m.0, subst (λ x. Means s x m.0) (one_value bytes m.1.0 d m.1.1 read) m.1.2)),
 )
 
--- ---- what was written for a tape, for a text and for bytes
-
-module _ {A : Type 0} (items : A → List ℕ) (s : Shape) where
-  pub written_of_tape : (text : List ℕ) (ts : List Token) (o : Option A) → (d : Data) × (read text ≡ Some d) × BeginsWithData ts d
-      → IfSome o (λ w. (d : Data) → BeginsWithData ts d → IsNormalText s d (items w)) → IfSome o (λ w. (d : Data) × (read text ≡ Some d) × IsNormalText s d (items w))
-  written_of_tape text ts None m h = tt
-  written_of_tape text ts (Some w) m h = (m.0, m.1, h m.0 m.2)
-
-  pub written_of_text : (bytes text : List ℕ) (o : Option A) → (text ≡ bytes) × IsUtf8 bytes
-      → IfSome o (λ w. (d : Data) × (read text ≡ Some d) × IsNormalText s d (items w)) → IfSome o (λ w. (d : Data) × ReadsAs bytes d × IsNormalText s d (items w))
-  written_of_text bytes text None u h = tt
-  written_of_text bytes text (Some w) u h = (h.0, (u.1, subst (λ t. read t ≡ Some h.0) u.0 h.1), h.2)
-
-  pub of_some : (bytes : List ℕ) (o : Option A) → IfSome o (λ w. (d : Data) × ReadsAs bytes d × IsNormalText s d (items w)) → is_some o ≡ true
-      → (d : Data) × ReadsAs bytes d × (accepts s d ≡ true)
-  of_some bytes None h e = absurd (true≢false (sym e))
-  of_some bytes (Some w) h e = (h.0, h.1, h.2.0)
-
 -- what is accepted has no violations
 pub none_listed : (s : Shape) (d : Data) → WellFormed s → accepts s d ≡ true → violations s [] d ≡ []
 none_listed s d well h = let m = accepted s (sound s well) d h in (none_is_meant s [] d).1 (m.0, m.1)
 
 -- what was made of the bytes that were read was made of the input, where that is known
-pub where_known : (s : Shape) (input : Option (List ℕ)) (bytes : List ℕ) (r : Result (Vec ℕ Global) OciSpecError) → IfSome input (λ all. bytes ≡ all) → MakesText s (Some bytes) r → MakesText s input r
-where_known s None bytes (Ok text) is made = record { ok = (made.ok.0, tt, made.ok.2, made.ok.3); json = tt; schema = tt }
-where_known s None bytes (Err e) is made = record { ok = tt; json = λ h. tt; schema = λ h. tt }
-where_known s (Some all) bytes r is made = subst (λ b. MakesText s (Some b) r) is made
+pub where_known : (F : Option (List ℕ) → List ℕ → Type 0) → ((bytes text : List ℕ) → F (Some bytes) text → F None text) → (s : Shape) (input : Option (List ℕ)) (bytes : List ℕ)
+    → (r : Result (Vec ℕ Global) OciSpecError) → IfSome input (λ all. bytes ≡ all) → Makes F s (Some bytes) r → Makes F s input r
+where_known F forget s None bytes (Ok text) is made = record { ok = forget bytes text.items made.ok; json = tt; schema = tt }
+where_known F forget s None bytes (Err e) is made = record { ok = tt; json = λ h. tt; schema = λ h. tt }
+where_known F forget s (Some all) bytes r is made = subst (λ b. Makes F s (Some b) r) is made
 
 -- ---- where memory was wanted
 

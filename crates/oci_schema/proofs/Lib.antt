@@ -33,7 +33,6 @@ pub mod Presences
 pub mod Repeats
 pub mod Replacing
 pub mod Sets
-pub mod Sinks
 pub mod Sizes
 pub mod Slots
 pub mod Sound

@@ -14,16 +14,13 @@ use Rattle.oci_json.specs.Readable.{IsReadable, HoldReadable}
 use Rattle.oci_model.specs.Shape.{Shape, text, named, open_name, digest_text, cpu_text}
 use Rattle.oci_model.specs.Value.{capability_texts}
 use Rattle.oci_json_tape.specs.Elements.{BeginsWithData}
+pub use Rattle.oci_json_tape.specs.Sinks.{Writes}
 pub use Rattle.oci_json_tape.specs.Values.{IfDone}
 use Rattle.oci_text.specs.Capability.{capability_table}
 use Rattle.oci_text.specs.CpuScan.{is_cpu_text}
 use Rattle.oci_schema.specs.Allows.{is_digest_text, is_in_range}
 use Rattle.oci_schema.specs.Normalized.{accepts, normalized}
 use Rattle.oci_schema.specs.Fields.{Field, FieldMeans, EachField, FieldIsAccepted, AreAccepted}
-
--- Whatever tokens the sink held, it now holds some that are so related to them.
-pub record Writes {S : Type 0} (H : S → List Token → Type 0) (R : List Token → List Token → Type 0) (old new : S) : Type 0 where
-  pub each : (a : List Token) → H old a → (b : List Token) × H new b × R a b
 
 -- the tree, which is one that a text may be read as, was written
 abbrev pub WritesTree : Data → List Token → List Token → Type 0
@@ -36,6 +33,10 @@ WritesMembers ms old new = (new ≡ old ++ begin_object ∷ members_tokens (memb
 -- the value with which `ts` begins is accepted, and its normal form was written
 abbrev pub WritesNormal : Shape → List Token → List Token → List Token → Type 0
 WritesNormal s ts old new = (d : Data) → BeginsWithData ts d → (accepts s d ≡ true) × WritesTree (normalized s d) old new
+
+-- a value of which P holds is accepted, and its normal form was written
+abbrev pub WritesOf : (Data → Type 0) → Shape → List Token → List Token → Type 0
+WritesOf P s old new = (d : Data) × P d × (accepts s d ≡ true) × WritesTree (normalized s d) old new
 
 -- the field's value is accepted, and what it means was written
 abbrev pub WritesField : (ℕ → Shape) → Field → List Token → List Token → Type 0

@@ -12,12 +12,12 @@ pub mod laws;
 mod object;
 mod pretty;
 mod scalar;
-mod sink;
 mod streams;
+mod tape;
 mod walk;
 
-pub use crate::normalize_pretty;
 pub use calls::{is_valid_bytes, normalize_bytes, violations_in_bytes};
 pub use lane::Workspace;
-pub use pretty::normalize_pretty_bytes;
+pub use pretty::{normalize_pretty, normalize_pretty_bytes};
 pub use streams::normalize;
+pub use tape::{is_accepted_tape, normal_text_of, pretty_text_of};

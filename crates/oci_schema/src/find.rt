@@ -181,54 +181,40 @@ fn add_member<T: Records>(
     ensures { OnOk result (map reported found.new.items ≡ map reported found.old.items ++ known_violations (T.shape_at records.now) member.now (pointer at.now) (view value.now)) }
 {
     let there = value.get(member.name);
+    let own = Place::Member(&*at, member.name);
     let Some(alias) = member.alias else {
-        return add_found(records, member, member.name, there, at, found, alloc);
+        return add_found(records, member, there, &own, found, alloc);
     };
     let other = value.get(alias);
     if other.is_none() {
-        add_found(records, member, member.name, there, at, found, alloc)
+        add_found(records, member, there, &own, found, alloc)
     } else if there.is_none() {
-        add_found(records, member, alias, other, at, found, alloc)
+        let place = Place::Member(&*at, alias);
+        add_found(records, member, other, &place, found, alloc)
     } else {
-        add_alias(member, alias, at, found, alloc)
+        push(&own, Expected::NoAlias(alias), found, alloc)
     }
 }
 
-/// Adds that a member is there under its name and its alias.
-fn add_alias(
-    member: &Member,
-    alias: &'static str,
-    at: &Place<'_>,
-    found: &mut Vec<Violation>,
-    alloc: Global,
-) -> Result<(), AllocError>
-    ensures { OnOk result (map reported found.new.items ≡ map reported found.old.items ++ (under (pointer at.now) member.now.name.now, no_alias alias.now) ∷ []) }
-{
-    let place = Place::Member(&*at, member.name);
-    push(&place, Expected::NoAlias(alias), found, alloc)
-}
-
-/// Adds the violations by what is found under this name of the member.
+/// Adds the violations by what is found at the place of the member, under its name or its alias.
 #[cycle(violations)]
 fn add_found<T: Records>(
     records: &T,
     member: &Member,
-    name: &'static str,
     there: Option<&Value>,
     at: &Place<'_>,
     found: &mut Vec<Violation>,
     alloc: Global,
 ) -> Result<(), AllocError>
-    ensures { OnOk result (map reported found.new.items ≡ map reported found.old.items ++ member_violations (presence_of member.now.presence) (schema_shape (T.shape_at records.now) member.now.schema) (all_violations (schema_shape (T.shape_at records.now) member.now.schema)) (under (pointer at.now) name.now) (option_map (λ v. view v.now) there.entry)) }
+    ensures { OnOk result (map reported found.new.items ≡ map reported found.old.items ++ member_violations (presence_of member.now.presence) (schema_shape (T.shape_at records.now) member.now.schema) (all_violations (schema_shape (T.shape_at records.now) member.now.schema)) (pointer at.now) (option_map (λ v. view v.now) there.entry)) }
 {
-    let place = Place::Member(&*at, name);
     match there {
-        None => add_missing(records, member, &place, found, alloc),
+        None => add_missing(records, member, at, found, alloc),
         Some(value) => {
             if value.is_null() && is_null_absent(&member.presence) {
                 return Ok(());
             }
-            add_violations(records, &member.schema, value, &place, found, alloc)
+            add_violations(records, &member.schema, value, at, found, alloc)
         }
     }
 }

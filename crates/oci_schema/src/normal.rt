@@ -27,9 +27,9 @@ pub fn normal_scalar(scalar: &Scalar, value: Value, alloc: Global) -> Result<Val
     ensures kind { IfErr result IsMemoryOrSchema }
 {
     match scalar {
-        Scalar::Capabilities => normal_capabilities(&value, alloc),
+        Scalar::Capabilities => normal_capabilities(value, alloc),
         Scalar::Keys => normal_keys(value, alloc),
-        Scalar::Detail => normal_detail(&value, alloc),
+        Scalar::Detail => normal_detail(value, alloc),
         Scalar::Integer(_, _) => {
             if scalar_allows(scalar, &value) {
                 Ok(normal_number(value))
@@ -68,9 +68,9 @@ fn normal_number(value: Value) -> Value
     }
 }
 
-fn normal_capabilities(value: &Value, alloc: Global) -> Result<Value>
-    ensures ok { IfOk result (λ v. (accepts (cap_set capability_table) (view value.now) ≡ true) × (view v ≡ normalized (cap_set capability_table) (view value.now))) }
-    ensures err { IfErr result (λ e. IsSchema e → accepts (cap_set capability_table) (view value.now) ≡ false) }
+fn normal_capabilities(value: Value, alloc: Global) -> Result<Value>
+    ensures ok { IfOk result (λ v. (accepts (cap_set capability_table) (view value) ≡ true) × (view v ≡ normalized (cap_set capability_table) (view value))) }
+    ensures err { IfErr result (λ e. IsSchema e → accepts (cap_set capability_table) (view value) ≡ false) }
     ensures kind { IfErr result IsMemoryOrSchema }
 {
     let set = Caps::read(alloc, value)?;
@@ -82,13 +82,13 @@ fn normal_keys(value: Value, alloc: Global) -> Result<Value>
     ensures err { IfErr result (λ e. IsSchema e → accepts key_set (view value) ≡ false) }
     ensures kind { IfErr result IsMemoryOrSchema }
 {
-    let names = Keys::read_owned(alloc, value)?;
+    let names = Keys::read(alloc, value)?;
     Keys::write(&names, alloc)
 }
 
-fn normal_detail(value: &Value, alloc: Global) -> Result<Value>
-    ensures ok { IfOk result (λ v. (accepts detail (view value.now) ≡ true) × (view v ≡ normalized detail (view value.now))) }
-    ensures err { IfErr result (λ e. IsSchema e → accepts detail (view value.now) ≡ false) }
+fn normal_detail(value: Value, alloc: Global) -> Result<Value>
+    ensures ok { IfOk result (λ v. (accepts detail (view value) ≡ true) × (view v ≡ normalized detail (view value))) }
+    ensures err { IfErr result (λ e. IsSchema e → accepts detail (view value) ≡ false) }
     ensures kind { IfErr result IsMemoryOrSchema }
 {
     let text = Detail::read(alloc, value)?;

@@ -21,7 +21,7 @@ use crate::normal::normal_scalar;
 use crate::{Member, Part, Presence, Records, Schema};
 use oci_base::Result;
 use oci_model::fault::{placed, refused};
-use oci_model::owned::{into_items, into_members};
+use oci_model::parts::{into_items, into_members};
 use oci_model::take_member;
 use serde_json::{Map, Value};
 use std::alloc::Global;

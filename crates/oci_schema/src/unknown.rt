@@ -245,47 +245,32 @@ fn add_member<T: Records>(
 ) -> Result<(), AllocError>
     ensures { OnOk result (map reported found.new.items ≡ map reported found.old.items ++ (of_named (unknown (schema_shape (T.shape_at records.now) member.now.schema)) (Some member.now.name.now) (pointer at.now) (view value.now) ++ of_named (unknown (schema_shape (T.shape_at records.now) member.now.schema)) (alias_of member.now.alias) (pointer at.now) (view value.now))) }
 {
-    add_found(
-        records,
-        &member.schema,
-        member.name,
-        value.get(member.name),
-        at,
-        found,
-        alloc,
-    )?;
+    let schema = &member.schema;
+    let own = Place::Member(&*at, member.name);
+    add_found(records, schema, value.get(member.name), &own, found, alloc)?;
     match member.alias {
-        Some(alias) => add_found(
-            records,
-            &member.schema,
-            alias,
-            value.get(alias),
-            at,
-            found,
-            alloc,
-        ),
+        Some(alias) => {
+            let place = Place::Member(&*at, alias);
+            add_found(records, schema, value.get(alias), &place, found, alloc)
+        }
         None => Ok(()),
     }
 }
 
-/// Adds the unknown members in what is found under this name.
+/// Adds the unknown members in what is found at the place, if anything is.
 #[cycle(unknown)]
 fn add_found<T: Records>(
     records: &T,
     schema: &Schema,
-    name: &'static str,
     there: Option<&Value>,
     at: &Place<'_>,
     found: &mut Vec<UnknownMember>,
     alloc: Global,
 ) -> Result<(), AllocError>
-    ensures { OnOk result (map reported found.new.items ≡ map reported found.old.items ++ of_part (unknown (schema_shape (T.shape_at records.now) schema.now)) (under (pointer at.now) name.now) (option_map (λ v. view v.now) there.entry)) }
+    ensures { OnOk result (map reported found.new.items ≡ map reported found.old.items ++ of_part (unknown (schema_shape (T.shape_at records.now) schema.now)) (pointer at.now) (option_map (λ v. view v.now) there.entry)) }
 {
     match there {
-        Some(value) => {
-            let place = Place::Member(&*at, name);
-            add_schema(records, schema, value, &place, found, alloc)
-        }
+        Some(value) => add_schema(records, schema, value, at, found, alloc),
         None => Ok(()),
     }
 }

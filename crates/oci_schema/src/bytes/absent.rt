@@ -9,8 +9,8 @@ ghost use Rattle.oci_schema.specs.Fields.{written_for};
 ghost use Rattle.oci_schema.specs.Walks.{IfDone, Writes, WritesTree};
 
 use crate::bytes::scalar::{write_boolean, write_signed, write_string, write_unsigned};
-use crate::bytes::sink::Sink;
 use crate::{DefaultValue, Member, Part, Presence, Scalar, Schema};
+use oci_json_tape::Sink;
 use std::alloc::AllocError;
 
 /// Writes what is written for the member where it is absent.

@@ -6,12 +6,11 @@ ghost use Rattle.oci_schema.specs.Shapes.{part_shape, scalar_shape, schema_shape
 ghost use Rattle.oci_schema.specs.Normalized.{IsSound};
 ghost use Rattle.oci_schema.specs.Walks.{IfDone, Writes, WritesNormal};
 
-use crate::bytes::sink::Sink;
 use crate::normal_value::normal_value;
 use crate::{Part, Records, Scalar, Schema};
 use json::Element;
 use oci_base::OciSpecError;
-use oci_json_tape::value_of;
+use oci_json_tape::{Sink, value_of, write_value};
 use std::alloc::{AllocError, Global};
 
 /// How deep such a value nests at most: no deeper than a text may.
@@ -30,7 +29,7 @@ pub fn write_by_value<T: Records, K: Sink>(
 {
     match value_of(element, DEPTH, alloc)? {
         Some(value) => match normal_value(records, schema, value, alloc) {
-            Ok(normal) => out.value(&normal),
+            Ok(normal) => write_value(&normal, out),
             Err(OciSpecError::Memory) => Err(AllocError),
             Err(_) => Ok(false),
         },

@@ -12,8 +12,9 @@ ghost use Rattle.oci_schema.specs.Shapes.{schema_shape};
 ghost use Rattle.oci_schema.specs.Violations.{reported, violations as all_violations};
 ghost use Rattle.oci_schema.specs.Canonical.{MakesText};
 
+use crate::by_value::normalize_value;
 use crate::bytes::lane::{Workspace, is_accepted, normal_text};
-use crate::{Records, Schema, Violation, is_valid, normalize_value, violations};
+use crate::{Records, Schema, Violation, is_valid, violations};
 use oci_base::{OciSpecError, Result};
 use oci_json::value_from_slice;
 use serde_json::Value;

@@ -7,9 +7,8 @@ ghost use Rattle.oci_schema.specs.Walks.{IfDone, Writes, WritesNormal, IsNormalS
 
 use crate::Scalar;
 use crate::bytes::scalar::write_scalar;
-use crate::bytes::sink::Sink;
 use json::Element;
-use oci_json_tape::{items, next_item, text};
+use oci_json_tape::{Sink, items, next_item, text};
 use oci_model::JsonName;
 use oci_text::capability::ALL;
 use std::alloc::AllocError;

@@ -2,18 +2,16 @@
 ghost use Rattle.std.specs.Prelude.{◌≡◌, true, Some, IfOk, IfSome};
 ghost use Rattle.serde_json.specs.Data.{Data};
 ghost use Rattle.serde_json.specs.Read.{read};
-ghost use Rattle.oci_json_tape.specs.Elements.{BeginsWithData};
 ghost use Rattle.oci_json.specs.Engines.{ReadsAs};
 ghost use Rattle.oci_schema.specs.Shapes.{schema_shape};
 ghost use Rattle.oci_schema.specs.Normalized.{accepts};
-ghost use Rattle.oci_schema.specs.Canonical.{IsNormalText};
-ghost use Rattle.oci_schema.specs.Walks.{IfDone};
+ghost use Rattle.oci_schema.specs.Canonical.{IsNormalText, IsNormalPretty};
+ghost use Rattle.oci_schema.specs.Walks.{IfDone, Writes, WritesNormal, WritesOf};
 
-use crate::bytes::sink::Nothing;
 use crate::bytes::walk::write_value;
 use crate::{Records, Schema};
 use json::{Error, Scratch, Tape};
-use oci_json_tape::{CompactWriter, open};
+use oci_json_tape::{CompactWriter, Nothing, PrettyWriter, Sink, open};
 use std::alloc::{AllocError, Global};
 
 /// How deep arrays, maps and records nest at most: no deeper than a text may.
@@ -21,7 +19,7 @@ const DEPTH: usize = 127;
 
 /// How many bytes the writer wants free behind the last one that it writes. With them a text as long as the one that was read is
 /// written where it is.
-const SPARE: usize = 2;
+pub(crate) const SPARE: usize = 2;
 
 /// The memory that reading needs. Keep one from call to call.
 #[derive(Drop)]
@@ -54,46 +52,27 @@ pub fn normal_text<T: Records>(
     ensures { IfOk result (λ o. IfSome o (λ text. (d : Data) × ReadsAs bytes.now d
         × IsNormalText (schema_shape (T.shape_at records.now) schema.now) d text.items)) }
 {
-    match simdutf8::compat::from_utf8(bytes) {
-        Ok(text) => normal_text_of(records, schema, alloc, text, &mut workspace.scratch),
-        Err(_) => Ok(None),
+    let mut out = CompactWriter::with_capacity(alloc, bytes.len().saturating_add(SPARE))?;
+    let done = write_document(records, schema, alloc, bytes, workspace, &mut out)?;
+    if !done {
+        return Ok(None);
     }
+    Ok(Some(out.into_bytes()))
 }
 
-/// The same of a text.
-fn normal_text_of<T: Records>(
+/// The same as pretty text.
+pub fn pretty_text<T: Records>(
     records: &T,
     schema: &Schema,
     alloc: Global,
-    text: &str,
-    scratch: &mut Scratch,
+    bytes: &[u8],
+    workspace: &mut Workspace,
 ) -> Result<Option<Vec<u8>>, AllocError>
-    ensures { IfOk result (λ o. IfSome o (λ written. (d : Data) × (read text.now ≡ Some d)
-        × IsNormalText (schema_shape (T.shape_at records.now) schema.now) d written.items)) }
+    ensures { IfOk result (λ o. IfSome o (λ text. (d : Data) × ReadsAs bytes.now d
+        × IsNormalPretty (schema_shape (T.shape_at records.now) schema.now) d text.items)) }
 {
-    match open(alloc, text, scratch) {
-        Ok(found) => match found {
-            Some(tape) => write_tape(records, schema, alloc, &tape, text.len()),
-            None => Ok(None),
-        },
-        Err(Error::OutOfMemory) => Err(AllocError),
-        Err(_) => Ok(None),
-    }
-}
-
-/// The same of the tape of a text of this length.
-fn write_tape<T: Records>(
-    records: &T,
-    schema: &Schema,
-    alloc: Global,
-    tape: &Tape<'_>,
-    len: usize,
-) -> Result<Option<Vec<u8>>, AllocError>
-    ensures { IfOk result (λ o. IfSome o (λ written. (d : Data) → BeginsWithData tape.now d
-        → IsNormalText (schema_shape (T.shape_at records.now) schema.now) d written.items)) }
-{
-    let mut out = CompactWriter::with_capacity(alloc, len.saturating_add(SPARE))?;
-    let done = write_value(records, schema, &tape.root(), DEPTH, alloc, &mut out)?;
+    let mut out = PrettyWriter::new(alloc);
+    let done = write_document(records, schema, alloc, bytes, workspace, &mut out)?;
     if !done {
         return Ok(None);
     }
@@ -110,25 +89,42 @@ pub fn is_accepted<T: Records>(
 ) -> Result<bool, AllocError>
     ensures { IfDone result ((d : Data) × ReadsAs bytes.now d × (accepts (schema_shape (T.shape_at records.now) schema.now) d ≡ true)) }
 {
+    let mut out = Nothing;
+    write_document(records, schema, alloc, bytes, workspace, &mut out)
+}
+
+/// Writes the normal form of a document; `false` if that was not found out. What was written then is of no use. Fails if out of
+/// memory.
+fn write_document<T: Records, K: Sink>(
+    records: &T,
+    schema: &Schema,
+    alloc: Global,
+    bytes: &[u8],
+    workspace: &mut Workspace,
+    out: &mut K,
+) -> Result<bool, AllocError>
+    ensures { IfDone result (Writes K.holds (WritesOf (λ d. ReadsAs bytes.now d) (schema_shape (T.shape_at records.now) schema.now)) out.old out.new) }
+{
     match simdutf8::compat::from_utf8(bytes) {
-        Ok(text) => is_accepted_text(records, schema, alloc, text, &mut workspace.scratch),
+        Ok(text) => write_text(records, schema, alloc, text, &mut workspace.scratch, out),
         Err(_) => Ok(false),
     }
 }
 
 /// The same of a text.
-fn is_accepted_text<T: Records>(
+fn write_text<T: Records, K: Sink>(
     records: &T,
     schema: &Schema,
     alloc: Global,
     text: &str,
     scratch: &mut Scratch,
+    out: &mut K,
 ) -> Result<bool, AllocError>
-    ensures { IfDone result ((d : Data) × (read text.now ≡ Some d) × (accepts (schema_shape (T.shape_at records.now) schema.now) d ≡ true)) }
+    ensures { IfDone result (Writes K.holds (WritesOf (λ d. read text.now ≡ Some d) (schema_shape (T.shape_at records.now) schema.now)) out.old out.new) }
 {
     match open(alloc, text, scratch) {
         Ok(found) => match found {
-            Some(tape) => check_tape(records, schema, alloc, &tape),
+            Some(tape) => write_tape(records, schema, alloc, &tape, out),
             None => Ok(false),
         },
         Err(Error::OutOfMemory) => Err(AllocError),
@@ -136,15 +132,15 @@ fn is_accepted_text<T: Records>(
     }
 }
 
-/// The same of a tape: the walk, with nothing kept of what it writes.
-fn check_tape<T: Records>(
+/// The same of a tape.
+pub(crate) fn write_tape<T: Records, K: Sink>(
     records: &T,
     schema: &Schema,
     alloc: Global,
     tape: &Tape<'_>,
+    out: &mut K,
 ) -> Result<bool, AllocError>
-    ensures { IfDone result ((d : Data) → BeginsWithData tape.now d → accepts (schema_shape (T.shape_at records.now) schema.now) d ≡ true) }
+    ensures { IfDone result (Writes K.holds (WritesNormal (schema_shape (T.shape_at records.now) schema.now) tape.now) out.old out.new) }
 {
-    let mut out = Nothing::new(alloc);
-    write_value(records, schema, &tape.root(), DEPTH, alloc, &mut out)
+    write_value(records, schema, &tape.root(), DEPTH, alloc, out)
 }

@@ -11,9 +11,8 @@ ghost use Rattle.oci_json_tape.specs.Numbers.{num_of};
 ghost use Rattle.oci_schema.specs.Walks.{IfDone, Writes, WritesTree, WritesNormal, IsTextOf, WritesWhole};
 
 use crate::Scalar;
-use crate::bytes::sink::Sink;
 use json::Element;
-use oci_json_tape::{Number, boolean, number, text};
+use oci_json_tape::{Number, Sink, boolean, number, text};
 use oci_text::{is_cpu_list, is_digest};
 use std::alloc::AllocError;
 

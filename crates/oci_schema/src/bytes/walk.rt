@@ -13,10 +13,9 @@ use crate::bytes::capabilities::{is_normal_set, write_strings};
 use crate::bytes::fields::choose;
 use crate::bytes::object::{Object, Slot};
 use crate::bytes::scalar::{write_scalar, write_text};
-use crate::bytes::sink::Sink;
 use crate::{Member, Part, Records, Scalar, Schema};
 use json::Element;
-use oci_json_tape::{items, members, next_item, next_member};
+use oci_json_tape::{Sink, items, members, next_item, next_member};
 use std::alloc::{AllocError, Global};
 use std::cmp::Ordering;
 

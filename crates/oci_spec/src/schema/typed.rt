@@ -1,17 +1,13 @@
 //! Schemas by types.
-ghost use Rattle.std.specs.Prelude.{◌≡◌, ◌↔◌, [], true, map, IfOk, IfErr, OnOk};
+ghost use Rattle.std.specs.Prelude.{◌≡◌, ◌↔◌, [], true, map, IfOk, OnOk};
 ghost use Rattle.std.specs.List.{Contains};
 ghost use Rattle.serde_json.specs.View.{view};
-ghost use Rattle.oci_base.specs.Refused.{IsSchema, IsMemoryOrSchema};
 ghost use Rattle.oci_model.specs.Plain.{Plain};
 ghost use Rattle.oci_model.specs.Means.{Means};
-ghost use Rattle.oci_model.specs.Value.{value as json_of};
-ghost use Rattle.oci_model.specs.Writable.{Writable};
 ghost use Rattle.oci_json.specs.Engines.{WritesDocument, ReadsBackDocument};
 ghost use Rattle.oci_schema.specs.Shapes.{schema_shape};
 ghost use Rattle.oci_schema.specs.Violations.{Report, reported, violations as all_violations};
 ghost use Rattle.oci_schema.specs.Wants.{IsViolation};
-ghost use Rattle.oci_schema.specs.Normalized.{HasNoNormalForm};
 ghost use Rattle.oci_schema.specs.Normalizes.{Normalizes, WritesPretty};
 
 use oci_base::Result;
@@ -54,16 +50,6 @@ pub fn violations_as<T: HasSchema>(
     oci_schema::violations(records, schema, value, alloc)
 }
 
-/// Returns the normal form of `value` as a `T`, as `normalize_value` does.
-pub fn normalize_value_as<T: HasSchema>(value: Value, alloc: Global) -> Result<Value>
-    ensures ok { IfOk result (λ v. (p : Plain) × Means T.shape (view value) p × Writable T.shape p × (view v ≡ json_of T.shape p)) }
-    ensures err { IfErr result (λ e. IsSchema e → HasNoNormalForm T.shape (view value)) }
-    ensures kind { IfErr result IsMemoryOrSchema }
-{
-    let (records, schema) = T::schema();
-    oci_schema::normalize_value(records, schema, value, alloc)
-}
-
 /// Reads a `T` to the end of the input and writes its normal form as compact JSON, as `normalize` does.
 pub fn normalize_as<T: HasSchema, R: Read + Drop, W: Write>(
     alloc: Global,
@@ -86,5 +72,5 @@ pub fn normalize_pretty_as<T: HasSchema, R: Read + Drop, W: Write>(
     ensures { Normalizes (WritesPretty T.shape (R.remaining reader)) T.shape (R.remaining reader) (W.contents writer.old) (W.contents writer.new) result }
 {
     let (records, schema) = T::schema();
-    oci_schema::normalize_pretty(records, schema, alloc, reader, writer)
+    oci_schema::bytes::normalize_pretty(records, schema, alloc, reader, writer)
 }

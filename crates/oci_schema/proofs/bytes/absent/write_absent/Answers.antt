@@ -7,7 +7,7 @@ use Rattle.oci_schema.specs.declared.presence.Presence.TheVariants.{Nullable, De
 use Rattle.oci_schema.specs.Walks.{WritesTree}
 use Rattle.oci_schema.proofs.FieldWalk.{if_done}
 use Rattle.oci_schema.proofs.Presences.{written_as}
-use Rattle.oci_schema.proofs.Sinks.{kept}
+use Rattle.oci_json_tape.proofs.Sinks.{kept}
 use Rattle.oci_schema.proofs.bytes.absent.write_absent.Goals as goal
 
 pub returns-in-Nullable : goal.returns-in-Nullable

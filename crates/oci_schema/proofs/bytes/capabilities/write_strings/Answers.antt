@@ -1,6 +1,6 @@
 use Rattle.oci_model.specs.Shape.{text}
 use Rattle.oci_schema.proofs.ArrayWalk.{items_begin, items_step, items_end}
-use Rattle.oci_schema.proofs.Sinks.{kept, and_then}
+use Rattle.oci_json_tape.proofs.Sinks.{kept, and_then}
 use Rattle.oci_schema.proofs.bytes.capabilities.write_strings.Goals as goal
 
 pub each_item-init : goal.each_item-init

@@ -1,12 +1,8 @@
-use Rattle.std.proofs.Common.{[], sym, ◌∙◌, subst}
+use Rattle.std.proofs.Common.{sym, subst}
 use Rattle.oci_json_tape.specs.Elements.{BeginsWithData}
-use Rattle.oci_schema.specs.Shapes.{schema_shape}
-use Rattle.oci_schema.specs.Normalized.{normalized}
+use Rattle.oci_json_tape.proofs.Sinks.{kept}
+use Rattle.oci_schema.proofs.FieldWalk.{if_done}
 use Rattle.oci_schema.proofs.bytes.lane.write_tape.Goals as goal
 
 pub returns : goal.returns
-returns g c = λ d b.
-    let n = normalized (schema_shape (g.T.Records.shape_at c.args.records.now) c.args.schema.now) d in
-    let all = (c.in_ok-done.ensures c.if-not-done.false).each [] c.in_ok-out.ensures in
-    let w = all.2 d (subst (λ ts. BeginsWithData ts d) (sym c.root.ensures.same) b) in
-    (w.0, c.into_bytes.ensures.text n (all.1 ∙ w.1.0), w.1.1)
+returns g c = if_done c.write_value.result _ _ c.write_value.ensures (λ w. kept w (λ a b wrote d begins. wrote d (subst (λ ts. BeginsWithData ts d) (sym c.root.ensures.same) begins)))

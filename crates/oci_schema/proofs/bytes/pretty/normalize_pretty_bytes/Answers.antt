@@ -1,5 +1,12 @@
+use Rattle.std.proofs.Common.{◌++◌, ap, ◌∙◌}
+use Rattle.std.proofs.lemmas.Result.{on_ok_weaker}
 use Rattle.oci_schema.proofs.Documents.{memory_no_json, memory_no_schema, memory_kind}
 use Rattle.oci_schema.proofs.bytes.pretty.normalize_pretty_bytes.Goals as goal
+
+pub returns-clause-ok : goal.returns-clause-ok
+returns-clause-ok g c =
+    let made = c.in_ok-text.ensures.makes.ok in
+    on_ok_weaker c.append.result (λ e. (made.0, made.1, (c.in_ok-text.text.items, made.2, e ∙ ap (λ t. c.args.out.now.items ++ t) c.as_slice.ensures.value))) c.append.ensures.ok
 
 pub returns-clause-json : goal.returns-clause-json
 returns-clause-json g c = memory_no_json c.append.result _ c.append.ensures.kind

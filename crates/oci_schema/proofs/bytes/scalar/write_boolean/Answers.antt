@@ -1,4 +1,4 @@
-use Rattle.oci_schema.proofs.Sinks.{kept}
+use Rattle.oci_json_tape.proofs.Sinks.{kept}
 use Rattle.oci_schema.proofs.bytes.scalar.write_boolean.Goals as goal
 
 pub returns : goal.returns

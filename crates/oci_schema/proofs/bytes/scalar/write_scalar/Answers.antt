@@ -1,7 +1,7 @@
 use Rattle.std.proofs.Common.{sym, subst}
 use Rattle.oci_schema.specs.Shapes.{scalar_shape}
 use Rattle.oci_schema.proofs.FieldWalk.{if_done}
-use Rattle.oci_schema.proofs.Sinks.{kept}
+use Rattle.oci_json_tape.proofs.Sinks.{kept}
 use Rattle.oci_schema.proofs.Written.{Wrote, text_written, boolean_written, whole_written}
 use Rattle.oci_schema.proofs.bytes.scalar.write_scalar.Goals as goal
 

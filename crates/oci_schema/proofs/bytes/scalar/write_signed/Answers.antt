@@ -3,7 +3,7 @@ use Rattle.json.specs.Tree.{json_tokens}
 use Rattle.serde_json.specs.Data.{number}
 use Rattle.serde_json.specs.Find.{of_integer}
 use Rattle.serde_json.specs.Written.{outline}
-use Rattle.oci_schema.proofs.Sinks.{kept}
+use Rattle.oci_json_tape.proofs.Sinks.{kept}
 use Rattle.oci_schema.proofs.Written.{signed_held}
 use Rattle.oci_schema.proofs.bytes.scalar.write_signed.Goals as goal
 

@@ -1,7 +1,7 @@
 use Rattle.std.proofs.Common.{sym}
 use Rattle.oci_model.specs.Shape.{text}
 use Rattle.oci_schema.proofs.FieldWalk.{if_done}
-use Rattle.oci_schema.proofs.Sinks.{kept}
+use Rattle.oci_json_tape.proofs.Sinks.{kept}
 use Rattle.oci_schema.proofs.Written.{text_written}
 use Rattle.oci_schema.proofs.bytes.scalar.write_text.Goals as goal
 

@@ -10,7 +10,7 @@ use Rattle.oci_schema.specs.Objects.{IsObject, with_field, fields_in}
 use Rattle.oci_schema.proofs.ArrayWalk.{items_begin, items_step, items_end}
 use Rattle.oci_schema.proofs.FieldWalk.{FieldsLeft, left_begin, left_step, left_end, record_written, value_accepted, value_written, none_accepted, none_means, if_done}
 use Rattle.oci_schema.proofs.MapWalk.{members_begin, members_step, members_end}
-use Rattle.oci_schema.proofs.Sinks.{kept, and_then, with_key}
+use Rattle.oci_json_tape.proofs.Sinks.{kept, and_then, with_key}
 use Rattle.oci_schema.proofs.bytes.walk.+writes.Goals as goal
 
 pub write_items-each_item-init : goal.write_items-each_item-init

@@ -1,6 +1,6 @@
 use Rattle.oci_schema.proofs.FieldWalk.{if_done}
 use Rattle.oci_schema.proofs.NormalSets.{set_written}
-use Rattle.oci_schema.proofs.Sinks.{kept}
+use Rattle.oci_json_tape.proofs.Sinks.{kept}
 use Rattle.oci_schema.proofs.bytes.walk.write_capabilities.Goals as goal
 
 pub returns-then-is_normal_set : goal.returns-then-is_normal_set
