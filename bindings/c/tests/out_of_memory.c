@@ -1,5 +1,5 @@
 /* Lets each allocation of each function fail in turn: out_of_memory MANIFEST. Linked with --wrap for malloc, realloc and free. The
- * status has to be CIDERGLEN_OUT_OF_MEMORY, the buffer unchanged and all memory freed. One allocation of ciderglen_normalize is done
+ * status has to be CIDERGLEN_OUT_OF_MEMORY, the buffer unchanged and all memory freed. One allocation of ciderglen_normalize and of ciderglen_pretty is done
  * without where it fails, since it only reserves what grows otherwise: its text is then the same. */
 #include <ciderglen.h>
 
@@ -68,7 +68,7 @@ int main(int argc, char **argv) {
         failing = allocations = live = 0;
         uint32_t status = call(which);
         long all = allocations;
-        int reservations = which == 0;
+        int reservations = which < 2;
         memcpy(text, buffer, text_len = output_len);
         failures += live != 0 || status != CIDERGLEN_DONE;
         for (failing = 1; failing <= all; failing++) {
