@@ -1,5 +1,5 @@
 -- What holds of the bytes of a file, where they are known.
-use Rattle.std.proofs.Common.{◌≡◌, ◌⊎◌, ◌++◌, ◌∙◌, [], inl, inr, ℕ, List, Bool, true, false, Option, Some, None, Result, Ok, Err, ap, sym, subst}
+use Rattle.std.proofs.Common.{◌≡◌, ◌⊎◌, ◌++◌, ◌∙◌, [], inl, inr, ℕ, List, Bool, true, false, Option, Some, None, Result, Ok, Err, ap, refl, sym, subst}
 use Rattle.std.specs.Prelude.{IfSome, OnOk}
 use Rattle.oci_model.specs.Shape.{Shape}
 use Rattle.oci_json.specs.Engines.{MeansBytes, WritesDocument}
@@ -9,6 +9,7 @@ use Rattle.oci_schemas.specs.declared.kind.Kind.{Kind}
 use Rattle.oci_schemas.specs.Kinds.{shape_of}
 use Rattle.oci_doc_run.specs.Outputs.{WritesPinned}
 use Rattle.oci_findings.specs.Checks.{IsAsked}
+use Rattle.oci_findings.specs.Forms.{IsForm}
 use Rattle.oci_commands.specs.Formats.{Formats}
 
 -- what holds of the bytes that were read
@@ -37,6 +38,11 @@ compact_made s bytes old new h e = document_written s (Some bytes) (λ t. new �
 
 pub pretty_made : (s : Shape) (bytes old new : List ℕ) → WritesPretty s (Some bytes) (λ t. new ≡ old ++ t) → old ≡ [] → WritesPretty s (Some bytes) (λ t. t ≡ new)
 pretty_made s bytes old new h e = pretty_written s (Some bytes) (λ t. new ≡ old ++ t) (λ t. t ≡ new) (λ t is. sym (is ∙ ap (λ q. q ++ t) e)) h
+
+-- a form that was found out is one that is written
+pub form_made : (pretty : Bool) (kind : Kind) (bytes text : List ℕ) → IsForm pretty kind bytes text → Formats (Some kind) pretty (Some bytes) (λ t. t ≡ text)
+form_made false kind bytes text h = let (p, means, is, back) = h in (kind, refl, (p, means, sym is))
+form_made true kind bytes text h = let (p, means, is) = h in (kind, refl, (p, means, (text, is, refl)))
 
 -- the canonical form of the kind that was found is that of the kind that was asked for
 pub formats_asked : (asked : Option Kind) (kind : Kind) (pretty : Bool) (input : Option (List ℕ)) (W V : List ℕ → Type 0) → IsAsked asked kind → ((t : List ℕ) → W t → V t) → Formats (Some kind) pretty input W

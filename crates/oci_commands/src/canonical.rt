@@ -6,6 +6,7 @@ ghost use Rattle.oci_json.specs.Engines.{WritesDocument};
 ghost use Rattle.oci_schema.specs.Normalizes.{WritesPretty};
 ghost use Rattle.oci_schemas.specs.Kinds.{shape_of};
 ghost use Rattle.oci_findings.specs.Checks.{AllKept, IsAsked};
+ghost use Rattle.oci_findings.specs.Forms.{IsForm};
 ghost use Rattle.oci_commands.specs.Formats.{Formats, HasNoForm, IsSerDe, IsUnformatted, IsUnformattedAs, KeepsAll, LosesNothing, WouldLose};
 ghost use Rattle.oci_commands.specs.Done.{IsStatus};
 
@@ -20,7 +21,7 @@ use oci_content::Algorithm;
 use oci_findings::Report;
 use oci_findings::examine::lost_members;
 use oci_findings::inspect::kind_of;
-use oci_findings::quick::{Look, look_at};
+use oci_findings::quick::{Found, Look, Wanted, look_at};
 use oci_json::write_text;
 use oci_schema::bytes::{Workspace, normalize_bytes, normalize_pretty_bytes};
 use oci_schemas::{Kind, OciRecords};
@@ -44,7 +45,7 @@ pub fn canonical_text(
     ensures none { IfErr result (λ e. IsSerDe e → HasNoForm kind bytes.now) }
 {
     if pretty {
-        pretty_text(kind, bytes, alloc)
+        pretty_text(kind, bytes, workspace, alloc)
     } else {
         compact_text(kind, bytes, workspace, alloc)
     }
@@ -78,21 +79,32 @@ fn write_compact(
     normalize_bytes(&OciRecords, kind.schema(), alloc, bytes, workspace, out)
 }
 
-fn pretty_text(kind: Kind, bytes: &[u8], alloc: Global) -> Result<Vec<u8>>
+fn pretty_text(
+    kind: Kind,
+    bytes: &[u8],
+    workspace: &mut Workspace,
+    alloc: Global,
+) -> Result<Vec<u8>>
     ensures ok { IfOk result (λ v. WritesPretty (shape_of kind) (Some bytes.now) (λ t. t ≡ v.items)) }
     ensures none { IfErr result (λ e. IsSerDe e → HasNoForm kind bytes.now) }
 {
     let mut text = Vec::new(alloc);
-    write_pretty(kind, bytes, alloc, &mut text)?;
+    write_pretty(kind, bytes, workspace, alloc, &mut text)?;
     Ok(text)
 }
 
 /// Appends the indented text. Fails as `normalize_bytes` does.
-fn write_pretty(kind: Kind, bytes: &[u8], alloc: Global, out: &mut Vec<u8>) -> Result<()>
+fn write_pretty(
+    kind: Kind,
+    bytes: &[u8],
+    workspace: &mut Workspace,
+    alloc: Global,
+    out: &mut Vec<u8>,
+) -> Result<()>
     ensures ok { OnOk result (WritesPretty (shape_of kind) (Some bytes.now) (λ t. out.new.items ≡ out.old.items ++ t)) }
     ensures none { IfErr result (λ e. IsSerDe e → HasNoForm kind bytes.now) }
 {
-    normalize_pretty_bytes(&OciRecords, kind.schema(), alloc, bytes, out)
+    normalize_pretty_bytes(&OciRecords, kind.schema(), alloc, bytes, workspace, out)
 }
 
 /// Writes the canonical form of a file, or compares the file with it. Returns 0 if that was done, 1 if the file holds no valid document
@@ -113,7 +125,14 @@ pub fn format<S: Files, W: Write, E: Write>(
     ensures refused { IfOk result (λ s. s ≡ 1 → IfSome (S.holds store.old asked.now.file.now) (IsUnformatted asked.now)) }
 {
     match store.read(alloc, asked.file) {
-        Ok(bytes) => format_bytes(asked, bytes.as_slice(), alloc, store, writer, errors),
+        Ok(bytes) => {
+            let formatting = Formatting {
+                asked,
+                bytes: bytes.as_slice(),
+                alloc,
+            };
+            formatting.format(store, writer, errors)
+        }
         Err(fault) => {
             complain_of(asked.file, &fault, alloc, errors);
             Ok(3)
@@ -121,195 +140,245 @@ pub fn format<S: Files, W: Write, E: Write>(
     }
 }
 
-fn format_bytes<S: Files, W: Write, E: Write>(
-    asked: &Format<'_>,
-    bytes: &[u8],
+/// What is formatted, and how.
+struct Formatting<'a> {
+    asked: &'a Format<'a>,
+    /// The bytes of the file.
+    bytes: &'a [u8],
     alloc: Global,
-    store: &mut S,
-    writer: &mut W,
-    errors: &mut E,
-) -> Result<u8>
-    ensures status { IfOk result IsStatus }
-    ensures untouched { asked.now.check ≡ true → Keeps (W.contents writer.old) (W.contents writer.new) × (S.holds store.new ≡ S.holds store.old) }
-    ensures canonical { IfOk result (λ s. s ≡ 0 → asked.now.check ≡ true → Formats asked.now.kind asked.now.pretty (Some bytes.now) (λ t. t ≡ bytes.now)) }
-    ensures written { IfOk result (λ s. s ≡ 0 → asked.now.check ≡ false → asked.now.output ≡ None → Formats asked.now.kind asked.now.pretty (Some bytes.now) (Appends (W.contents writer.old) (W.contents writer.new))) }
-    ensures kept { IfOk result (λ s. s ≡ 0 → asked.now.check ≡ false → IsSome asked.now.output → asked.now.drop_unknown ≡ false → LosesNothing asked.now.kind bytes.now) }
-    ensures refused { IfOk result (λ s. s ≡ 1 → IsUnformatted asked.now bytes.now) }
-{
-    let mut workspace = Workspace::new(alloc);
-    match found_kind(asked, bytes, &mut workspace, alloc, errors)? {
-        Some(found) => {
-            format_as(
-                found,
-                asked,
-                bytes,
-                &mut workspace,
-                alloc,
-                store,
-                writer,
-                errors,
-            )
+}
+
+impl<'a> Drop for Formatting<'a> {
+    fn drop(self) {
+        let Formatting {
+            asked,
+            bytes,
+            alloc,
+        } = self;
+    }
+}
+
+impl<'a> Formatting<'a> {
+    /// Puts the canonical form where it belongs, or compares it with the file.
+    fn format<S: Files, W: Write, E: Write>(
+        &self,
+        store: &mut S,
+        writer: &mut W,
+        errors: &mut E,
+    ) -> Result<u8>
+        ensures status { IfOk result IsStatus }
+        ensures untouched { self.now.asked.now.check ≡ true → Keeps (W.contents writer.old) (W.contents writer.new) × (S.holds store.new ≡ S.holds store.old) }
+        ensures canonical { IfOk result (λ s. s ≡ 0 → self.now.asked.now.check ≡ true → Formats self.now.asked.now.kind self.now.asked.now.pretty (Some self.now.bytes.now) (λ t. t ≡ self.now.bytes.now)) }
+        ensures written { IfOk result (λ s. s ≡ 0 → self.now.asked.now.check ≡ false → self.now.asked.now.output ≡ None → Formats self.now.asked.now.kind self.now.asked.now.pretty (Some self.now.bytes.now) (Appends (W.contents writer.old) (W.contents writer.new))) }
+        ensures kept { IfOk result (λ s. s ≡ 0 → self.now.asked.now.check ≡ false → IsSome self.now.asked.now.output → self.now.asked.now.drop_unknown ≡ false → LosesNothing self.now.asked.now.kind self.now.bytes.now) }
+        ensures refused { IfOk result (λ s. s ≡ 1 → IsUnformatted self.now.asked.now self.now.bytes.now) }
+    {
+        let mut workspace = Workspace::new(self.alloc);
+        match self.found_kind(&mut workspace, errors)? {
+            Some(found) => self.format_as(found, &mut workspace, store, writer, errors),
+            None => Ok(1),
         }
-        None => Ok(1),
     }
-}
 
-/// The kind of the document, and whether its canonical form has all its members, if that matters; `None` if it holds no valid document,
-/// which is said on standard error.
-fn found_kind<E: Write>(
-    asked: &Format<'_>,
-    bytes: &[u8],
-    workspace: &mut Workspace,
-    alloc: Global,
-    errors: &mut E,
-) -> Result<Option<Look>>
-    ensures found { IfOk result (λ o. IfSome o (λ l. IsAsked asked.now.kind l.kind)) }
-    ensures none { IfOk result (λ o. o ≡ None → IsUnformatted asked.now bytes.now) }
-{
-    if let Some(found) = look_at(
-        asked.kind,
-        asked.file,
-        bytes,
-        !asked.quiet,
-        workspace,
-        alloc,
-    ) {
-        return Ok(Some(found));
-    }
-    kind_by_value(asked, bytes, alloc, errors)
-}
-
-/// The same by way of a value.
-fn kind_by_value<E: Write>(
-    asked: &Format<'_>,
-    bytes: &[u8],
-    alloc: Global,
-    errors: &mut E,
-) -> Result<Option<Look>>
-    ensures found { IfOk result (λ o. IfSome o (λ l. IsAsked asked.now.kind l.kind)) }
-    ensures none { IfOk result (λ o. o ≡ None → IsUnformatted asked.now bytes.now) }
-{
-    let wrong = is_wrong(asked.kind, asked.file, bytes, alloc, errors)?;
-    if wrong {
-        return Ok(None);
-    }
-    let value = Value::from_slice(alloc, bytes)?;
-    match kind_of(asked.kind, asked.file, &value) {
-        Some(kind) => Ok(Some(Look {
-            kind,
-            is_whole: false,
-        })),
-        None => Ok(None),
-    }
-}
-
-/// The same of a document of this kind.
-fn format_as<S: Files, W: Write, E: Write>(
-    found: Look,
-    asked: &Format<'_>,
-    bytes: &[u8],
-    workspace: &mut Workspace,
-    alloc: Global,
-    store: &mut S,
-    writer: &mut W,
-    errors: &mut E,
-) -> Result<u8>
-    ensures status { IfOk result IsStatus }
-    ensures untouched { asked.now.check ≡ true → Keeps (W.contents writer.old) (W.contents writer.new) × (S.holds store.new ≡ S.holds store.old) }
-    ensures canonical { IfOk result (λ s. s ≡ 0 → asked.now.check ≡ true → Formats (Some found.kind) asked.now.pretty (Some bytes.now) (λ t. t ≡ bytes.now)) }
-    ensures written { IfOk result (λ s. s ≡ 0 → asked.now.check ≡ false → asked.now.output ≡ None → Formats (Some found.kind) asked.now.pretty (Some bytes.now) (Appends (W.contents writer.old) (W.contents writer.new))) }
-    ensures kept { IfOk result (λ s. s ≡ 0 → asked.now.check ≡ false → IsSome asked.now.output → asked.now.drop_unknown ≡ false → KeepsAll found.kind bytes.now) }
-    ensures refused { IfOk result (λ s. s ≡ 1 → IsUnformattedAs found.kind asked.now bytes.now) }
-{
-    match canonical_text(found.kind, asked.pretty, bytes, workspace, alloc) {
-        Ok(text) => {
-            finish(
-                found,
-                asked,
-                bytes,
-                text.as_slice(),
-                alloc,
-                store,
-                writer,
-                errors,
-            )
-        }
-        Err(OciSpecError::SerDe(_)) => {
-            say_no_form(found.kind, asked.file, bytes, alloc, errors)?;
-            Ok(1)
-        }
-        Err(error) => Err(error),
-    }
-}
-
-/// Says why there is no canonical form.
-fn say_no_form<E: Write>(
-    kind: Kind,
-    name: &str,
-    bytes: &[u8],
-    alloc: Global,
-    errors: &mut E,
-) -> Result<()> {
-    if !is_wrong(Some(kind), name, bytes, alloc, errors)? {
-        complain(
-            "ciderglen: there is no canonical form: a detail nests too deep\n",
-            errors,
+    /// The kind of the document, whether its canonical form has all its members, if that matters, and that form, if it was found out;
+    /// `None` if it holds no valid document, which is said on standard error.
+    fn found_kind<E: Write>(
+        &self,
+        workspace: &mut Workspace,
+        errors: &mut E,
+    ) -> Result<Option<Found>>
+        ensures found { IfOk result (λ o. IfSome o (λ f. IsAsked self.now.asked.now.kind f.look.kind)) }
+        ensures text { IfOk result (λ o. IfSome o (λ f. IfSome f.text (λ t. IsForm self.now.asked.now.pretty f.look.kind self.now.bytes.now t.items))) }
+        ensures none { IfOk result (λ o. o ≡ None → IsUnformatted self.now.asked.now self.now.bytes.now) }
+    {
+        let asked = self.asked;
+        let wanted = Wanted {
+            members: !asked.quiet,
+            pretty: asked.pretty,
+        };
+        let found = look_at(
+            asked.kind, asked.file, self.bytes, wanted, workspace, self.alloc,
         );
+        if let Some(found) = found {
+            return Ok(Some(found));
+        }
+        self.kind_by_value(errors)
     }
-    Ok(())
-}
 
-/// Puts the text where it belongs, if no member is lost unasked.
-fn finish<S: Files, W: Write, E: Write>(
-    found: Look,
-    asked: &Format<'_>,
-    bytes: &[u8],
-    text: &[u8],
-    alloc: Global,
-    store: &mut S,
-    writer: &mut W,
-    errors: &mut E,
-) -> Result<u8>
-    ensures status { IfOk result IsStatus }
-    ensures untouched { asked.now.check ≡ true → Keeps (W.contents writer.old) (W.contents writer.new) × (S.holds store.new ≡ S.holds store.old) }
-    ensures same { IfOk result (λ s. s ≡ 0 → asked.now.check ≡ true → text.now ≡ bytes.now) }
-    ensures written { IfOk result (λ s. s ≡ 0 → asked.now.check ≡ false → asked.now.output ≡ None → Appends (W.contents writer.old) (W.contents writer.new) text.now) }
-    ensures kept { IfOk result (λ s. s ≡ 0 → asked.now.check ≡ false → IsSome asked.now.output → asked.now.drop_unknown ≡ false → KeepsAll found.kind bytes.now) }
-    ensures refused { IfOk result (λ s. s ≡ 1 → WouldLose found.kind asked.now bytes.now ⊎ ((asked.now.check ≡ true) × (text.now ≢ bytes.now))) }
-{
-    let loses = would_lose(found.kind, asked, bytes, alloc, errors)?;
-    if loses {
-        return Ok(1);
+    /// The same by way of a value.
+    fn kind_by_value<E: Write>(&self, errors: &mut E) -> Result<Option<Found>>
+        ensures found { IfOk result (λ o. IfSome o (λ f. IsAsked self.now.asked.now.kind f.look.kind)) }
+        ensures text { IfOk result (λ o. IfSome o (λ f. f.text ≡ None)) }
+        ensures none { IfOk result (λ o. o ≡ None → IsUnformatted self.now.asked.now self.now.bytes.now) }
+    {
+        let asked = self.asked;
+        let wrong = is_wrong(asked.kind, asked.file, self.bytes, self.alloc, errors)?;
+        if wrong {
+            return Ok(None);
+        }
+        let value = Value::from_slice(self.alloc, self.bytes)?;
+        match kind_of(asked.kind, asked.file, &value) {
+            Some(kind) => Ok(Some(Found {
+                look: Look {
+                    kind,
+                    is_whole: false,
+                },
+                text: None,
+            })),
+            None => Ok(None),
+        }
     }
-    say_what_changes(found, asked, bytes, text, alloc, errors)?;
-    put(asked, bytes, text, alloc, store, writer, errors)
-}
 
-/// Whether members would be left out of a file unasked, which is said on standard error.
-fn would_lose<E: Write>(
-    kind: Kind,
-    asked: &Format<'_>,
-    bytes: &[u8],
-    alloc: Global,
-    errors: &mut E,
-) -> Result<bool>
-    ensures lost { IfOk result (λ b. b ≡ true → WouldLose kind asked.now bytes.now) }
-    ensures kept { IfOk result (λ b. b ≡ false → asked.now.check ≡ false → IsSome asked.now.output → asked.now.drop_unknown ≡ false → KeepsAll kind bytes.now) }
-{
-    let Some(output) = asked.output else {
-        return Ok(false);
-    };
-    if asked.check || asked.drop_unknown {
-        return Ok(false);
+    /// Formats a document of this kind.
+    fn format_as<S: Files, W: Write, E: Write>(
+        &self,
+        found: Found,
+        workspace: &mut Workspace,
+        store: &mut S,
+        writer: &mut W,
+        errors: &mut E,
+    ) -> Result<u8>
+        requires { IfSome found.text (λ t. IsForm self.now.asked.now.pretty found.look.kind self.now.bytes.now t.items) }
+        ensures status { IfOk result IsStatus }
+        ensures untouched { self.now.asked.now.check ≡ true → Keeps (W.contents writer.old) (W.contents writer.new) × (S.holds store.new ≡ S.holds store.old) }
+        ensures canonical { IfOk result (λ s. s ≡ 0 → self.now.asked.now.check ≡ true → Formats (Some found.look.kind) self.now.asked.now.pretty (Some self.now.bytes.now) (λ t. t ≡ self.now.bytes.now)) }
+        ensures written { IfOk result (λ s. s ≡ 0 → self.now.asked.now.check ≡ false → self.now.asked.now.output ≡ None → Formats (Some found.look.kind) self.now.asked.now.pretty (Some self.now.bytes.now) (Appends (W.contents writer.old) (W.contents writer.new))) }
+        ensures kept { IfOk result (λ s. s ≡ 0 → self.now.asked.now.check ≡ false → IsSome self.now.asked.now.output → self.now.asked.now.drop_unknown ≡ false → KeepsAll found.look.kind self.now.bytes.now) }
+        ensures refused { IfOk result (λ s. s ≡ 1 → IsUnformattedAs found.look.kind self.now.asked.now self.now.bytes.now) }
+    {
+        let Found { look, text } = found;
+        match self.canonical_form(look.kind, text, workspace) {
+            Ok(text) => self.finish(look, text.as_slice(), store, writer, errors),
+            Err(OciSpecError::SerDe(_)) => {
+                self.say_no_form(look.kind, errors)?;
+                Ok(1)
+            }
+            Err(error) => Err(error),
+        }
     }
-    let value = Value::from_slice(alloc, bytes)?;
-    let found = lost(kind, &value, bytes, alloc)?;
-    if found.errors.is_empty() {
-        return Ok(false);
+
+    /// The canonical form that was found out, or else by its own call.
+    fn canonical_form(
+        &self,
+        kind: Kind,
+        found: Option<Vec<u8>>,
+        workspace: &mut Workspace,
+    ) -> Result<Vec<u8>>
+        requires { IfSome found (λ t. IsForm self.now.asked.now.pretty kind self.now.bytes.now t.items) }
+        ensures ok { IfOk result (λ v. Formats (Some kind) self.now.asked.now.pretty (Some self.now.bytes.now) (λ t. t ≡ v.items)) }
+        ensures none { IfErr result (λ e. IsSerDe e → HasNoForm kind self.now.bytes.now) }
+    {
+        match found {
+            Some(text) => Ok(text),
+            None => canonical_text(kind, self.asked.pretty, self.bytes, workspace, self.alloc),
+        }
     }
-    report_findings(asked.file, &found, alloc, errors)?;
-    complain_of(output, &NOT_WRITTEN, alloc, errors);
-    Ok(true)
+
+    /// Says why there is no canonical form.
+    fn say_no_form<E: Write>(&self, kind: Kind, errors: &mut E) -> Result<()> {
+        if !is_wrong(Some(kind), self.asked.file, self.bytes, self.alloc, errors)? {
+            complain(
+                "ciderglen: there is no canonical form: a detail nests too deep\n",
+                errors,
+            );
+        }
+        Ok(())
+    }
+
+    /// Puts the text where it belongs, if no member is lost unasked.
+    fn finish<S: Files, W: Write, E: Write>(
+        &self,
+        found: Look,
+        text: &[u8],
+        store: &mut S,
+        writer: &mut W,
+        errors: &mut E,
+    ) -> Result<u8>
+        ensures status { IfOk result IsStatus }
+        ensures untouched { self.now.asked.now.check ≡ true → Keeps (W.contents writer.old) (W.contents writer.new) × (S.holds store.new ≡ S.holds store.old) }
+        ensures same { IfOk result (λ s. s ≡ 0 → self.now.asked.now.check ≡ true → text.now ≡ self.now.bytes.now) }
+        ensures written { IfOk result (λ s. s ≡ 0 → self.now.asked.now.check ≡ false → self.now.asked.now.output ≡ None → Appends (W.contents writer.old) (W.contents writer.new) text.now) }
+        ensures kept { IfOk result (λ s. s ≡ 0 → self.now.asked.now.check ≡ false → IsSome self.now.asked.now.output → self.now.asked.now.drop_unknown ≡ false → KeepsAll found.kind self.now.bytes.now) }
+        ensures refused { IfOk result (λ s. s ≡ 1 → WouldLose found.kind self.now.asked.now self.now.bytes.now ⊎ ((self.now.asked.now.check ≡ true) × (text.now ≢ self.now.bytes.now))) }
+    {
+        let loses = self.would_lose(found.kind, errors)?;
+        if loses {
+            return Ok(1);
+        }
+        self.say_what_changes(found, text, errors)?;
+        self.put(text, store, writer, errors)
+    }
+
+    /// Whether members would be left out of a file unasked, which is said on standard error.
+    fn would_lose<E: Write>(&self, kind: Kind, errors: &mut E) -> Result<bool>
+        ensures lost { IfOk result (λ b. b ≡ true → WouldLose kind self.now.asked.now self.now.bytes.now) }
+        ensures kept { IfOk result (λ b. b ≡ false → self.now.asked.now.check ≡ false → IsSome self.now.asked.now.output → self.now.asked.now.drop_unknown ≡ false → KeepsAll kind self.now.bytes.now) }
+    {
+        let Some(output) = self.asked.output else {
+            return Ok(false);
+        };
+        if self.asked.check || self.asked.drop_unknown {
+            return Ok(false);
+        }
+        let value = Value::from_slice(self.alloc, self.bytes)?;
+        let found = lost(kind, &value, self.bytes, self.alloc)?;
+        if found.errors.is_empty() {
+            return Ok(false);
+        }
+        report_findings(self.asked.file, &found, self.alloc, errors)?;
+        complain_of(output, &NOT_WRITTEN, self.alloc, errors);
+        Ok(true)
+    }
+
+    /// Says which members are left out or repeated, and the digests before and after, where that is asked for.
+    fn say_what_changes<E: Write>(&self, found: Look, text: &[u8], errors: &mut E) -> Result<()> {
+        if !self.asked.quiet && !found.is_whole {
+            say_left_out(found.kind, self.bytes, text, self.alloc, errors)?;
+        }
+        if self.asked.verbose {
+            self.say_digest("before: ", self.bytes, errors)?;
+            self.say_digest("after:  ", text, errors)?;
+        }
+        Ok(())
+    }
+
+    /// Says the digest of the file before or after.
+    fn say_digest<E: Write>(&self, when: &str, bytes: &[u8], errors: &mut E) -> Result<()> {
+        complain(when, errors);
+        let line = digest_line(Algorithm::Sha256, self.asked.file, bytes, self.alloc)?;
+        complain(line.as_str(), errors);
+        Ok(())
+    }
+
+    /// Writes the text where it belongs, or compares it.
+    fn put<S: Files, W: Write, E: Write>(
+        &self,
+        text: &[u8],
+        store: &mut S,
+        writer: &mut W,
+        errors: &mut E,
+    ) -> Result<u8>
+        ensures status { IfOk result IsStatus }
+        ensures untouched { self.now.asked.now.check ≡ true → Keeps (W.contents writer.old) (W.contents writer.new) × (S.holds store.new ≡ S.holds store.old) }
+        ensures same { IfOk result (λ s. s ≡ 0 → self.now.asked.now.check ≡ true → text.now ≡ self.now.bytes.now) }
+        ensures written { IfOk result (λ s. s ≡ 0 → self.now.asked.now.check ≡ false → self.now.asked.now.output ≡ None → Appends (W.contents writer.old) (W.contents writer.new) (text.now)) }
+        ensures differs { IfOk result (λ s. s ≡ 1 → (self.now.asked.now.check ≡ true) × (text.now ≢ self.now.bytes.now)) }
+    {
+        if self.asked.check {
+            return Ok(if text == self.bytes { 0 } else { 1 });
+        }
+        let Some(output) = self.asked.output else {
+            write_text(text, writer)?;
+            return Ok(0);
+        };
+        match store.replace(self.alloc, output, text) {
+            Ok(()) => Ok(0),
+            Err(fault) => {
+                complain_of(output, &fault, self.alloc, errors);
+                Ok(3)
+            }
+        }
+    }
 }
 
 /// The members that the canonical form lacks. Fails if out of memory, and for 4 GiB or more.
@@ -321,75 +390,4 @@ fn lost(kind: Kind, before: &Value, bytes: &[u8], alloc: Global) -> Result<Repor
         Err(Error::OutOfMemory) => Err(OciSpecError::Memory),
         Err(fault) => Err(OciSpecError::Other(format!(in alloc; "{fault}")?)),
     }
-}
-
-/// Says which members are left out or repeated, and the digests before and after, where that is asked for.
-fn say_what_changes<E: Write>(
-    found: Look,
-    asked: &Format<'_>,
-    bytes: &[u8],
-    text: &[u8],
-    alloc: Global,
-    errors: &mut E,
-) -> Result<()> {
-    if !asked.quiet && !found.is_whole {
-        say_left_out(found.kind, bytes, text, alloc, errors)?;
-    }
-    if asked.verbose {
-        say_digests(asked.file, bytes, text, alloc, errors)?;
-    }
-    Ok(())
-}
-
-/// Writes the text where it belongs, or compares it.
-fn put<S: Files, W: Write, E: Write>(
-    asked: &Format<'_>,
-    bytes: &[u8],
-    text: &[u8],
-    alloc: Global,
-    store: &mut S,
-    writer: &mut W,
-    errors: &mut E,
-) -> Result<u8>
-    ensures status { IfOk result IsStatus }
-    ensures untouched { asked.now.check ≡ true → Keeps (W.contents writer.old) (W.contents writer.new) × (S.holds store.new ≡ S.holds store.old) }
-    ensures same { IfOk result (λ s. s ≡ 0 → asked.now.check ≡ true → text.now ≡ bytes.now) }
-    ensures written { IfOk result (λ s. s ≡ 0 → asked.now.check ≡ false → asked.now.output ≡ None → Appends (W.contents writer.old) (W.contents writer.new) (text.now)) }
-    ensures differs { IfOk result (λ s. s ≡ 1 → (asked.now.check ≡ true) × (text.now ≢ bytes.now)) }
-{
-    if asked.check {
-        return Ok(if text == bytes { 0 } else { 1 });
-    }
-    let Some(output) = asked.output else {
-        write_text(text, writer)?;
-        return Ok(0);
-    };
-    match store.replace(alloc, output, text) {
-        Ok(()) => Ok(0),
-        Err(fault) => {
-            complain_of(output, &fault, alloc, errors);
-            Ok(3)
-        }
-    }
-}
-
-/// Says the digests of a file before and after.
-fn say_digests<E: Write>(
-    name: &str,
-    before: &[u8],
-    after: &[u8],
-    alloc: Global,
-    errors: &mut E,
-) -> Result<()> {
-    complain("before: ", errors);
-    complain(
-        digest_line(Algorithm::Sha256, name, before, alloc)?.as_str(),
-        errors,
-    );
-    complain("after:  ", errors);
-    complain(
-        digest_line(Algorithm::Sha256, name, after, alloc)?.as_str(),
-        errors,
-    );
-    Ok(())
 }

@@ -17,7 +17,7 @@ use oci_base::{Result, line_of};
 use oci_diff::{Change, Difference, differences};
 use oci_findings::inspect::{Reading, faulty, read_value};
 use oci_json::write_text;
-use oci_schema::normalize_value;
+use oci_schema::by_value::normalize_value;
 use oci_schemas::{Kind, OciRecords};
 use serde_json::Value;
 use std::alloc::{AllocError, Global};

@@ -1,4 +1,7 @@
 //! What `fmt` says of the members that are not in the canonical form.
+ghost use Rattle.std.specs.Prelude.{◌≡◌, ◌++◌, ℕ, List, OnOk, string_bytes};
+ghost use Rattle.oci_base.specs.Escaped.{IsLine};
+
 use crate::texts::complain;
 use oci_base::{Result, line_of};
 use oci_findings::repeated::repeated_if_any;
@@ -86,7 +89,9 @@ fn push_dropped(
     place: &str,
     lines: &mut String,
     alloc: Global,
-) -> std::result::Result<(), AllocError> {
+) -> std::result::Result<(), AllocError>
+    ensures { OnOk result ((line : List ℕ) × IsLine line × (string_bytes lines.new ≡ string_bytes lines.old ++ line)) }
+{
     let text = match other {
         Some(name) => format!(in alloc; "renamed: {place} to {name}")?,
         None => format!(in alloc; "dropped: {place}")?,
@@ -94,7 +99,10 @@ fn push_dropped(
     push_line(text.as_str(), lines, alloc)
 }
 
-fn push_line(text: &str, lines: &mut String, alloc: Global) -> std::result::Result<(), AllocError> {
+/// Adds the line of a text.
+fn push_line(text: &str, lines: &mut String, alloc: Global) -> std::result::Result<(), AllocError>
+    ensures { OnOk result ((line : List ℕ) × IsLine line × (string_bytes lines.new ≡ string_bytes lines.old ++ line)) }
+{
     let line = line_of(text, alloc)?;
     lines.push_str(line.as_str())
 }

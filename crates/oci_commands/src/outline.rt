@@ -66,26 +66,25 @@ fn tree_of_bytes<S: Files, W: Write, E: Write>(
     }
     let value = Value::from_slice(alloc, bytes)?;
     match kind_of(None, asked.file, &value) {
-        Some(kind) => tree_of_value(asked, kind, &value, alloc, store, writer, errors),
+        Some(kind) if has_tree(kind) => tree_of_value(asked, kind, &value, alloc, store, writer),
+        Some(kind) => {
+            say_no_tree(asked.file, kind, alloc, errors)?;
+            Ok(1)
+        }
         None => Ok(1),
     }
 }
 
-fn tree_of_value<S: Files, W: Write, E: Write>(
+fn tree_of_value<S: Files, W: Write>(
     asked: &Tree<'_>,
     kind: Kind,
     value: &Value,
     alloc: Global,
     store: &mut S,
     writer: &mut W,
-    errors: &mut E,
 ) -> Result<u8>
     ensures { IfOk result IsStatus }
 {
-    if !has_tree(kind) {
-        say_no_tree(asked.file, kind, alloc, errors)?;
-        return Ok(1);
-    }
     let mut text = heading(asked.file, kind, alloc)?;
     let missing = draw(asked.layout, value, alloc, store, &mut text)?;
     write_text(text.as_bytes(), writer)?;

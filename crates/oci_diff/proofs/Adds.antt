@@ -13,7 +13,8 @@ use Rattle.oci_diff.specs.Differs.{HoldsAt, StandAt, AddsIf, LacksMember, IsAlon
 use Rattle.oci_diff.specs.Same.{AreSame}
 use Rattle.oci_diff.specs.declared.aligned.Step.{Step}
 use Rattle.oci_diff.specs.declared.aligned.Step.TheVariants.{First, Second}
-use Rattle.oci_diff.proofs.Ways.{AreAmong, member_step, item_step, has_member}
+use Rattle.oci_schema.proofs.Ways.{has as has_member}
+use Rattle.oci_diff.proofs.Ways.{AreAmong, member_step, item_step}
 
 -- one after the other
 pub in_turn : (F : Data → Data → Type 0) (xs ys zs : List Difference) → AddsIf F xs ys → AddsIf F ys zs → AddsIf F xs zs

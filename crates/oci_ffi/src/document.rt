@@ -57,7 +57,7 @@ fn pretty(
 {
     *output_len = 0;
     match pretty_text(schema, alloc, document) {
-        Ok(text) => put(text.as_bytes(), buffer, output_len),
+        Ok(text) => put(text.as_slice(), buffer, output_len),
         Err(error) => status_of(&error),
     }
 }

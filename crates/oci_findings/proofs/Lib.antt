@@ -2,6 +2,7 @@ pub mod Allowed
 pub mod Counted
 pub mod Each
 pub mod Facts
+pub mod Forms
 pub mod Marks
 pub mod Told
 mod Unlisted

@@ -2,6 +2,7 @@ pub mod Checks
 pub mod Contents
 pub mod Files
 pub mod Findings
+pub mod Forms
 pub mod Kinds
 pub mod Lines
 pub mod Reports

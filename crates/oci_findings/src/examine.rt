@@ -56,61 +56,103 @@ fn examine_read<'a, B: RuleBooks>(
 {
     match read_value(asked.kind, name, bytes, alloc)? {
         Reading::Value(kind, value) => {
-            examine_value(books, asked, kind, name, &value, bytes, alloc)
+            let examination = Examination {
+                books,
+                asked,
+                kind,
+                alloc,
+            };
+            examination.report(name, &value, bytes)
         }
         Reading::Fault(fault) => faulty(fault, alloc),
     }
 }
 
-/// The report on a value that was read from these bytes.
-fn examine_value<'a, B: RuleBooks>(
-    books: &B,
-    asked: &Check<'a>,
+/// What values of a kind are examined for.
+struct Examination<'e, 'a, B> {
+    books: &'e B,
+    asked: &'e Check<'a>,
     kind: Kind,
-    name: &str,
-    value: &Value,
-    bytes: &[u8],
     alloc: Global,
-) -> Result<Report<'a>, AllocError>
-    ensures { IfOk result (λ r. (r.errors.items ≡ []) ↔ IsRightValue (B.rules books.now) asked.now kind (view value.now)) }
-{
-    let mut warnings = warnings_of(asked.unknown, kind, value, alloc)?;
-    let errors = errors_of(books, asked, kind, name, value, &mut warnings, alloc)?;
-    warn_of_repeated(bytes, &mut warnings, alloc)?;
-    Report::new(errors, warnings, bytes, alloc)
 }
 
-/// What is wrong with a value. Broken rules that do not bind are warned of.
-fn errors_of<'a, B: RuleBooks>(
-    books: &B,
-    asked: &Check<'a>,
-    kind: Kind,
-    name: &str,
-    value: &Value,
-    warnings: &mut Vec<Finding<'a>>,
-    alloc: Global,
-) -> Result<Vec<Finding<'a>>, AllocError>
-    ensures { IfOk result (λ v. (v.items ≡ []) ↔ IsRightValue (B.rules books.now) asked.now kind (view value.now)) }
-{
-    let of_schema = schema_errors(kind, name, value, alloc)?;
-    let of_asked = errors_asked(books, asked, kind, value, warnings, alloc)?;
-    joined(of_schema, of_asked)
+impl<'e, 'a, B> Drop for Examination<'e, 'a, B> {
+    fn drop(self) {
+        let Examination {
+            books,
+            asked,
+            kind,
+            alloc,
+        } = self;
+    }
 }
 
-/// What is wrong with a value beside its schema.
-fn errors_asked<'a, B: RuleBooks>(
-    books: &B,
-    asked: &Check<'a>,
-    kind: Kind,
-    value: &Value,
-    warnings: &mut Vec<Finding<'a>>,
-    alloc: Global,
-) -> Result<Vec<Finding<'a>>, AllocError>
-    ensures { IfOk result (λ v. (v.items ≡ []) ↔ ((counted (B.rules books.now) asked.now kind (view value.now) ≡ []) × (denied asked.now.unknown kind (view value.now) ≡ []))) }
-{
-    let of_rules = rule_findings(books, asked, kind, value, warnings, alloc)?;
-    let of_members = denied_findings(asked.unknown, kind, value, alloc)?;
-    joined(of_rules, of_members)
+impl<'e, 'a, B: RuleBooks> Examination<'e, 'a, B> {
+    /// The report on a value that was read from these bytes.
+    fn report(&self, name: &str, value: &Value, bytes: &[u8]) -> Result<Report<'a>, AllocError>
+        ensures { IfOk result (λ r. (r.errors.items ≡ []) ↔ IsRightValue (B.rules self.now.books.now) self.now.asked.now self.now.kind (view value.now)) }
+    {
+        let mut warnings = warnings_of(self.asked.unknown, self.kind, value, self.alloc)?;
+        let errors = self.errors(name, value, &mut warnings)?;
+        warn_of_repeated(bytes, &mut warnings, self.alloc)?;
+        Report::new(errors, warnings, bytes, self.alloc)
+    }
+
+    /// What is wrong with a value. Broken rules that do not bind are warned of.
+    fn errors(
+        &self,
+        name: &str,
+        value: &Value,
+        warnings: &mut Vec<Finding<'a>>,
+    ) -> Result<Vec<Finding<'a>>, AllocError>
+        ensures { IfOk result (λ v. (v.items ≡ []) ↔ IsRightValue (B.rules self.now.books.now) self.now.asked.now self.now.kind (view value.now)) }
+    {
+        let of_schema = schema_errors(self.kind, name, value, self.alloc)?;
+        let of_asked = self.errors_asked(value, warnings)?;
+        joined(of_schema, of_asked)
+    }
+
+    /// What is wrong with a value beside its schema.
+    fn errors_asked(
+        &self,
+        value: &Value,
+        warnings: &mut Vec<Finding<'a>>,
+    ) -> Result<Vec<Finding<'a>>, AllocError>
+        ensures { IfOk result (λ v. (v.items ≡ []) ↔ ((counted (B.rules self.now.books.now) self.now.asked.now self.now.kind (view value.now) ≡ []) × (denied self.now.asked.now.unknown self.now.kind (view value.now) ≡ []))) }
+    {
+        let of_rules = self.rule_findings(value, warnings)?;
+        let of_members = denied_findings(self.asked.unknown, self.kind, value, self.alloc)?;
+        joined(of_rules, of_members)
+    }
+
+    /// What is wrong with a value by the rules that are asked for.
+    fn rule_findings(
+        &self,
+        value: &Value,
+        warnings: &mut Vec<Finding<'a>>,
+    ) -> Result<Vec<Finding<'a>>, AllocError>
+        ensures { IfOk result (λ v. map breach v.items ≡ map Some (counted (B.rules self.now.books.now) self.now.asked.now self.now.kind (view value.now))) }
+    {
+        let listed = self.asked_books()?;
+        let platform = platform_for(self.asked.platform, value);
+        findings_by(
+            &listed,
+            self.asked.level,
+            platform,
+            value,
+            warnings,
+            self.alloc,
+        )
+    }
+
+    /// The books that are asked for: those of the kind, and the policy's.
+    fn asked_books(&self) -> Result<Vec<&'a [Rule<'a>]>, AllocError>
+        ensures { IfOk result (λ v. flat_map (λ b. map rule_of b.now) v.items ≡ asked_rules (B.rules self.now.books.now) self.now.asked.now self.now.kind) }
+    {
+        let mut found = books_if(self.books, self.asked.rules, self.kind, self.alloc)?;
+        found.push(self.asked.policy)?;
+        Ok(found)
+    }
 }
 
 /// Two lists, one behind the other.
@@ -122,22 +164,6 @@ fn joined<'a>(
 {
     first.append(&mut second)?;
     Ok(first)
-}
-
-/// What is wrong with a value by the rules that are asked for.
-fn rule_findings<'a, B: RuleBooks>(
-    books: &B,
-    asked: &Check<'a>,
-    kind: Kind,
-    value: &Value,
-    warnings: &mut Vec<Finding<'a>>,
-    alloc: Global,
-) -> Result<Vec<Finding<'a>>, AllocError>
-    ensures { IfOk result (λ v. map breach v.items ≡ map Some (counted (B.rules books.now) asked.now kind (view value.now))) }
-{
-    let listed = asked_books(books, asked, kind, alloc)?;
-    let platform = platform_for(asked.platform, value);
-    findings_by(&listed, asked.level, platform, value, warnings, alloc)
 }
 
 /// What is wrong with a value by the rules of books, of the levels that count.
@@ -156,20 +182,6 @@ fn findings_by<'a>(
         let listed = broken(book, platform, value, alloc)?;
         add_counted(&listed, level, value, &mut found, warnings, alloc)?;
     }
-    Ok(found)
-}
-
-/// The books that are asked for: those of the kind, and the policy's.
-fn asked_books<'a, B: RuleBooks>(
-    books: &B,
-    asked: &Check<'a>,
-    kind: Kind,
-    alloc: Global,
-) -> Result<Vec<&'a [Rule<'a>]>, AllocError>
-    ensures { IfOk result (λ v. flat_map (λ b. map rule_of b.now) v.items ≡ asked_rules (B.rules books.now) asked.now kind) }
-{
-    let mut found = books_if(books, asked.rules, kind, alloc)?;
-    found.push(asked.policy)?;
     Ok(found)
 }
 

@@ -1,15 +1,20 @@
-//! What is found out about a document straight from its bytes.
-ghost use Rattle.std.specs.Prelude.{◌≡◌, List, [], false, IfSome, IsTrue};
+//! What is found out about a document straight from a tape of its text, which is read once.
+ghost use Rattle.std.specs.Prelude.{◌≡◌, List, [], true, false, IfSome, IsTrue};
+ghost use Rattle.serde_json.specs.Data.{Data};
+ghost use Rattle.oci_json.specs.Engines.{ReadsAs};
+ghost use Rattle.oci_json_tape.specs.Elements.{BeginsWithData};
 ghost use Rattle.oci_schemas.specs.declared.kind.Kind.{Kind as kind_type};
 ghost use Rattle.oci_rules.specs.Rules.{Rule as rule_data};
 ghost use Rattle.oci_findings.specs.Checks.{IsAsked, IsOfKind, IsRight};
+ghost use Rattle.oci_findings.specs.Forms.{IsForm};
 ghost use Rattle.oci_findings.specs.declared.asked.Unknown.TheVariants.{Allow};
 
 use crate::asked::{Check, Unknown};
 use crate::inspect::kind_of;
 use crate::keeps::keeps_all;
 use json::Tape;
-use oci_schema::bytes::{Workspace, is_valid_bytes};
+use oci_json_tape::open_strict;
+use oci_schema::bytes::{Workspace, is_accepted_tape, normal_text_of, pretty_text_of};
 use oci_schemas::{Kind, OciRecords};
 use simdutf8::compat::from_utf8;
 use std::alloc::Global;
@@ -31,13 +36,25 @@ pub fn is_right(
     if !is_schema_alone(asked) {
         return false;
     }
-    match look_at(asked.kind, name, bytes, false, workspace, alloc) {
-        Some(found) => is_document(found.kind, bytes, workspace, alloc),
+    let Some(tape) = opened(bytes, workspace, alloc) else {
+        return false;
+    };
+    match kind_of(asked.kind, name, &tape.root()) {
+        Some(kind) => is_document(kind, bytes, &tape, alloc),
         None => false,
     }
 }
 
-/// What is found out about a document before it is read by a schema.
+/// What is asked of a document beside its kind.
+#[derive(Clone, Copy)]
+pub struct Wanted {
+    /// Whether its canonical form has all its members.
+    pub members: bool,
+    /// Whether that form is indented.
+    pub pretty: bool,
+}
+
+/// What a document is found out to be.
 #[derive(Clone, Copy)]
 pub struct Look {
     /// Its kind.
@@ -46,28 +63,61 @@ pub struct Look {
     pub is_whole: bool,
 }
 
-/// The kind that is asked for, or that a document is found out to be by its file name and members, and whether the canonical form has
-/// all its members, if that is asked. `None` if a name stands twice in an object, or if the kind was not found out.
+/// What is found out about a document from a tape of its text.
+#[derive(Drop)]
+pub struct Found {
+    /// What it is.
+    pub look: Look,
+    /// Its canonical form, if that was found out.
+    pub text: Option<Vec<u8>>,
+}
+
+/// The kind that is asked for, or that a document is found out to be by its file name and members, whether the canonical form has all
+/// its members, if that is wanted, and that text. `None` if a name stands twice in an object, or if the kind was not found out.
 pub fn look_at(
     asked: Option<Kind>,
     name: &str,
     bytes: &[u8],
-    asks_for_members: bool,
+    wanted: Wanted,
     workspace: &mut Workspace,
     alloc: Global,
-) -> Option<Look>
-    ensures { IfSome result (λ l. IsAsked asked l.kind) }
+) -> Option<Found>
+    ensures kind { IfSome result (λ f. IsAsked asked f.look.kind) }
+    ensures text { IfSome result (λ f. IfSome f.text (λ t. IsForm wanted.pretty f.look.kind bytes.now t.items)) }
 {
-    let Ok(text) = from_utf8(bytes) else {
-        return None;
-    };
-    let Ok(tape) = Tape::parse_strict(text, workspace.scratch(), Vec::new(alloc)) else {
-        return None;
-    };
+    let tape = opened(bytes, workspace, alloc)?;
     let root = tape.root();
     let kind = kind_of(asked, name, &root)?;
-    let is_whole = asks_for_members && keeps_all(kind.schema(), &root, DEPTH);
-    Some(Look { kind, is_whole })
+    let is_whole = wanted.members && keeps_all(kind.schema(), &root, DEPTH);
+    let text = form(kind, bytes, &tape, wanted.pretty, alloc);
+    Some(Found {
+        look: Look { kind, is_whole },
+        text,
+    })
+}
+
+/// The canonical form of the document that the tape of the bytes holds; `None` if that was not found out.
+fn form(kind: Kind, bytes: &[u8], tape: &Tape<'_>, pretty: bool, alloc: Global) -> Option<Vec<u8>>
+    ensures { IfSome result (λ t. (d : Data) → ReadsAs bytes.now d → BeginsWithData tape.now d → IsForm pretty kind bytes.now t.items) }
+{
+    if pretty {
+        pretty_form(kind, bytes, tape, alloc)
+    } else {
+        compact_form(kind, bytes, tape, alloc)
+    }
+}
+
+/// The text as a tape, if it is JSON in which no object has a name twice.
+fn opened<'a>(bytes: &'a [u8], workspace: &'a mut Workspace, alloc: Global) -> Option<Tape<'a>>
+    ensures { IfSome result (λ tape. (d : Data) × ReadsAs bytes.now d × BeginsWithData tape d) }
+{
+    match from_utf8(bytes) {
+        Ok(text) => match open_strict(alloc, text, workspace.scratch()) {
+            Ok(found) => found,
+            Err(_) => None,
+        },
+        Err(_) => None,
+    }
 }
 
 /// Whether nothing but the schema is checked.
@@ -82,11 +132,32 @@ fn is_schema_alone(asked: &Check<'_>) -> bool
     }
 }
 
-fn is_document(kind: Kind, bytes: &[u8], workspace: &mut Workspace, alloc: Global) -> bool
-    ensures { IsTrue result → IsOfKind kind bytes.now }
+/// Whether the tape of the bytes holds a document of the kind; `false` if that was not found out.
+fn is_document(kind: Kind, bytes: &[u8], tape: &Tape<'_>, alloc: Global) -> bool
+    ensures { IsTrue result → (d : Data) → ReadsAs bytes.now d → BeginsWithData tape.now d → IsOfKind kind bytes.now }
 {
-    match is_valid_bytes(&OciRecords, kind.schema(), alloc, bytes, workspace) {
-        Ok(valid) => valid,
-        Err(_) => false,
-    }
+    let Ok(accepted) = is_accepted_tape(&OciRecords, kind.schema(), alloc, tape) else {
+        return false;
+    };
+    accepted
+}
+
+/// The compact text of the canonical form of the document that the tape of the bytes holds; `None` if that was not found out.
+fn compact_form(kind: Kind, bytes: &[u8], tape: &Tape<'_>, alloc: Global) -> Option<Vec<u8>>
+    ensures { IfSome result (λ t. (d : Data) → ReadsAs bytes.now d → BeginsWithData tape.now d → IsForm false kind bytes.now t.items) }
+{
+    let Ok(text) = normal_text_of(&OciRecords, kind.schema(), alloc, tape, bytes.len()) else {
+        return None;
+    };
+    text
+}
+
+/// The same as pretty text.
+fn pretty_form(kind: Kind, bytes: &[u8], tape: &Tape<'_>, alloc: Global) -> Option<Vec<u8>>
+    ensures { IfSome result (λ t. (d : Data) → ReadsAs bytes.now d → BeginsWithData tape.now d → IsForm true kind bytes.now t.items) }
+{
+    let Ok(text) = pretty_text_of(&OciRecords, kind.schema(), alloc, tape) else {
+        return None;
+    };
+    text
 }

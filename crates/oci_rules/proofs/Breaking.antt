@@ -13,67 +13,22 @@ use Rattle.oci_rules.specs.Parts.{present}
 use Rattle.oci_rules.specs.Tests.{Passes}
 use Rattle.oci_rules.specs.Breaks.{Told, Stands, Shows, Breaks, KeepsAll}
 use Rattle.oci_rules.specs.Decided.{holds}
-use Rattle.oci_rules.specs.Listed.{told_by, of_part, of_each, of_items, of_each_member, of_members, of_each_name, of_names, when, told_at, told_of, all_broken}
+use Rattle.oci_rules.specs.Listed.{told_by, of_each_name, of_names, when, told_at, told_of, all_broken}
 use Rattle.oci_rules.specs.Tables.{told}
 use Rattle.oci_rules.specs.declared.rule.Broken.{Broken}
 use Rattle.oci_rules.proofs.Deciding.{holds_tells}
-use Rattle.oci_rules.proofs.Found.{nothing_in, no_some, first_in, one_in, none_if, none_of, in_both, in_when}
+use Rattle.oci_schema.specs.EachPart.{of_each_member, of_members}
+use Rattle.oci_schema.proofs.EachPart.{nothing_in, no_some, one_in, in_both, back_members, Claim as ClaimOf, Tells, InEach, part_in, items_in}
+use Rattle.oci_rules.proofs.Found.{first_in, none_if, none_of, in_when}
 use Rattle.oci_rules.proofs.Telling.{Fails, law}
 
 abbrev Listing : Type 0
 Listing = List ℕ → Data → List Told
 
--- what is so of a part, from its pointer and itself
 abbrev Claim : Type 1
-Claim = List ℕ → Data → Told → Type 0
+Claim = ClaimOf Told
 
--- what is listed is what is so
-abbrev Lists : Listing → Claim → Type 0
-Lists f C = (at : List ℕ) (d : Data) (x : Told) → Contains (f at d) x ↔ C at d x
-
-back_data : (c d : Data) → Some d ≡ Some c → c ≡ d
-back_data c d e = let s : d ≡ c = cc in sym s
-
-back_items : (es ds : Items) → Some ds ≡ Some es → es ≡ ds
-back_items es ds e = let s : ds ≡ es = cc in sym s
-
-back_members : (ns ms : Members) → Some ms ≡ Some ns → ns ≡ ms
-back_members ns ms e = let s : ms ≡ ns = cc in sym s
-
--- ---- each part
-
-part_in : (f : Listing) (C : Claim) → Lists f C → (at : List ℕ) (o : Option Data) (x : Told) → Contains (of_part f at o) x ↔ ((c : Data) × (o ≡ Some c) × C at c x)
-part_in f C is at None x = ((λ h. nothing_in x h), (λ h. let (c, e, so) = h in no_some c e))
-part_in f C is at (Some d) x = ((λ h. (d, refl, (is at d x).0 h)), (λ h. back h))
-  where
-    back : (c : Data) × (Some d ≡ Some c) × C at c x → Contains (f at d) x
-    back h =
-        let (c, e, so) = h in
-        let same : c ≡ d = back_data c d e in
-        (is at d x).1 (subst (λ b. C at b x) same so)
-
-abbrev InEach : Claim → List ℕ → ℕ → Items → Told → Type 0
-InEach C at i ds x = (j : ℕ) × (c : Data) × (get_item j ds ≡ Some c) × C (under_index at (i + j)) c x
-
-each_in : (f : Listing) (C : Claim) → Lists f C → (at : List ℕ) (i : ℕ) (ds : Items) (x : Told) → Contains (of_each f at i ds) x ↔ InEach C at i ds x
-each_in f C is at i no_items x = ((λ h. nothing_in x h), (λ h. let (j, c, e, so) = h in no_some c e))
-each_in f C is at i (item d ds) x =
-    let both = in_both (f (under_index at i) d) (of_each f at (i + 1) ds) x (C (under_index at i) d x) (InEach C at (i + 1) ds x) (is (under_index at i) d x) (each_in f C is at (i + 1) ds x) in
-    ((λ h. joined (both.0 h)), (λ h. both.1 (split h)))
-  where
-    joined : C (under_index at i) d x ⊎ InEach C at (i + 1) ds x → InEach C at i (item d ds) x
-    joined (inl h) = let z : i ≡ i + 0 = omega arith in (0, d, refl, subst (λ n. C (under_index at n) d x) z h)
-    joined (inr h) =
-        let (j, c, found, so) = h in
-        let z : (i + 1) + j ≡ i + suc j = omega arith in
-        (suc j, c, found, subst (λ n. C (under_index at n) c x) z so)
-
-    split : InEach C at i (item d ds) x → C (under_index at i) d x ⊎ InEach C at (i + 1) ds x
-    split (zero, c, found, so) =
-        let same : c ≡ d = back_data c d found in
-        let z : i + 0 ≡ i = omega arith in
-        inl (subst (λ n. C (under_index at n) d x) z (subst (λ b. C (under_index at (i + 0)) b x) same so))
-    split (suc j, c, found, so) = let z : i + suc j ≡ (i + 1) + j = omega arith in inr (j, c, found, subst (λ n. C (under_index at n) c x) z so)
+-- ---- each member, by its value or by its name
 
 abbrev InMembers : (List ℕ → Data → Told → Type 0) → Members → Told → Type 0
 InMembers C ms x = (name : List ℕ) × (c : Data) × Have ms name c × C name c x
@@ -101,16 +56,6 @@ members_in g C all none more is (member k d ms) x =
 abbrev pub SoAt : Data → Place → Claim → Claim
 SoAt root p C at d x = (there : List ℕ) × (part : Data) × Stands root p at d there part × C there part x
 
-items_in : (f : Listing) (C : Claim) → Lists f C → (at : List ℕ) (o : Option Items) (x : Told) → Contains (of_items f at o) x ↔ ((ds : Items) × (o ≡ Some ds) × InEach C at 0 ds x)
-items_in f C is at None x = ((λ h. nothing_in x h), (λ h. let (ds, e, so) = h in no_some ds e))
-items_in f C is at (Some ds) x = ((λ h. (ds, refl, (each_in f C is at 0 ds x).0 h)), (λ h. back h))
-  where
-    back : (es : Items) × (Some ds ≡ Some es) × InEach C at 0 es x → Contains (of_each f at 0 ds) x
-    back h =
-        let (es, e, so) = h in
-        let same : es ≡ ds = back_items es ds e in
-        (each_in f C is at 0 ds x).1 (subst (λ (z : Items). InEach C at 0 z x) same so)
-
 object_in : (g : List ℕ → Data → List Told) (C : List ℕ → Data → Told → Type 0) (all : Members → List Told) (of : Option Members → List Told) → of None ≡ []
     → ((ms : Members) → of (Some ms) ≡ all ms) → ((ms : Members) (x : Told) → Contains (all ms) x ↔ InMembers C ms x) → (o : Option Members) (x : Told)
     → Contains (of o) x ↔ ((ms : Members) × (o ≡ Some ms) × InMembers C ms x)
@@ -125,9 +70,9 @@ object_in g C all of none some is (Some ms) x =
         (is ms x).1 (subst (λ (z : Members). InMembers C z x) same so)
 
 abbrev Below : Data → Place → Listing → Claim → Type 0
-Below root p f C = Lists (told_at root p f) (SoAt root p C)
+Below root p f C = Tells (told_at root p f) (SoAt root p C)
 
-here_in : (root : Data) (f : Listing) (C : Claim) → Lists f C → Below root here f C
+here_in : (root : Data) (f : Listing) (C : Claim) → Tells f C → Below root here f C
 here_in root f C is at d x = ((λ h. (at, d, (refl, refl), (is at d x).0 h)), (λ h. back h))
   where
     back : SoAt root here C at d x → Contains (f at d) x
@@ -221,7 +166,7 @@ when_in root c p f C below at d x =
     back : SoAt root (if_so c p) C at d x → (holds root c d ≡ true) × SoAt root p C at d x
     back h = let (shown, part, way, so) = h in ((holds_tells root c d).1 way.0, (shown, part, way.1, so))
 
-place_in : (root : Data) (p : Place) (f : Listing) (C : Claim) → Lists f C → Below root p f C
+place_in : (root : Data) (p : Place) (f : Listing) (C : Claim) → Tells f C → Below root p f C
 place_in root here f C is = here_in root f C is
 place_in root (under name p) f C is = under_in root name p f C (place_in root p f C is)
 place_in root (each_item p) f C is = item_in root p f C (place_in root p f C is)

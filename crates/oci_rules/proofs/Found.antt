@@ -3,28 +3,16 @@ use Rattle.std.proofs.Common.{◌≡◌, inl, inr, ℕ, zero, List, [], ◌∷�
 use Rattle.std.specs.Prelude.{◌↔◌, ◌⊎◌}
 use Rattle.std.specs.List.{Contains}
 use Rattle.std.proofs.lemmas.List.Elements.{Contains-append_left, Contains-append_right, Contains-append_cases, Contains-push_cases}
+use Rattle.oci_schema.proofs.EachPart.{nothing_in, one_in}
 use Rattle.oci_rules.specs.Rules.{Rule}
 use Rattle.oci_rules.specs.Breaks.{Told}
 use Rattle.oci_rules.specs.Listed.{unless, when}
-
-pub nothing_in : {A P : Type 0} (x : A) → Contains [] x → P
-nothing_in x h = let (k, below, is) = h in absurd (omega arith)
-
-pub no_some : {A P : Type 0} (x : A) → None ≡ Some x → P
-no_some x e = absurd cc
 
 pub not_nil : {A P : Type 0} (x : A) (xs : List A) → x ∷ xs ≡ [] → P
 not_nil x xs e = absurd cc
 
 pub first_in : {A : Type 0} (x : A) (xs : List A) → Contains (x ∷ xs) x
 first_in x xs = (zero, omega arith, refl)
-
-pub one_in : {A : Type 0} (a x : A) → Contains (a ∷ []) x → a ≡ x
-one_in a x h = go (Contains-push_cases [] a x h)
-  where
-    go : Contains [] x ⊎ (a ≡ x) → a ≡ x
-    go (inl e) = nothing_in x e
-    go (inr e) = e
 
 pub none_if : {A : Type 0} (xs : List A) → ((x : A) → Contains xs x → ⊥) → xs ≡ []
 none_if [] h = refl
@@ -33,18 +21,6 @@ none_if (x ∷ xs) h = absurd (h x (first_in x xs))
 pub none_of : {A : Type 0} (xs : List A) (x : A) → xs ≡ [] → Contains xs x → ⊥
 none_of [] x e h = nothing_in x h
 none_of (y ∷ xs) x e h = not_nil y xs e
-
--- in the one list or in the other
-pub in_both : {A : Type 0} (xs ys : List A) (x : A) (P Q : Type 0) → Contains xs x ↔ P → Contains ys x ↔ Q → Contains (xs ++ ys) x ↔ (P ⊎ Q)
-in_both xs ys x P Q one rest = ((λ h. there (Contains-append_cases xs ys x h)), back)
-  where
-    there : Contains xs x ⊎ Contains ys x → P ⊎ Q
-    there (inl h) = inl (one.0 h)
-    there (inr h) = inr (rest.0 h)
-
-    back : P ⊎ Q → Contains (xs ++ ys) x
-    back (inl h) = Contains-append_left xs ys x (one.1 h)
-    back (inr h) = Contains-append_right xs ys x (rest.1 h)
 
 pub in_unless : (b : Bool) (r : Rule) (s : List ℕ) (x : Told) → Contains (unless b r s) x ↔ ((b ≡ false) × ((r, s) ≡ x))
 in_unless true r s x = ((λ h. nothing_in x h), (λ h. absurd (true≢false h.0)))

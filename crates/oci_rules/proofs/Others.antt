@@ -12,7 +12,8 @@ use Rattle.oci_rules.specs.Breaks.{Told}
 use Rattle.oci_rules.specs.Decided.{if_any, there_and}
 use Rattle.oci_rules.specs.Listed.{unless, has_text, others}
 use Rattle.oci_rules.proofs.Deciding.{if_any_tells, some_item_tells, text_tells}
-use Rattle.oci_rules.proofs.Found.{nothing_in, no_some, in_both, in_unless, no_more, none_first, none_later, none_unless}
+use Rattle.oci_schema.proofs.EachPart.{nothing_in, no_some, in_both}
+use Rattle.oci_rules.proofs.Found.{in_unless, no_more, none_first, none_later, none_unless}
 
 -- whether an item's text is among those of a list
 pub among_tells : (es : Items) (d : Data) → Decides (if_any (has_text es) (as_str d)) (IsAmong es d)

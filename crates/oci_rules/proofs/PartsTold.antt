@@ -7,7 +7,8 @@ use Rattle.serde_json.specs.declared.value.Value as value
 use Rattle.serde_json.specs.declared.value.Value.{Value, the_lemmas}
 use Rattle.oci_schema.specs.Places.{under_index, under_name}
 use Rattle.oci_rules.specs.Breaks.{Told}
-use Rattle.oci_rules.specs.Listed.{of_each, of_each_member, of_each_name}
+use Rattle.oci_schema.specs.EachPart.{of_each, of_each_member}
+use Rattle.oci_rules.specs.Listed.{of_each_name}
 use Rattle.oci_rules.proofs.Steps.{cut_at}
 
 pub view_string : (x : String Global) → view (value.String x) ≡ string (string_bytes x)

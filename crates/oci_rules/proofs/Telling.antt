@@ -20,7 +20,8 @@ use Rattle.oci_rules.specs.Decided.{if_any, some_item, has, is_one_of, is_in, be
 use Rattle.oci_rules.specs.Listed.{unless, twins_of, others_of, has_text, told_by}
 use Rattle.oci_rules.proofs.Deciding.{clash, itself, if_any_tells, some_item_tells, some_name_tells, has_tells, lacks_tells, one_of_tells, int_tells, nat_tells, some_tells, in_tells, begins_tells, text_tells, then_tells}
 use Rattle.oci_grammars.proofs.Grammars.{is_of_decides}
-use Rattle.oci_rules.proofs.Found.{nothing_in, not_nil, in_unless, none_of as no_item_of}
+use Rattle.oci_schema.proofs.EachPart.{nothing_in}
+use Rattle.oci_rules.proofs.Found.{not_nil, in_unless, none_of as no_item_of}
 use Rattle.oci_rules.proofs.Others.{others_none, others_in}
 use Rattle.oci_rules.proofs.Twins.{twins_none, twins_found}
 

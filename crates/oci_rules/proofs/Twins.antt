@@ -12,7 +12,8 @@ use Rattle.oci_rules.specs.Tests.{EachItem, AreDistinct}
 use Rattle.oci_rules.specs.Breaks.{Told}
 use Rattle.oci_rules.specs.Decided.{there_and}
 use Rattle.oci_rules.specs.Listed.{unless, no_text, with_text, twins}
-use Rattle.oci_rules.proofs.Found.{nothing_in, no_some, in_both, in_unless, no_more, none_first, none_later, none_unless}
+use Rattle.oci_schema.proofs.EachPart.{nothing_in, no_some, in_both}
+use Rattle.oci_rules.proofs.Found.{in_unless, no_more, none_first, none_later, none_unless}
 
 abbrev Texts : Type 0
 Texts = List ℕ → Bool

@@ -2,6 +2,7 @@
 use Rattle.std.specs.Prelude.{ℕ, ◌+◌, ◌||◌, Bool, false, not, bytes_eq, if◌then◌else◌, List, [], ◌∷◌, ◌++◌, Option, Some, None, unwrap_or}
 use Rattle.serde_json.specs.Data.{Data, string, Items, no_items, item, Members, no_members, member}
 use Rattle.serde_json.specs.Find.{as_str, as_array, as_object}
+use Rattle.oci_schema.specs.EachPart.{of_part, of_items, of_members}
 use Rattle.oci_schema.specs.Places.{under_name, under_index}
 use Rattle.oci_rules.specs.Rules.{Platform, Key, Test, there, absent, at_most, distinct, among, Place, here, under, each_item, each_member, each_name, if_so, Rule}
 use Rattle.oci_rules.specs.Rules as rules
@@ -94,26 +95,7 @@ told_by t r at d = unless (is_passed t d) r (shown_at t at) ++ items_told t r at
 
 -- ---- each part of a place
 
-abbrev pub of_part : (List ℕ → Data → List Told) → List ℕ → Option Data → List Told
-of_part f at None = []
-of_part f at (Some d) = f at d
-
-abbrev pub of_each : (List ℕ → Data → List Told) → List ℕ → ℕ → Items → List Told
-of_each f at i no_items = []
-of_each f at i (item d ds) = f (under_index at i) d ++ of_each f at (i + 1) ds
-
-abbrev pub of_items : (List ℕ → Data → List Told) → List ℕ → Option Items → List Told
-of_items f at None = []
-of_items f at (Some ds) = of_each f at 0 ds
-
-abbrev pub of_each_member : (List ℕ → Data → List Told) → List ℕ → Members → List Told
-of_each_member f at no_members = []
-of_each_member f at (member k d ms) = f (under_name at k) d ++ of_each_member f at ms
-
-abbrev pub of_members : (List ℕ → Data → List Told) → List ℕ → Option Members → List Told
-of_members f at None = []
-of_members f at (Some ms) = of_each_member f at ms
-
+-- of the name of each member, as a string
 abbrev pub of_each_name : (List ℕ → Data → List Told) → List ℕ → Members → List Told
 of_each_name f at no_members = []
 of_each_name f at (member k d ms) = f (under_name at k) (string k) ++ of_each_name f at ms

@@ -2,9 +2,10 @@
 ghost use Rattle.std.specs.Prelude.{◌≡◌, ◌↔◌, ◌++◌, [], map, IfOk, OnOk};
 ghost use Rattle.std.specs.List.{Contains};
 ghost use Rattle.serde_json.specs.View.{view, items_view, members_view};
+ghost use Rattle.oci_schema.specs.EachPart.{of_each, of_each_member};
 ghost use Rattle.oci_rules.specs.Breaks.{Told, Breaks, KeepsAll};
 ghost use Rattle.oci_rules.specs.Platforms.{is_for as is_among, is_platform};
-ghost use Rattle.oci_rules.specs.Listed.{all_broken, when, told_of, of_each, of_each_member, of_each_name, told_at, told_by};
+ghost use Rattle.oci_rules.specs.Listed.{all_broken, when, told_of, of_each_name, told_at, told_by};
 ghost use Rattle.oci_rules.specs.Tables.{told, rule_of, test_of, place_of, platform_of, platforms_of};
 
 use crate::conditions::holds;

@@ -10,6 +10,6 @@ pub returns-in-Value-clause-wrong : goal.returns-in-Value-clause-wrong
 returns-in-Value-clause-wrong g c =
     let asked : IsAsked c.args.asked.now.kind c.in-Value.kind = search rules in
     let reads : ReadsAs c.args.bytes.now (view c.in-Value.value) = search rules in
-    IfOk-weaker c.examine_value.result _ _
+    IfOk-weaker c.report.result _ _
     (λ r is some. wrong_of (g.B.RuleBooks.rules c.args.books.now) c.args.asked.now.kind c.args.asked.now c.in-Value.kind c.args.bytes.now (view c.in-Value.value) r.errors.items refl asked reads is some)
-    c.examine_value.ensures
+    c.report.ensures

@@ -1,7 +1,8 @@
 use Rattle.std.proofs.Common.{◌≡◌, ◌++◌, ◌+◌, ◌*◌, drop, map, length}
 use Rattle.serde_json.specs.View.{view, items_view, members_view}
 use Rattle.oci_rules.specs.Tables.{told, rule_of, test_of, place_of}
-use Rattle.oci_rules.specs.Listed.{told_by, told_at, of_each, of_each_member, of_each_name}
+use Rattle.oci_schema.specs.EachPart.{of_each, of_each_member}
+use Rattle.oci_rules.specs.Listed.{told_by, told_at, of_each_name}
 use Rattle.oci_rules.proofs.find.+walk.Given as goal
 
 abbrev pub decreases-add_at : goal.decreases-add_at

@@ -1,6 +1,6 @@
 use Rattle.std.proofs.lemmas.Result.{IfOk-weaker}
 use Rattle.oci_findings.proofs.Counted.{none_in_both}
-use Rattle.oci_findings.proofs.examine.errors_of.Goals as goal
+use Rattle.oci_findings.proofs.examine.Examination.errors.Goals as goal
 
 pub returns : goal.returns
 returns g c =

@@ -1,6 +1,6 @@
 use Rattle.std.proofs.Common.{inr}
 use Rattle.std.proofs.lemmas.Result.{IfOk-weaker}
-use Rattle.oci_commands.proofs.canonical.finish.Goals as goal
+use Rattle.oci_commands.proofs.canonical.Formatting.finish.Goals as goal
 
 pub returns-clause-refused : goal.returns-clause-refused
 returns-clause-refused g c = IfOk-weaker c.put.result _ _ (λ s differs one. inr (differs one)) c.put.ensures.differs
