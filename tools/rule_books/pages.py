@@ -21,6 +21,9 @@ part breaks it, with the part's JSON Pointer; a part of another type breaks none
   hint, as of a member that is reserved.
 - **Places.** `*` is each item of an array, `{}` each member of an object, `(a,b)` one of these names; `.` is the whole. Places of a
   set begin where the set stands, which the line below its title says.
+- **Platforms.** A rule with none beside its place is for all. A configuration is for z/OS, Solaris or FreeBSD where it has the member of
+  that platform, for Windows or a virtual machine where it has theirs and no `linux`, else for Linux: a Linux container on Windows has
+  both `windows` and `linux`, and its paths are those of Linux.
 - **Peers.** T: `oci-runtime-tool validate`, S: the JSON schemas of the specifications, V: the Go code beside them, R: runc, C: crun. E: it is
   refused, "warns": it is printed.
 """

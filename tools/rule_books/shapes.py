@@ -27,10 +27,12 @@ def through(kind, names, records):
 
 
 def asked(test):
-    """The members that a test names, but those that are to be absent."""
+    """The members that a test names, but those that are to be absent, or a boolean."""
     word = test[0]
-    if word in ("there", "lists_item"):
-        return [((), test[1])] if word == "there" else [("item", test[1])]
+    if word in ("there", "not_null", "lists_item"):
+        return [("item", test[1])] if word == "lists_item" else [((), test[1])]
+    if word == "as_many":
+        return [((), test[1]), ((), test[3])]
     if word in ("at_most", "among", "sum_at_most"):
         return [((), test[1]), ((), test[2])]
     if word == "either":

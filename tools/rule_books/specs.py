@@ -8,8 +8,8 @@ from rule_books.tree import pascal
 PRELUDE = ("ℕ", "List", "[]", "◌∷◌", "◌++◌", "◌≡◌", "map", "codes", "pos", "negsuc", "true", "false")
 WORDS = ("Rule", "Platform", "linux", "windows", "solaris", "vm", "zos", "freebsd", "must", "stated", "should", "host", "here", "under", "each_item",
          "each_member", "each_name", "if_so", "asks", "the_part", "the_document", "is_there", "is_text", "is_truth", "is_within", "has_text", "has_item",
-         "text", "one_of", "none_of", "begins", "reserved", "within", "truth", "there", "absent", "either", "not_empty", "length_at_most", "at_most",
-         "sum_at_most", "lists", "lists_item", "distinct", "among", "itself", "members", "entry_name", "beneath")
+         "text", "one_of", "none_of", "begins", "reserved", "within", "truth", "there", "absent", "not_null", "boolean_member", "either", "not_empty",
+         "length_at_most", "at_most", "sum_at_most", "as_many", "lists", "lists_item", "distinct", "among", "itself", "members", "entry_name", "beneath")
 
 
 class Specs(tree.Printer):

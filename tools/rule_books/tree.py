@@ -45,7 +45,7 @@ def argument(word, number, it):
         return Call("Grammar", it, it)
     if word == "distinct":
         return key(it)
-    if word == "either":
+    if word == "either" or (word == "as_many" and number != 1):
         return Listing(it)
     if word == "length_at_most" or (word == "sum_at_most" and number == 2):
         return Natural(it)

@@ -1,5 +1,5 @@
 -- Conditions and tests come to what they ask.
-use Rattle.std.proofs.Common.{◌≡◌, ℕ, ◌<◌, ◌≤◌, List, [], ◌∷◌, Bool, true, false, not, ◌&&◌, ◌||◌, length, drop, ℤ, Option, Some, None, IfSome, is_some, refl, sym, subst, true≢false, leb-true, le-leb, arith}
+use Rattle.std.proofs.Common.{◌≡◌, ◌≢◌, ◌∙◌, ne_eqb, ℕ, ◌<◌, ◌≤◌, List, [], ◌∷◌, Bool, true, false, not, ◌&&◌, ◌||◌, length, drop, ℤ, Option, Some, None, IfSome, is_some, refl, sym, subst, true≢false, leb-true, le-leb, arith}
 use Rattle.std.specs.Prelude.{zero, suc, ◌≤ℤ◌, T, ◌==◌, int_le, nat_le, bytes_eq, IsSomeAnd, IsTrue}
 use Rattle.std.specs.Bool.{Decides, beq}
 use Rattle.std.specs.Cmp.{booleans_Decides}
@@ -7,14 +7,15 @@ use Rattle.std.specs.Int.Signed.{le_z_yes}
 use Rattle.std.specs.List.{list_any, list_all}
 use Rattle.std.proofs.lemmas.Bool.Decides.{Decides-and, Decides-or, Decides-not, Decides-like, Decides-eqb}
 use Rattle.std.proofs.lemmas.Slice.Eq.{bytes_eq-Decides, starts_is}
-use Rattle.serde_json.specs.Data.{Data, Items, no_items, item}
-use Rattle.serde_json.specs.Find.{as_bool, as_str, as_array}
+use Rattle.serde_json.specs.Data.{Data, null, boolean, number, string, array, object, Items, no_items, item}
+use Rattle.serde_json.specs.Events.{items_len}
+use Rattle.serde_json.specs.Find.{as_bool, as_null, as_str, as_array, get}
 use Rattle.oci_model.specs.Means.{as_whole}
 use Rattle.oci_base.specs.Names.{is_listed}
 use Rattle.oci_rules.specs.Rules.{Check, is_there, is_text, is_truth, is_within, has_text, has_item, Condition, asks}
-use Rattle.oci_rules.specs.Parts.{present, led, text_at}
-use Rattle.oci_rules.specs.Tests.{SomeItem, EachName, SomeName, IsThere, IsAbsent, IsOneOf, IsWithin, IsItem, IsSo, Asked, origin_in, Holds, BeginsWith}
-use Rattle.oci_rules.specs.Decided.{if_any, there_and, some_item, has, lacks, is_one_of, is_in, is_item, is_so, holds, begins_with}
+use Rattle.oci_rules.specs.Parts.{present, led, text_at, without}
+use Rattle.oci_rules.specs.Tests.{SomeItem, EachName, SomeName, IsThere, IsAbsent, IsSet, IsOneOf, IsWithin, IsItem, IsSo, Asked, origin_in, Holds, BeginsWith}
+use Rattle.oci_rules.specs.Decided.{if_any, there_and, some_item, has, lacks, is_empty, is_set, is_unset, has_null, is_as_many, is_one_of, is_in, is_item, is_so, holds, begins_with}
 
 pub clash : {P : Type 0} → false ≡ true → P
 clash e = absurd (true≢false (sym e))
@@ -56,6 +57,27 @@ has_tells d name = itself (is_some (present name d))
 pub lacks_tells : (d : Data) (name : List ℕ) → Decides (lacks d name) (IsAbsent name d)
 lacks_tells d name = none_tells (present name d)
 
+empty_text_tells : (o : Option (List ℕ)) → Decides (there_and (λ t. length t == 0) o) (o ≡ Some [])
+empty_text_tells None = ((λ e. clash e), (λ h. cc h))
+empty_text_tells (Some []) = ((λ e. refl), (λ h. refl))
+empty_text_tells (Some (b ∷ t)) = ((λ e. absurd (true≢false (sym e ∙ ne_eqb (length (b ∷ t)) 0 (omega arith)))), (λ h. cc h))
+
+set_tells : (d : Data) (name : List ℕ) → Decides (is_set d name) (IsSet name d)
+set_tells d name =
+    there_and_tells (λ c. not (is_empty c)) (λ c. as_str c ≢ Some []) (λ c. Decides-not (is_empty c) (empty_text_tells (as_str c))) (present name d)
+
+null_tells : (o : Option Data) → Decides (there_and (λ c. is_some (as_null c)) o) (o ≡ Some null)
+null_tells None = ((λ e. clash e), (λ h. cc h))
+null_tells (Some null) = ((λ e. refl), (λ h. refl))
+null_tells (Some (boolean b)) = ((λ e. clash e), (λ h. cc h))
+null_tells (Some (number n)) = ((λ e. clash e), (λ h. cc h))
+null_tells (Some (string t)) = ((λ e. clash e), (λ h. cc h))
+null_tells (Some (array ds)) = ((λ e. clash e), (λ h. cc h))
+null_tells (Some (object ms)) = ((λ e. clash e), (λ h. cc h))
+
+pub not_null_tells : (name : List ℕ) (d : Data) → Decides (not (has_null name d)) (get name d ≢ Some null)
+not_null_tells name d = Decides-not (has_null name d) (null_tells (get name d))
+
 pub one_of_tells : (ts : List (List ℕ)) (d : Data) → Decides (is_one_of ts d) (IsOneOf ts d)
 one_of_tells ts d = there_and_tells (is_listed ts) (λ t. IsTrue (is_listed ts t)) (λ t. itself (is_listed ts t)) (as_str d)
 
@@ -92,10 +114,10 @@ truth_tells b (Some c) = let same = booleans_Decides b c in ((λ e. let s = same
 
 item_tells : (name : List ℕ) (ts with without : List (List ℕ)) (d : Data) → Decides (is_item name ts with without d) (IsItem name ts with without d)
 item_tells name ts with without d =
-    Decides-and (there_and (is_listed ts) (text_at name d)) (list_all (has d) with && list_all (lacks d) without)
+    Decides-and (there_and (is_listed ts) (text_at name d)) (list_all (is_set d) with && list_all (is_unset d) without)
     (there_and_tells (is_listed ts) (λ t. IsTrue (is_listed ts t)) (λ t. itself (is_listed ts t)) (text_at name d))
-    (Decides-and (list_all (has d) with) (list_all (lacks d) without) (each_name_tells (has d) (λ n. IsThere n d) (has_tells d) with)
-    (each_name_tells (lacks d) (λ n. IsAbsent n d) (lacks_tells d) without))
+    (Decides-and (list_all (is_set d) with) (list_all (is_unset d) without) (each_name_tells (is_set d) (λ n. IsSet n d) (set_tells d) with)
+    (each_name_tells (is_unset d) (λ n. ¬ IsSet n d) (λ n. Decides-not (is_set d n) (set_tells d n)) without))
 
 so_tells : (check : Check) (d : Data) → Decides (is_so check d) (IsSo check d)
 so_tells is_there d = ((λ e. tt), (λ h. refl))
@@ -117,6 +139,13 @@ pub holds_tells : (root : Data) (c : Condition) (d : Data) → Decides (holds ro
 holds_tells root (asks origin way wanted check) d =
     let found : Option Data = led way (origin_in origin root d) in
     asked_tells wanted (there_and (is_so check) found) (IsSomeAnd found (IsSo check)) (there_and_tells (is_so check) (IsSo check) (so_tells check) found)
+
+-- ---- numbers of items
+
+pub as_many_tells : (name : List ℕ) (x y : Option Items) → Decides (is_as_many name x y) (IfSome x (λ ds. IfSome y (λ es. without name ds ≡ items_len es)))
+as_many_tells name x y =
+    if_any_tells (λ ds. if_any (λ es. without name ds == items_len es) y) (λ ds. IfSome y (λ es. without name ds ≡ items_len es))
+    (λ ds. if_any_tells (λ es. without name ds == items_len es) (λ es. without name ds ≡ items_len es) (λ es. Decides-eqb (without name ds) (items_len es)) y) x
 
 -- ---- texts
 

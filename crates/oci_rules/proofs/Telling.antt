@@ -1,6 +1,6 @@
 -- What is told of one part.
 use Rattle.std.proofs.Common.{◌≡◌, ℕ, ◌+◌, List, [], ◌++◌, Bool, true, false, not, ◌||◌, Option, Some, None, IfSome, unwrap_or, is_some, refl, sym, ap, ◌∙◌, subst, true≢false, arith}
-use Rattle.std.specs.Prelude.{◌↔◌, ◌<◌, ◌≤◌, ◌≤ℤ◌, IsTrue, ◌==◌, int_le, nat_le}
+use Rattle.std.specs.Prelude.{◌↔◌, ◌<◌, ◌≤◌, ◌≤ℤ◌, IsSome, IsTrue, ◌==◌, int_le, nat_le}
 use Rattle.std.specs.Bool.{Decides, beq}
 use Rattle.std.specs.Cmp.{booleans_Decides}
 use Rattle.std.specs.List.{Contains, list_any}
@@ -11,14 +11,14 @@ use Rattle.oci_model.specs.Means.{as_whole, is_object}
 use Rattle.oci_base.specs.Names.{is_listed}
 use Rattle.oci_schema.specs.Places.{under_name, under_index}
 use Rattle.oci_grammars.specs.Grammars.{IsOf}
-use Rattle.oci_rules.specs.Rules.{Key, Test, text, one_of, none_of, begins, reserved, within, truth, there, absent, either, not_empty, length_at_most, at_most, sum_at_most, lists, lists_item, distinct, among, Rule}
-use Rattle.oci_rules.specs.Parts.{text_at, whole_at, natural_at, items_at, extent}
+use Rattle.oci_rules.specs.Rules.{Key, Test, text, one_of, none_of, begins, reserved, within, truth, there, absent, not_null, boolean_member, either, not_empty, length_at_most, at_most, sum_at_most, as_many, lists, lists_item, distinct, among, Rule}
+use Rattle.oci_rules.specs.Parts.{present, text_at, whole_at, natural_at, items_at, items_led, extent}
 use Rattle.oci_rules.specs.Tests.{SomeItem, SomeName, EachItem, IsThere, IsOneOf, IsWithin, BeginsWith, IsAmong, AreDistinct, Passes}
 use Rattle.oci_rules.specs.Breaks.{Told, Shows, HasEarlier, IsOther}
 use Rattle.oci_grammars.specs.Tests.{is_of}
 use Rattle.oci_rules.specs.Decided.{if_any, some_item, has, is_one_of, is_in, begins_with, has_text_under, is_passed}
 use Rattle.oci_rules.specs.Listed.{unless, twins_of, others_of, has_text, told_by}
-use Rattle.oci_rules.proofs.Deciding.{clash, itself, if_any_tells, some_item_tells, some_name_tells, has_tells, lacks_tells, one_of_tells, int_tells, nat_tells, some_tells, in_tells, begins_tells, text_tells, then_tells}
+use Rattle.oci_rules.proofs.Deciding.{clash, itself, if_any_tells, some_item_tells, some_name_tells, has_tells, lacks_tells, not_null_tells, as_many_tells, one_of_tells, int_tells, nat_tells, some_tells, in_tells, begins_tells, text_tells, then_tells}
 use Rattle.oci_grammars.proofs.Grammars.{is_of_decides}
 use Rattle.oci_schema.proofs.EachPart.{nothing_in}
 use Rattle.oci_rules.proofs.Found.{not_nil, in_unless, none_of as no_item_of}
@@ -147,6 +147,10 @@ law (within low high) r at d = alone (is_passed (within low high) d) (Passes (wi
 law (truth b) r at d = alone (is_passed (truth b) d) (Passes (truth b) d) r at (if_any_tells (beq b) (λ c. c ≡ b) (same_tells b) (as_bool d))
 law (there name) r at d = alone (is_passed (there name) d) (Passes (there name) d) r (under_name at name) (object_tells (has d name) (IsThere name d) d (has_tells d name))
 law (absent name) r at d = alone (is_passed (absent name) d) (Passes (absent name) d) r (under_name at name) (lacks_tells d name)
+law (not_null name) r at d = alone (is_passed (not_null name) d) (Passes (not_null name) d) r (under_name at name) (not_null_tells name d)
+law (boolean_member name) r at d =
+    alone (is_passed (boolean_member name) d) (Passes (boolean_member name) d) r (under_name at name)
+    (if_any_tells (λ c. is_some (as_bool c)) (λ c. IsSome (as_bool c)) (λ c. itself (is_some (as_bool c))) (present name d))
 law (either names) r at d =
     alone (is_passed (either names) d) (Passes (either names) d) r at
     (object_tells (list_any (has d) names) (SomeName (λ n. IsThere n d) names) d (some_name_tells (has d) (λ n. IsThere n d) (has_tells d) names))
@@ -159,6 +163,7 @@ law (sum_at_most a b most) r at d =
     alone (is_passed (sum_at_most a b most) d) (Passes (sum_at_most a b most) d) r at
     (if_any_tells (λ x. if_any (λ y. nat_le (x + y) most) (natural_at b d)) (λ x. IfSome (natural_at b d) (λ y. x + y ≤ most))
     (λ x. if_any_tells (λ y. nat_le (x + y) most) (λ y. x + y ≤ most) (λ y. nat_tells (x + y) most) (natural_at b d)) (natural_at a d))
+law (as_many a name b) r at d = alone (is_passed (as_many a name b) d) (Passes (as_many a name b) d) r at (as_many_tells name (items_led a d) (items_led b d))
 law (lists ts) r at d =
     alone (is_passed (lists ts) d) (Passes (lists ts) d) r at (if_any_tells (some_item (is_one_of ts)) (SomeItem (IsOneOf ts)) (some_item_tells (is_one_of ts) (IsOneOf ts) (one_of_tells ts)) (as_array d))
 law (lists_item name t) r at d =

@@ -1,10 +1,10 @@
 -- What stands where names lead in a value. A null is as good as nothing.
-use Rattle.std.specs.Prelude.{ℕ, ℤ, List, [], ◌∷◌, length, Option, Some, option_map, option_and_then}
+use Rattle.std.specs.Prelude.{ℕ, suc, ℤ, List, [], ◌∷◌, length, Bool, false, Option, Some, None, option_map, option_and_then, if◌then◌else◌}
 use Rattle.std.specs.Option.{option_or}
 use Rattle.std.specs.Fmt.{signed_decimal}
-use Rattle.serde_json.specs.Data.{Data, Items}
+use Rattle.serde_json.specs.Data.{Data, Items, no_items, item}
 use Rattle.serde_json.specs.Events.{items_len, members_len}
-use Rattle.serde_json.specs.Find.{as_str, as_array, as_object, as_number, as_u64, get}
+use Rattle.serde_json.specs.Find.{as_bool, as_str, as_array, as_object, as_number, as_u64, get}
 use Rattle.oci_model.specs.Means.{as_whole, unless_null}
 use Rattle.oci_base.specs.Classes.{until}
 use Rattle.oci_schema.specs.Places.{under_name}
@@ -31,6 +31,23 @@ natural_at name d = option_and_then as_u64 (option_and_then as_number (get name 
 
 abbrev pub items_at : List ℕ → Data → Option Items
 items_at name d = option_and_then as_array (get name d)
+
+-- the list to which these names lead
+abbrev pub items_led : List (List ℕ) → Data → Option Items
+items_led way d = option_and_then as_array (led way d)
+
+-- there is `true` under this name
+abbrev pub is_yes : Option Bool → Bool
+is_yes None = false
+is_yes (Some b) = b
+
+abbrev pub is_true : List ℕ → Data → Bool
+is_true name d = is_yes (option_and_then as_bool (get name d))
+
+-- how many of the items do not have `true` under this name
+abbrev pub without : List ℕ → Items → ℕ
+without name no_items = 0
+without name (item d ds) = if is_true name d then without name ds else suc (without name ds)
 
 -- the bytes of a text, the items of an array, the members of an object
 abbrev pub extent : Data → Option ℕ

@@ -36,7 +36,7 @@ pub data Check : Type 0 where
   is_within : ℤ → ℤ → Check
   -- an array with one of these texts
   has_text : List (List ℕ) → Check
-  -- an array with an item that has one of the texts under the name, each of these members, and none of those
+  -- an array with an item that has one of the texts under the name, each of these members, and none of those; an empty text is none
   has_item : List ℕ → List (List ℕ) → List (List ℕ) → List (List ℕ) → Check
 
 -- the check of the value to which these names lead is so, or is not
@@ -81,6 +81,10 @@ pub data Test : Type 0 where
   truth : Bool → Test
   there : List ℕ → Test
   absent : List ℕ → Test
+  -- the member of this name is not null
+  not_null : List ℕ → Test
+  -- the member of this name is a boolean
+  boolean_member : List ℕ → Test
   -- one of these members is there
   either : List (List ℕ) → Test
   not_empty : Test
@@ -89,6 +93,8 @@ pub data Test : Type 0 where
   at_most : List ℕ → List ℕ → Test
   -- the two members together are no larger than this
   sum_at_most : List ℕ → List ℕ → ℕ → Test
+  -- the items of the first list, without those that have `true` under the name, are as many as those of the second
+  as_many : List (List ℕ) → List ℕ → List (List ℕ) → Test
   -- one of these texts is an item
   lists : List (List ℕ) → Test
   -- an item has this text (second) under this name (first)

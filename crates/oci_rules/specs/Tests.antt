@@ -1,12 +1,13 @@
 -- What conditions and tests ask. Of a part of another kind a test asks nothing: the schema tells of that.
 use Rattle.std.specs.Prelude.{ℕ, ℤ, ◌≡◌, ◌≢◌, ◌≤◌, ◌<◌, ◌+◌, ◌≤ℤ◌, ◌⊎◌, ⊤, List, [], ◌∷◌, ◌++◌, Bool, true, false, Some, None, IfSome, IsSomeAnd, IsSome, IsTrue, unwrap_or}
-use Rattle.serde_json.specs.Data.{Data, Items, no_items, item}
-use Rattle.serde_json.specs.Find.{as_bool, as_str, as_array, as_object}
+use Rattle.serde_json.specs.Data.{Data, null, Items, no_items, item}
+use Rattle.serde_json.specs.Events.{items_len}
+use Rattle.serde_json.specs.Find.{as_bool, as_str, as_array, as_object, get}
 use Rattle.oci_model.specs.Means.{as_whole}
 use Rattle.oci_base.specs.Names.{is_listed}
 use Rattle.oci_grammars.specs.Grammars.{IsOf}
-use Rattle.oci_rules.specs.Rules.{Origin, the_part, the_document, Check, is_there, is_text, is_truth, is_within, has_text, has_item, Condition, asks, Key, Test, text, one_of, none_of, begins, reserved, within, truth, there, absent, either, not_empty, length_at_most, at_most, sum_at_most, lists, lists_item, distinct, among}
-use Rattle.oci_rules.specs.Parts.{present, led, text_at, whole_at, natural_at, items_at, extent, key_of}
+use Rattle.oci_rules.specs.Rules.{Origin, the_part, the_document, Check, is_there, is_text, is_truth, is_within, has_text, has_item, Condition, asks, Key, Test, text, one_of, none_of, begins, reserved, within, truth, there, absent, not_null, boolean_member, either, not_empty, length_at_most, at_most, sum_at_most, as_many, lists, lists_item, distinct, among}
+use Rattle.oci_rules.specs.Parts.{present, led, text_at, whole_at, natural_at, items_at, items_led, without, extent, key_of}
 
 abbrev pub EachItem : (Data → Type 0) → Items → Type 0
 EachItem P no_items = ⊤
@@ -30,6 +31,10 @@ IsThere name d = IsSome (present name d)
 abbrev pub IsAbsent : List ℕ → Data → Type 0
 IsAbsent name d = present name d ≡ None
 
+-- there, and no empty text
+abbrev pub IsSet : List ℕ → Data → Type 0
+IsSet name d = IsSomeAnd (present name d) (λ c. as_str c ≢ Some [])
+
 -- it is a text, one of these
 abbrev pub IsOneOf : List (List ℕ) → Data → Type 0
 IsOneOf ts d = IsSomeAnd (as_str d) (λ t. IsTrue (is_listed ts t))
@@ -39,9 +44,9 @@ IsWithin low high z = (low ≤ℤ z) × (z ≤ℤ high)
 
 -- ---- conditions
 
--- one of the texts is under the name; these members are there, and those are absent
+-- one of the texts is under the name; these members are there, and those are not; an empty text is as good as nothing
 abbrev pub IsItem : List ℕ → List (List ℕ) → List (List ℕ) → List (List ℕ) → Data → Type 0
-IsItem name ts with without d = IsSomeAnd (text_at name d) (λ t. IsTrue (is_listed ts t)) × (EachName (λ n. IsThere n d) with × EachName (λ n. IsAbsent n d) without)
+IsItem name ts with without d = IsSomeAnd (text_at name d) (λ t. IsTrue (is_listed ts t)) × (EachName (λ n. IsSet n d) with × EachName (λ n. ¬ IsSet n d) without)
 
 abbrev pub IsSo : Check → Data → Type 0
 IsSo is_there d = ⊤
@@ -87,11 +92,14 @@ Passes (within low high) d = IfSome (as_whole d) (IsWithin low high)
 Passes (truth b) d = IfSome (as_bool d) (λ c. c ≡ b)
 Passes (there name) d = IfSome (as_object d) (λ ms. IsThere name d)
 Passes (absent name) d = IsAbsent name d
+Passes (not_null name) d = get name d ≢ Some null
+Passes (boolean_member name) d = IfSome (present name d) (λ c. IsSome (as_bool c))
 Passes (either names) d = IfSome (as_object d) (λ ms. SomeName (λ n. IsThere n d) names)
 Passes not_empty d = IfSome (extent d) (λ n. 0 < n)
 Passes (length_at_most most) d = IfSome (extent d) (λ n. n ≤ most)
 Passes (at_most a b) d = IfSome (whole_at a d) (λ x. IfSome (whole_at b d) (λ y. x ≤ℤ y))
 Passes (sum_at_most a b most) d = IfSome (natural_at a d) (λ x. IfSome (natural_at b d) (λ y. x + y ≤ most))
+Passes (as_many a name b) d = IfSome (items_led a d) (λ ds. IfSome (items_led b d) (λ es. without name ds ≡ items_len es))
 Passes (lists ts) d = IfSome (as_array d) (SomeItem (IsOneOf ts))
 Passes (lists_item name t) d = IfSome (as_array d) (SomeItem (λ e. text_at name e ≡ Some t))
 Passes (distinct key) d = IfSome (as_array d) (AreDistinct key)

@@ -3,10 +3,10 @@ ghost use Rattle.std.specs.Prelude.{◌≡◌};
 ghost use Rattle.std.specs.List.{list_all};
 ghost use Rattle.serde_json.specs.View.{view, items_view};
 ghost use Rattle.oci_base.specs.Names.{is_listed};
-ghost use Rattle.oci_rules.specs.Decided.{has as does_have, lacks as does_lack, is_one_of as is_text_of, is_in as is_number_in, is_so as comes_so, is_item as is_such_item, some_item, holds as does_hold};
+ghost use Rattle.oci_rules.specs.Decided.{is_set as is_set_in, is_unset, is_one_of as is_text_of, is_in as is_number_in, is_so as comes_so, is_item as is_such_item, some_item, holds as does_hold};
 ghost use Rattle.oci_rules.specs.Tables.{texts_of, check_of, condition_of};
 
-use crate::parts::{has, led, text_at, whole};
+use crate::parts::{is_set, led, text_at, whole};
 use crate::rule::{Condition, Origin, Predicate};
 use serde_json::Value;
 
@@ -91,7 +91,8 @@ pub fn has_text(texts: &[&str], items: &Vec<Value>) -> bool
     false
 }
 
-/// Whether one of the items has one of the strings under the name, all of the members `with` and none of the members `without`.
+/// Whether one of the items has one of the strings under the name, all of the members `with` and none of the members `without`; an empty
+/// string is none.
 fn has_item(name: &str, texts: &[&str], with: &[&str], without: &[&str], items: &Vec<Value>) -> bool
     ensures { result ≡ some_item (is_such_item name.now (texts_of texts.now) (texts_of with.now) (texts_of without.now)) (items_view items.now.items) }
 {
@@ -113,10 +114,10 @@ fn is_item(name: &str, texts: &[&str], with: &[&str], without: &[&str], item: &V
 }
 
 fn has_all(value: &Value, names: &[&str]) -> bool
-    ensures { result ≡ list_all (does_have (view value.now)) (texts_of names.now) }
+    ensures { result ≡ list_all (is_set_in (view value.now)) (texts_of names.now) }
 {
     for name in names {
-        if !has(value, name) {
+        if !is_set(value, name) {
             return false;
         }
     }
@@ -124,10 +125,10 @@ fn has_all(value: &Value, names: &[&str]) -> bool
 }
 
 fn lacks_all(value: &Value, names: &[&str]) -> bool
-    ensures { result ≡ list_all (does_lack (view value.now)) (texts_of names.now) }
+    ensures { result ≡ list_all (is_unset (view value.now)) (texts_of names.now) }
 {
     for name in names {
-        if has(value, name) {
+        if is_set(value, name) {
             return false;
         }
     }

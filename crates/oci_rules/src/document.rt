@@ -17,12 +17,13 @@ use oci_model::OciRecord;
 use serde_json::Value;
 use std::alloc::Global;
 
-/// The platform that the configuration of a container is for, as its parts say: that of `windows`, `zos`, `solaris` or `freebsd`
-/// where one is there, that of `vm` where `linux` is not beside it, else Linux.
+/// The platform that the configuration of a container is for, as its parts say: that of `zos`, `solaris` or `freebsd` where one is there,
+/// that of `windows` or `vm` where `linux` is not beside it, else Linux. A Linux container on Windows has both `linux` and `windows`.
 pub fn platform_of_document(document: &Value) -> RuntimePlatform
     ensures { platform_of result ≡ platform_in (view document.now) }
 {
-    if has(document, "windows") {
+    let linux = has(document, "linux");
+    if has(document, "windows") && !linux {
         RuntimePlatform::Windows
     } else if has(document, "zos") {
         RuntimePlatform::Zos
@@ -30,7 +31,7 @@ pub fn platform_of_document(document: &Value) -> RuntimePlatform
         RuntimePlatform::Solaris
     } else if has(document, "freebsd") {
         RuntimePlatform::FreeBsd
-    } else if has(document, "vm") && !has(document, "linux") {
+    } else if has(document, "vm") && !linux {
         RuntimePlatform::Vm
     } else {
         RuntimePlatform::Linux

@@ -1,21 +1,29 @@
 //! What breaks rules in a value.
-ghost use Rattle.std.specs.Prelude.{◌≡◌, ◌↔◌, ◌++◌, [], map, IfOk, OnOk};
+ghost use Rattle.std.specs.Prelude.{◌≡◌, ◌↔◌, ◌∷◌, ◌++◌, [], map, IfOk, OnOk};
 ghost use Rattle.std.specs.List.{Contains};
 ghost use Rattle.serde_json.specs.View.{view, items_view, members_view};
 ghost use Rattle.oci_schema.specs.EachPart.{of_each, of_each_member};
+ghost use Rattle.oci_schema.specs.Places as places;
 ghost use Rattle.oci_rules.specs.Breaks.{Told, Breaks, KeepsAll};
 ghost use Rattle.oci_rules.specs.Platforms.{is_for as is_among, is_platform};
-ghost use Rattle.oci_rules.specs.Listed.{all_broken, when, told_of, of_each_name, told_at, told_by};
+ghost use Rattle.oci_rules.specs.Listed.{all_broken, when, shown_at, told_of, of_each_name, told_at, told_by};
 ghost use Rattle.oci_rules.specs.Tables.{told, rule_of, test_of, place_of, platform_of, platforms_of};
 
 use crate::conditions::holds;
 use crate::items::{add_items_broken, push};
 use crate::parts::present;
-use crate::passes::{passes, pointer_of};
-use crate::rule::{Broken, Platforms, Rule, RuntimePlatform, Step};
-use oci_schema::place::{under_index, under_name};
+use crate::passes::passes;
+use crate::rule::{Broken, Platforms, Rule, RuntimePlatform, Step, Test};
+use oci_schema::place::Place;
 use serde_json::{Map, Value};
 use std::alloc::{AllocError, Global};
+
+/// A rule, and the document of which it is asked.
+#[derive(Clone, Copy)]
+struct Asked<'a, 'd> {
+    rule: &'a Rule<'a>,
+    document: &'d Value,
+}
 
 /// What breaks the rules for the platform in the value, rule by rule and part by part.
 pub fn broken<'a>(
@@ -58,7 +66,11 @@ fn add_rule<'a>(
     ensures { OnOk result (map told found.new.items ≡ map told found.old.items ++ when (is_among (platform_of platform) (platforms_of rule.now.platforms)) (told_of (rule_of rule.now) (view value.now))) }
 {
     if is_for(platform, &rule.platforms) {
-        add_at(rule.place, rule, value, value, "", found, alloc)
+        let asked = Asked {
+            rule,
+            document: value,
+        };
+        add_at(rule.place, asked, value, &Place::Root, found, alloc)
     } else {
         Ok(())
     }
@@ -101,19 +113,40 @@ fn is_same(platform: RuntimePlatform, other: RuntimePlatform) -> bool
     }
 }
 
+/// Adds that the part does not pass, at the place that is shown of it.
+fn add_shown<'a>(
+    rule: &'a Rule<'a>,
+    at: &Place<'_>,
+    found: &mut Vec<Broken<'a>>,
+    alloc: Global,
+) -> Result<(), AllocError>
+    ensures { OnOk result (map told found.new.items ≡ map told found.old.items ++ (rule_of rule.now, shown_at (test_of rule.now.test) (places.pointer at.now)) ∷ []) }
+{
+    match &rule.test {
+        Test::There(name)
+        | Test::Absent(name)
+        | Test::NotNull(name)
+        | Test::BooleanMember(name)
+        | Test::AtMost(name, _) => {
+            let place = Place::Member(&*at, name);
+            push(rule, &place, found, alloc)
+        }
+        _ => push(rule, at, found, alloc),
+    }
+}
+
 /// Adds what the part breaks.
 fn add_part<'a>(
     rule: &'a Rule<'a>,
     part: &Value,
-    at: &str,
+    at: &Place<'_>,
     found: &mut Vec<Broken<'a>>,
     alloc: Global,
 ) -> Result<(), AllocError>
-    ensures { OnOk result (map told found.new.items ≡ map told found.old.items ++ told_by (test_of rule.now.test) (rule_of rule.now) at.now (view part.now)) }
+    ensures { OnOk result (map told found.new.items ≡ map told found.old.items ++ told_by (test_of rule.now.test) (rule_of rule.now) (places.pointer at.now) (view part.now)) }
 {
     if !passes(&rule.test, part) {
-        let place = pointer_of(&rule.test, at, alloc)?;
-        push(rule, place.as_str(), found, alloc)?;
+        add_shown(rule, at, found, alloc)?;
     }
     add_items_broken(rule, part, at, found, alloc)
 }
@@ -122,41 +155,40 @@ fn add_part<'a>(
 #[cycle(walk)]
 fn add_at<'a>(
     steps: &'a [Step<'a>],
-    rule: &'a Rule<'a>,
-    document: &Value,
+    asked: Asked<'a, '_>,
     value: &Value,
-    at: &str,
+    at: &Place<'_>,
     found: &mut Vec<Broken<'a>>,
     alloc: Global,
 ) -> Result<(), AllocError>
-    ensures { OnOk result (map told found.new.items ≡ map told found.old.items ++ told_at (view document.now) (place_of steps.now) (told_by (test_of rule.now.test) (rule_of rule.now)) at.now (view value.now)) }
+    ensures { OnOk result (map told found.new.items ≡ map told found.old.items ++ told_at (view asked.entry.document.now) (place_of steps.now) (told_by (test_of asked.entry.rule.now.test) (rule_of asked.entry.rule.now)) (places.pointer at.now) (view value.now)) }
 {
     let Some((step, rest)) = steps.split_first() else {
-        return add_part(rule, value, at, found, alloc);
+        return add_part(asked.rule, value, at, found, alloc);
     };
     match step {
         Step::Member(name) => match present(value, name) {
             Some(member) => {
-                let place = under_name(alloc, at, name)?;
-                add_at(rest, rule, document, member, place.as_str(), found, alloc)
+                let place = Place::Member(&*at, name);
+                add_at(rest, asked, member, &place, found, alloc)
             }
             None => Ok(()),
         },
         Step::EachItem => match value.as_array() {
-            Some(items) => add_items(rest, rule, document, items, at, found, alloc),
+            Some(items) => add_items(rest, asked, items, at, found, alloc),
             None => Ok(()),
         },
         Step::EachMember => match value.as_object() {
-            Some(members) => add_members(rest, rule, document, members, at, found, alloc),
+            Some(members) => add_members(rest, asked, members, at, found, alloc),
             None => Ok(()),
         },
         Step::EachName => match value.as_object() {
-            Some(members) => add_names(rest, rule, document, members, at, found, alloc),
+            Some(members) => add_names(rest, asked, members, at, found, alloc),
             None => Ok(()),
         },
         Step::When(condition) => {
-            if holds(document, condition, value) {
-                add_at(rest, rule, document, value, at, found, alloc)
+            if holds(asked.document, condition, value) {
+                add_at(rest, asked, value, at, found, alloc)
             } else {
                 Ok(())
             }
@@ -167,18 +199,17 @@ fn add_at<'a>(
 #[cycle(walk)]
 fn add_items<'a>(
     steps: &'a [Step<'a>],
-    rule: &'a Rule<'a>,
-    document: &Value,
+    asked: Asked<'a, '_>,
     items: &Vec<Value>,
-    at: &str,
+    at: &Place<'_>,
     found: &mut Vec<Broken<'a>>,
     alloc: Global,
 ) -> Result<(), AllocError>
-    ensures { OnOk result (map told found.new.items ≡ map told found.old.items ++ of_each (told_at (view document.now) (place_of steps.now) (told_by (test_of rule.now.test) (rule_of rule.now))) at.now 0 (items_view items.now.items)) }
+    ensures { OnOk result (map told found.new.items ≡ map told found.old.items ++ of_each (told_at (view asked.entry.document.now) (place_of steps.now) (told_by (test_of asked.entry.rule.now.test) (rule_of asked.entry.rule.now))) (places.pointer at.now) 0 (items_view items.now.items)) }
 {
     for (index, item) in items.iter().enumerate() {
-        let place = under_index(alloc, at, index)?;
-        add_at(steps, rule, document, item, place.as_str(), found, alloc)?;
+        let place = Place::Item(&*at, index);
+        add_at(steps, asked, item, &place, found, alloc)?;
     }
     Ok(())
 }
@@ -186,18 +217,17 @@ fn add_items<'a>(
 #[cycle(walk)]
 fn add_members<'a>(
     steps: &'a [Step<'a>],
-    rule: &'a Rule<'a>,
-    document: &Value,
+    asked: Asked<'a, '_>,
     members: &Map<String, Value>,
-    at: &str,
+    at: &Place<'_>,
     found: &mut Vec<Broken<'a>>,
     alloc: Global,
 ) -> Result<(), AllocError>
-    ensures { OnOk result (map told found.new.items ≡ map told found.old.items ++ of_each_member (told_at (view document.now) (place_of steps.now) (told_by (test_of rule.now.test) (rule_of rule.now))) at.now (members_view members.now.entries)) }
+    ensures { OnOk result (map told found.new.items ≡ map told found.old.items ++ of_each_member (told_at (view asked.entry.document.now) (place_of steps.now) (told_by (test_of asked.entry.rule.now.test) (rule_of asked.entry.rule.now))) (places.pointer at.now) (members_view members.now.entries)) }
 {
     for (name, member) in members.iter() {
-        let place = under_name(alloc, at, name.as_str())?;
-        add_at(steps, rule, document, member, place.as_str(), found, alloc)?;
+        let place = Place::Member(&*at, name.as_str());
+        add_at(steps, asked, member, &place, found, alloc)?;
     }
     Ok(())
 }
@@ -205,19 +235,18 @@ fn add_members<'a>(
 #[cycle(walk)]
 fn add_names<'a>(
     steps: &'a [Step<'a>],
-    rule: &'a Rule<'a>,
-    document: &Value,
+    asked: Asked<'a, '_>,
     members: &Map<String, Value>,
-    at: &str,
+    at: &Place<'_>,
     found: &mut Vec<Broken<'a>>,
     alloc: Global,
 ) -> Result<(), AllocError>
-    ensures { OnOk result (map told found.new.items ≡ map told found.old.items ++ of_each_name (told_at (view document.now) (place_of steps.now) (told_by (test_of rule.now.test) (rule_of rule.now))) at.now (members_view members.now.entries)) }
+    ensures { OnOk result (map told found.new.items ≡ map told found.old.items ++ of_each_name (told_at (view asked.entry.document.now) (place_of steps.now) (told_by (test_of asked.entry.rule.now.test) (rule_of asked.entry.rule.now))) (places.pointer at.now) (members_view members.now.entries)) }
 {
     for (name, _) in members.iter() {
-        let place = under_name(alloc, at, name.as_str())?;
+        let place = Place::Member(&*at, name.as_str());
         let text = Value::String(String::from_str(alloc, name.as_str())?);
-        add_at(steps, rule, document, &text, place.as_str(), found, alloc)?;
+        add_at(steps, asked, &text, &place, found, alloc)?;
     }
     Ok(())
 }

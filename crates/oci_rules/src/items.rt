@@ -4,7 +4,7 @@ ghost use Rattle.std.specs.BTreeSet.{contains_text};
 ghost use Rattle.serde_json.specs.Data.{no_items};
 ghost use Rattle.serde_json.specs.Find.{as_str};
 ghost use Rattle.serde_json.specs.View.{view, items_view};
-ghost use Rattle.oci_schema.specs.Places.{under_index as index_under, under_name as name_under};
+ghost use Rattle.oci_schema.specs.Places as places;
 ghost use Rattle.oci_rules.specs.Decided.{there_and, if_any};
 ghost use Rattle.oci_rules.specs.Listed.{unless, no_text, with_text, has_text, twins, others, items_told, others_of};
 ghost use Rattle.oci_rules.specs.Parts as parts;
@@ -13,7 +13,7 @@ ghost use Rattle.oci_rules.specs.Tables.{told, rule_of, test_of, key_of as key_f
 use crate::keys::key_of;
 use crate::parts::items_at;
 use crate::rule::{Broken, Key, Rule, Test};
-use oci_schema::place::{under_index, under_name};
+use oci_schema::place::{Place, pointer};
 use serde_json::Value;
 use std::alloc::{AllocError, Global};
 use std::collections::BTreeSet;
@@ -21,13 +21,13 @@ use std::collections::BTreeSet;
 /// Adds that the rule is broken at this place.
 pub fn push<'a>(
     rule: &'a Rule<'a>,
-    at: &str,
+    at: &Place<'_>,
     found: &mut Vec<Broken<'a>>,
     alloc: Global,
 ) -> Result<(), AllocError>
-    ensures { OnOk result (map told found.new.items ≡ map told found.old.items ++ (rule_of rule.now, at.now) ∷ []) }
+    ensures { OnOk result (map told found.new.items ≡ map told found.old.items ++ (rule_of rule.now, places.pointer at.now) ∷ []) }
 {
-    let pointer = String::from_str(alloc, at)?;
+    let pointer = pointer(at, alloc)?;
     found.push(Broken { rule, pointer })?;
     Ok(())
 }
@@ -36,18 +36,18 @@ pub fn push<'a>(
 pub fn add_items_broken<'a>(
     rule: &'a Rule<'a>,
     part: &Value,
-    at: &str,
+    at: &Place<'_>,
     found: &mut Vec<Broken<'a>>,
     alloc: Global,
 ) -> Result<(), AllocError>
-    ensures { OnOk result (map told found.new.items ≡ map told found.old.items ++ items_told (test_of rule.now.test) (rule_of rule.now) at.now (view part.now)) }
+    ensures { OnOk result (map told found.new.items ≡ map told found.old.items ++ items_told (test_of rule.now.test) (rule_of rule.now) (places.pointer at.now) (view part.now)) }
 {
     match &rule.test {
         Test::Distinct(key) => match part.as_array() {
             Some(items) => add_twins(rule, key, items, at, found, alloc),
             None => Ok(()),
         },
-        Test::Among(first, second) => add_among(rule, first, second, part, at, found, alloc),
+        Test::Among(first, second) => add_among(rule, (first, second), part, at, found, alloc),
         _ => Ok(()),
     }
 }
@@ -57,17 +57,17 @@ fn add_unless<'a>(
     kept: bool,
     rule: &'a Rule<'a>,
     index: usize,
-    at: &str,
+    at: &Place<'_>,
     found: &mut Vec<Broken<'a>>,
     alloc: Global,
 ) -> Result<(), AllocError>
-    ensures { OnOk result (map told found.new.items ≡ map told found.old.items ++ unless kept (rule_of rule.now) (index_under at.now index)) }
+    ensures { OnOk result (map told found.new.items ≡ map told found.old.items ++ unless kept (rule_of rule.now) (places.under_index (places.pointer at.now) index)) }
 {
     if kept {
         return Ok(());
     }
-    let place = under_index(alloc, at, index)?;
-    push(rule, place.as_str(), found, alloc)
+    let place = Place::Item(&*at, index);
+    push(rule, &place, found, alloc)
 }
 
 /// Whether the string, if there is one, is in the set.
@@ -95,11 +95,11 @@ fn add_twins<'a>(
     rule: &'a Rule<'a>,
     key: &Key,
     items: &Vec<Value>,
-    at: &str,
+    at: &Place<'_>,
     found: &mut Vec<Broken<'a>>,
     alloc: Global,
 ) -> Result<(), AllocError>
-    ensures { OnOk result (map told found.new.items ≡ map told found.old.items ++ twins (rule_of rule.now) (key_for key.now) at.now 0 no_text (items_view items.now.items)) }
+    ensures { OnOk result (map told found.new.items ≡ map told found.old.items ++ twins (rule_of rule.now) (key_for key.now) (places.pointer at.now) 0 no_text (items_view items.now.items)) }
 {
     let mut before = BTreeSet::new(alloc);
     for (index, item) in items.iter().enumerate() {
@@ -110,24 +110,24 @@ fn add_twins<'a>(
     Ok(())
 }
 
-/// Adds each string of the array under the first name that is not in the array under the second.
+/// Adds each string of the array under the first of the names that is not in the array under the second.
 fn add_among<'a>(
     rule: &'a Rule<'a>,
-    first: &str,
-    second: &str,
+    names: (&str, &str),
     part: &Value,
-    at: &str,
+    at: &Place<'_>,
     found: &mut Vec<Broken<'a>>,
     alloc: Global,
 ) -> Result<(), AllocError>
-    ensures { OnOk result (map told found.new.items ≡ map told found.old.items ++ others_of (rule_of rule.now) (has_text (unwrap_or (parts.items_at second.now (view part.now)) no_items)) (name_under at.now first.now) (parts.items_at first.now (view part.now))) }
+    ensures { OnOk result (map told found.new.items ≡ map told found.old.items ++ others_of (rule_of rule.now) (has_text (unwrap_or (parts.items_at names.entry.1.now (view part.now)) no_items)) (places.under_name (places.pointer at.now) names.entry.0.now) (parts.items_at names.entry.0.now (view part.now))) }
 {
+    let (first, second) = names;
     let Some(items) = items_at(part, first) else {
         return Ok(());
     };
     let known = texts_of(items_at(part, second), alloc)?;
-    let place = under_name(alloc, at, first)?;
-    add_others(rule, &known, items, place.as_str(), found, alloc)
+    let place = Place::Member(&*at, first);
+    add_others(rule, &known, items, &place, found, alloc)
 }
 
 /// The strings of the items, if there are any.
@@ -168,11 +168,11 @@ fn add_others<'a>(
     rule: &'a Rule<'a>,
     known: &BTreeSet<String>,
     items: &Vec<Value>,
-    at: &str,
+    at: &Place<'_>,
     found: &mut Vec<Broken<'a>>,
     alloc: Global,
 ) -> Result<(), AllocError>
-    ensures { OnOk result (map told found.new.items ≡ map told found.old.items ++ others (rule_of rule.now) (contains_text known.now) at.now 0 (items_view items.now.items)) }
+    ensures { OnOk result (map told found.new.items ≡ map told found.old.items ++ others (rule_of rule.now) (contains_text known.now) (places.pointer at.now) 0 (items_view items.now.items)) }
 {
     for (index, item) in items.iter().enumerate() {
         add_unless(is_known(known, item), rule, index, at, found, alloc)?;

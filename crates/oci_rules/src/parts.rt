@@ -4,7 +4,7 @@ ghost use Rattle.serde_json.specs.Events.{items_len, members_len};
 ghost use Rattle.serde_json.specs.Find.{as_array, as_object, as_str};
 ghost use Rattle.serde_json.specs.View.{view, items_view};
 ghost use Rattle.oci_model.specs.Means.{as_whole};
-ghost use Rattle.oci_rules.specs.Decided.{has as does_have};
+ghost use Rattle.oci_rules.specs.Decided.{has as does_have, is_set as is_set_in, is_empty, has_null};
 ghost use Rattle.oci_rules.specs.Parts as parts;
 ghost use Rattle.oci_rules.specs.Tables.{texts_of};
 
@@ -29,6 +29,45 @@ pub fn has(value: &Value, name: &str) -> bool
     ensures { result ≡ does_have (view value.now) name.now }
 {
     present(value, name).is_some()
+}
+
+/// Whether the value has a member of this name that is not null, nor an empty string.
+pub fn is_set(value: &Value, name: &str) -> bool
+    ensures { result ≡ is_set_in (view value.now) name.now }
+{
+    match present(value, name) {
+        Some(member) => !is_empty_text(member),
+        None => false,
+    }
+}
+
+fn is_empty_text(value: &Value) -> bool
+    ensures { result ≡ is_empty (view value.now) }
+{
+    match value.as_str() {
+        Some(text) => text.is_empty(),
+        None => false,
+    }
+}
+
+/// Whether the value has a member of this name that is null.
+pub fn is_null_at(value: &Value, name: &str) -> bool
+    ensures { result ≡ has_null name.now (view value.now) }
+{
+    match value.get(name) {
+        Some(member) => member.is_null(),
+        None => false,
+    }
+}
+
+/// Whether the value has `true` under this name.
+pub fn is_true_at(value: &Value, name: &str) -> bool
+    ensures { result ≡ parts.is_true name.now (view value.now) }
+{
+    match value.get(name) {
+        Some(member) => member.as_bool() == Some(true),
+        None => false,
+    }
 }
 
 /// What the names lead to, unless it is null.
@@ -91,6 +130,16 @@ pub fn items_at<'v>(value: &'v Value, name: &str) -> Option<&'v Vec<Value>>
 {
     match value.get(name) {
         Some(member) => member.as_array(),
+        None => None,
+    }
+}
+
+/// The array to which the names lead.
+pub fn items_led<'v>(value: &'v Value, way: &[&str]) -> Option<&'v Vec<Value>>
+    ensures { option_map (λ v. items_view v.now.items) result ≡ parts.items_led (texts_of way.now) (view value.now) }
+{
+    match led(value, way) {
+        Some(found) => found.as_array(),
         None => None,
     }
 }

@@ -1,19 +1,19 @@
 //! Whether a part passes a test, as far as its own items are not compared.
-ghost use Rattle.std.specs.Prelude.{◌≡◌, IfOk, string_bytes};
+ghost use Rattle.std.specs.Prelude.{◌≡◌, option_map};
 ghost use Rattle.std.specs.List.{list_any};
 ghost use Rattle.serde_json.specs.View.{view, items_view};
 ghost use Rattle.oci_grammars.specs.Tests.{is_of};
-ghost use Rattle.oci_rules.specs.Decided.{has as does_have, is_passed, begins_with as does_begin, is_at_most, is_sum_at_most, some_item, has_text_under as does_have_text};
-ghost use Rattle.oci_rules.specs.Listed.{shown_at};
+ghost use Rattle.oci_rules.specs.Decided.{has as does_have, is_passed, begins_with as does_begin, is_at_most, is_sum_at_most, is_as_many, some_item, has_text_under as does_have_text};
+ghost use Rattle.oci_rules.specs.Parts.{without};
 ghost use Rattle.oci_rules.specs.Tables.{texts_of, test_of};
 
 use crate::conditions::{has_text, is_among, is_in};
-use crate::parts::{extent, has, natural_at, text_at, whole, whole_at};
+use crate::parts::{
+    extent, has, is_null_at, is_true_at, items_led, natural_at, present, text_at, whole, whole_at,
+};
 use crate::rule::Test;
 use oci_grammars::Grammar;
-use oci_schema::place::under_name;
 use serde_json::Value;
-use std::alloc::{AllocError, Global};
 
 /// Whether the part passes the test; where a test compares items, nothing is asked here.
 pub fn passes(test: &Test, part: &Value) -> bool
@@ -50,6 +50,11 @@ pub fn passes(test: &Test, part: &Value) -> bool
         },
         Test::There(name) => !part.is_object() || has(part, name),
         Test::Absent(name) => !has(part, name),
+        Test::NotNull(name) => !is_null_at(part, name),
+        Test::BooleanMember(name) => match present(part, name) {
+            Some(member) => member.is_boolean(),
+            None => true,
+        },
         Test::Either(names) => !part.is_object() || has_one(part, names),
         Test::NotEmpty => match extent(part) {
             Some(length) => length != 0,
@@ -62,6 +67,9 @@ pub fn passes(test: &Test, part: &Value) -> bool
         Test::AtMost(first, second) => is_no_more(whole_at(part, first), whole_at(part, second)),
         Test::SumAtMost(first, second, most) => {
             is_sum_no_more(natural_at(part, first), natural_at(part, second), *most)
+        }
+        Test::AsMany(first, name, second) => {
+            are_as_many(name, items_led(part, first), items_led(part, second))
         }
         Test::Lists(texts) => match part.as_array() {
             Some(items) => has_text(texts, items),
@@ -123,6 +131,32 @@ fn is_sum_no_more(first: Option<u64>, second: Option<u64>, most: u64) -> bool
     }
 }
 
+/// Whether the first items without `true` under the name are as many as the second items, where both are there.
+fn are_as_many(name: &str, first: Option<&Vec<Value>>, second: Option<&Vec<Value>>) -> bool
+    ensures { result ≡ is_as_many name.now (option_map (λ v. items_view v.now.items) first.entry) (option_map (λ v. items_view v.now.items) second.entry) }
+{
+    match first {
+        Some(first) => match second {
+            Some(second) => count_without(name, first) == second.len(),
+            None => true,
+        },
+        None => true,
+    }
+}
+
+/// How many of the items do not have `true` under the name.
+fn count_without(name: &str, items: &Vec<Value>) -> usize
+    ensures { result ≡ without name.now (items_view items.now.items) }
+{
+    let mut count = 0;
+    for item in items {
+        if !is_true_at(item, name) {
+            count += 1;
+        }
+    }
+    count
+}
+
 /// Whether one of the items has this string under the name.
 fn has_text_under(name: &str, text: &str, items: &Vec<Value>) -> bool
     ensures { result ≡ some_item (does_have_text name.now text.now) (items_view items.now.items) }
@@ -141,17 +175,5 @@ fn is_text_at(name: &str, text: &str, item: &Value) -> bool
     match text_at(item, name) {
         Some(found) => text == found,
         None => false,
-    }
-}
-
-/// The pointer of what is shown of a part that does not pass.
-pub fn pointer_of(test: &Test, at: &str, alloc: Global) -> Result<String, AllocError>
-    ensures { IfOk result (λ s. string_bytes s ≡ shown_at (test_of test.now) at.now) }
-{
-    match test {
-        Test::There(name) | Test::Absent(name) | Test::AtMost(name, _) => under_name(
-            alloc, at, name,
-        ),
-        _ => String::from_str(alloc, at),
     }
 }

@@ -63,7 +63,7 @@ pub enum Predicate<'a> {
     /// It is an array with one of these strings.
     Lists(&'a [&'a str]),
     /// It is an array with an item that has one of the strings (second) under the name (first), each of the members (third), and
-    /// none of the members (fourth).
+    /// none of the members (fourth). A member that is an empty string is none.
     ListsItem(&'a str, &'a [&'a str], &'a [&'a str], &'a [&'a str]),
 }
 
@@ -127,6 +127,10 @@ pub enum Test<'a> {
     There(&'a str),
     /// An object has no such member; null is none.
     Absent(&'a str),
+    /// An object's member of this name, if it is there, is not null.
+    NotNull(&'a str),
+    /// An object's member of this name, if it is there, is a boolean; null is none.
+    BooleanMember(&'a str),
     /// An object has one of these members; null is none.
     Either(&'a [&'a str]),
     /// A string has a byte, an array an item, an object a member.
@@ -137,6 +141,9 @@ pub enum Test<'a> {
     AtMost(&'a str, &'a str),
     /// Of an object: the two members together are no larger than this, where both are integers that are not negative.
     SumAtMost(&'a str, &'a str, u64),
+    /// Of an object: the items of the array to which the first names lead, without those that have `true` under the name, are as
+    /// many as the items of the array to which the last names lead, where both arrays are there.
+    AsMany(&'a [&'a str], &'a str, &'a [&'a str]),
     /// An array has one of these strings.
     Lists(&'a [&'a str]),
     /// An array has an item with the second string under the first name.
