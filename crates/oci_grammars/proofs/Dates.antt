@@ -1,5 +1,5 @@
 -- What is a date and time is decided at its marks.
-use Rattle.std.proofs.Common.{◌≡◌, ◌≢◌, ℕ, ◌≤◌, ◌&&◌, ◌||◌, ◌⊎◌, Bool, true, false, List, [], ◌∷◌, ◌++◌, inl, inr, refl, sym, ap, ◌∙◌, subst, true≢false, lit≤}
+use Rattle.std.proofs.Common.{◌≡◌, ◌≢◌, ℕ, ◌≤◌, ◌&&◌, ◌||◌, ◌⊎◌, Bool, true, false, List, [], ◌∷◌, ◌++◌, inl, inr, refl, sym, ap, ◌∙◌, subst, true≢false, lit<}
 use Rattle.std.specs.Prelude.{codes, if◌then◌else◌, ◌==◌}
 use Rattle.std.specs.Bool.{Decides}
 use Rattle.std.specs.Char.{is_ascii_digit}
@@ -23,7 +23,7 @@ field_lacks mark count low high out t h = lacks_in is_ascii_digit mark out t h.0
 
 hour_minute_tells : Tells is_hour_minute IsHourMinute
 hour_minute_tells =
-    pair_tells colon (is_field 2 0 23) (is_field 2 0 59) (IsField 2 0 23) (IsField 2 0 59) (field_tells 2 0 23 (lit≤ tt) (lit≤ tt)) (field_tells 2 0 59 (lit≤ tt) (lit≤ tt))
+    pair_tells colon (is_field 2 0 23) (is_field 2 0 59) (IsField 2 0 23) (IsField 2 0 59) (field_tells 2 0 23 (lit< tt) (lit< tt)) (field_tells 2 0 59 (lit< tt) (lit< tt))
     (field_lacks colon 2 0 23 refl) refl
 
 offset_tells : Tells is_offset IsOffset
@@ -53,9 +53,9 @@ fraction_stops t (inr h) = subst (Stops is_ascii_digit) (sym h.spelled) refl
 time_tells : Tells is_time IsTime
 unfolding is_time
 time_tells =
-    pair_tells colon (is_field 2 0 23) _ (IsField 2 0 23) _ (field_tells 2 0 23 (lit≤ tt) (lit≤ tt))
-    (pair_tells colon (is_field 2 0 59) _ (IsField 2 0 59) _ (field_tells 2 0 59 (lit≤ tt) (lit≤ tt))
-    (run_tells is_ascii_digit (is_field 2 0 60) is_fraction_offset (IsField 2 0 60) IsFractionOffset (field_tells 2 0 60 (lit≤ tt) (lit≤ tt)) fraction_tells (λ x h. h.0.0) fraction_stops)
+    pair_tells colon (is_field 2 0 23) _ (IsField 2 0 23) _ (field_tells 2 0 23 (lit< tt) (lit< tt))
+    (pair_tells colon (is_field 2 0 59) _ (IsField 2 0 59) _ (field_tells 2 0 59 (lit< tt) (lit< tt))
+    (run_tells is_ascii_digit (is_field 2 0 60) is_fraction_offset (IsField 2 0 60) IsFractionOffset (field_tells 2 0 60 (lit< tt) (lit< tt)) fraction_tells (λ x h. h.0.0) fraction_stops)
     (field_lacks colon 2 0 59 refl) refl)
     (field_lacks colon 2 0 23 refl) refl
 
@@ -64,14 +64,14 @@ time_tells =
 parts_of : List ℕ → List ℕ → List ℕ → Bool
 parts_of y m d = is_counted is_ascii_digit 4 y && (is_field 2 1 12 m && is_field 2 1 (days_in (capped y) (capped m)) d)
 
-few_days : (y m : ℕ) → days_in y m ≤ 65535
+few_days : (y m : ℕ) → days_in y m < 4294967296
 few_days y m = go (m == 2) (is_leap y) ((m == 4) || (m == 6) || (m == 9) || (m == 11))
   where
-    go : (february leap short : Bool) → (if february then (if leap then 29 else 28) else (if short then 30 else 31)) ≤ 65535
-    go true true s = lit≤ tt
-    go true false s = lit≤ tt
-    go false l true = lit≤ tt
-    go false l false = lit≤ tt
+    go : (february leap short : Bool) → (if february then (if leap then 29 else 28) else (if short then 30 else 31)) < 4294967296
+    go true true s = lit< tt
+    go true false s = lit< tt
+    go false l true = lit< tt
+    go false l false = lit< tt
 
 abbrev AreParts : List ℕ → List ℕ → List ℕ → Type 0
 AreParts y m d = IsCounted is_ascii_digit 4 y × IsField 2 1 12 m × IsField 2 1 (days_in (number_of y) (number_of m)) d
@@ -88,13 +88,13 @@ parts_tell y m d = (there, held)
         let k = both _ _ e in
         let l = both _ _ k.1 in
         let a = (counted_tells is_ascii_digit 4 y).0 k.0 in
-        let b = (field_tells 2 1 12 (lit≤ tt) (lit≤ tt) m).0 l.0 in
-        (a, b, (field_tells 2 1 (days_in (number_of y) (number_of m)) (lit≤ tt) (few_days (number_of y) (number_of m)) d).0 (sym (ap (λ z. is_field 2 1 z d) (days a b)) ∙ l.1))
+        let b = (field_tells 2 1 12 (lit< tt) (lit< tt) m).0 l.0 in
+        (a, b, (field_tells 2 1 (days_in (number_of y) (number_of m)) (lit< tt) (few_days (number_of y) (number_of m)) d).0 (sym (ap (λ z. is_field 2 1 z d) (days a b)) ∙ l.1))
 
     held : AreParts y m d → parts_of y m d ≡ true
     held (a, b, c) =
-        also _ _ ((counted_tells is_ascii_digit 4 y).1 a) (also _ _ ((field_tells 2 1 12 (lit≤ tt) (lit≤ tt) m).1 b)
-        (ap (λ z. is_field 2 1 z d) (days a b) ∙ (field_tells 2 1 (days_in (number_of y) (number_of m)) (lit≤ tt) (few_days (number_of y) (number_of m)) d).1 c))
+        also _ _ ((counted_tells is_ascii_digit 4 y).1 a) (also _ _ ((field_tells 2 1 12 (lit< tt) (lit< tt) m).1 b)
+        (ap (λ z. is_field 2 1 z d) (days a b) ∙ (field_tells 2 1 (days_in (number_of y) (number_of m)) (lit< tt) (few_days (number_of y) (number_of m)) d).1 c))
 
 -- the test by the parts
 by_parts : (t y m d : List ℕ) → until dash t ≡ y → until dash (after dash t) ≡ m → after dash (after dash t) ≡ d → is_date t ≡ parts_of y m d

@@ -14,6 +14,7 @@ pub mod NameGrammars
 pub mod Numerals
 pub mod PathGrammars
 pub mod SettingGrammars
+pub mod SignalGrammars
 pub mod Splits
 pub mod Taken
 pub mod UriBytes

@@ -1,6 +1,6 @@
 -- Paths are decided by their first bytes and at their marks.
-use Rattle.std.proofs.Common.{◌≡◌, ℕ, ◌-◌, ◌&&◌, List, ◌++◌, Bool, false, length, take, drop, refl, sym, ap, ◌∙◌}
-use Rattle.std.specs.Prelude.{codes, bytes_eq, nat_eq}
+use Rattle.std.proofs.Common.{◌≡◌, ℕ, ◌-◌, ◌&&◌, not, List, ◌++◌, Bool, true, false, length, take, drop, refl, sym, ap, ◌∙◌, subst, inl, inr}
+use Rattle.std.specs.Prelude.{codes, bytes_eq, nat_eq, ◌==◌}
 use Rattle.std.specs.Bool.{Decides}
 use Rattle.std.specs.Char.{is_ascii_alphabetic, is_ascii_hexdigit}
 use Rattle.std.specs.List.{ends_with}
@@ -8,20 +8,20 @@ use Rattle.std.proofs.lemmas.Bool.Decides.{Decides-and, Decides-or, Decides-not}
 use Rattle.std.proofs.lemmas.List.{take-append-drop}
 use Rattle.std.proofs.lemmas.List.Prefix.{end_rest}
 use Rattle.std.proofs.lemmas.Slice.Eq.{bytes_eq-Decides}
-use Rattle.oci_base.specs.Classes.{dash, slash, colon, until, after}
+use Rattle.oci_base.specs.Classes.{dash, slash, colon, until, after, IsSomeOf}
 use Rattle.oci_base.proofs.Lacks.{Lacks, lacks_in}
-use Rattle.oci_grammars.specs.Classes.{is_not_nul, is_not_slash, is_path_separator}
-use Rattle.oci_grammars.specs.Decided.{begins_with, is_counted, is_headed, is_hex, is_windows_path, is_guid, is_volume_guid_path, is_unc_path, is_rootfs_path, is_no_parent, are_joined, part_of}
+use Rattle.oci_grammars.specs.Classes.{is_not_nul, is_not_slash, is_path_separator, is_share_byte}
+use Rattle.oci_grammars.specs.Decided.{begins_with, is_counted, is_headed, is_hex, is_some_of, is_drive_path, is_path_end, is_share, is_behind_separator, is_server, is_server_share, is_unc_share, is_volume_path, is_long_path, is_pipe, is_windows_path, is_guid, is_volume_guid_path, is_unc_path, is_rootfs_path, is_no_parent, are_joined, part_of}
 use Rattle.oci_grammars.specs.Parts.{IsCounted, IsHeaded, IsPair}
-use Rattle.oci_grammars.specs.Paths.{IsAbsolutePath, IsWindowsPath, IsHex, IsGuid, IsVolumeGuidPath, IsUncPath, IsRootfsPath, IsNoParent, IsWithoutParents}
+use Rattle.oci_grammars.specs.Paths.{IsAbsolutePath, IsDrivePath, IsPathEnd, IsShare, IsBehindSeparator, IsServer, IsServerShare, IsUncShare, IsLongPath, IsPipe, IsWindowsPath, IsHex, IsGuid, IsVolumeGuidPath, IsUncPath, IsRootfsPath, IsNoParent, IsWithoutParents}
 use Rattle.oci_grammars.specs.declared.parts.Part.TheVariants.{NotParent}
-use Rattle.oci_grammars.proofs.Deciding.{Tells, in_tells, counted_tells, headed_tells, pair_tells, pair_lacks, behind_tells, any_behind_tells, joined_tells}
+use Rattle.oci_grammars.proofs.Deciding.{Tells, Stops, in_tells, some_tells, empty_tells, run_tells, counted_tells, headed_tells, pair_tells, pair_lacks, behind_tells, any_behind_tells, joined_tells}
 
 pub absolute_path : Tells (begins_with (codes "/")) IsAbsolutePath
 absolute_path = any_behind_tells (codes "/")
 
-pub windows_path : Tells is_windows_path IsWindowsPath
-windows_path =
+drive_path : Tells is_drive_path IsDrivePath
+drive_path =
     pair_tells colon (is_counted is_ascii_alphabetic 1) (is_headed is_path_separator is_not_nul) (IsCounted is_ascii_alphabetic 1) (IsHeaded is_path_separator is_not_nul)
     (counted_tells is_ascii_alphabetic 1) (headed_tells is_path_separator is_not_nul) (λ x h. lacks_in is_ascii_alphabetic colon refl x h.0) refl
 
@@ -77,6 +77,58 @@ pub volume_guid_path : Tells is_volume_guid_path IsVolumeGuidPath
 volume_guid_path =
     behind_tells (λ t. is_guid (until 125 t) && bytes_eq (after 125 t) (codes "\\")) (IsPair 125 IsGuid IsEnd)
     (pair_tells 125 is_guid (λ t. bytes_eq t (codes "\\")) IsGuid IsEnd guid (λ t. bytes_eq-Decides t (codes "\\")) guid_lacks refl) (codes "\\\\?\\Volume{")
+
+-- ---- absolute paths of Windows
+
+end_tells : Tells is_path_end IsPathEnd
+end_tells t = Decides-or _ _ (empty_tells t) (headed_tells is_path_separator is_not_nul t)
+
+separator_stops : (b : ℕ) → is_path_separator b ≡ true → is_share_byte b ≡ false
+separator_stops b h = ap (λ z. not z && not (b == 0)) h
+
+end_stops : (t : List ℕ) → IsPathEnd t → Stops is_share_byte t
+end_stops t (inl e) = subst (Stops is_share_byte) (sym e) tt
+end_stops t (inr h) = subst (Stops is_share_byte) (sym h.spelled) (separator_stops h.first h.begins)
+
+share_tells : Tells is_share IsShare
+share_tells = run_tells is_share_byte (is_some_of is_share_byte) is_path_end (IsSomeOf is_share_byte) IsPathEnd (some_tells is_share_byte) end_tells (λ x h. h.1) end_stops
+
+behind_separator : Tells is_behind_separator IsBehindSeparator
+behind_separator t = Decides-or _ _ (behind_tells is_share IsShare share_tells (codes "\\") t) (behind_tells is_share IsShare share_tells (codes "/") t)
+
+behind_stops : (t : List ℕ) → IsBehindSeparator t → Stops is_share_byte t
+behind_stops t (inl h) = subst (Stops is_share_byte) (sym h.spelled) refl
+behind_stops t (inr h) = subst (Stops is_share_byte) (sym h.spelled) refl
+
+server_tells : Tells is_server IsServer
+server_tells t =
+    Decides-and _ _ (some_tells is_share_byte t) (Decides-and _ _ (Decides-not _ (bytes_eq-Decides t (codes "."))) (Decides-not _ (bytes_eq-Decides t (codes "?"))))
+
+server_share : Tells is_server_share IsServerShare
+server_share = run_tells is_share_byte is_server is_behind_separator IsServer IsBehindSeparator server_tells behind_separator (λ x h. h.0.1) behind_stops
+
+unc_share : Tells is_unc_share IsUncShare
+unc_share t =
+    Decides-or _ _ (behind_tells is_server_share IsServerShare server_share (codes "\\\\") t) (behind_tells is_server_share IsServerShare server_share (codes "//") t)
+
+abbrev IsVolumePath : List ℕ → Type 0
+IsVolumePath t = IsPair 125 IsGuid (IsHeaded is_path_separator is_not_nul) t
+
+volume_path : Tells is_volume_path IsVolumePath
+volume_path =
+    pair_tells 125 is_guid (is_headed is_path_separator is_not_nul) IsGuid (IsHeaded is_path_separator is_not_nul) guid (headed_tells is_path_separator is_not_nul) guid_lacks refl
+
+long_path : Tells is_long_path IsLongPath
+long_path t =
+    Decides-or _ _ (behind_tells is_drive_path IsDrivePath drive_path (codes "\\\\?\\") t)
+    (Decides-or _ _ (behind_tells is_server_share IsServerShare server_share (codes "\\\\?\\UNC\\") t)
+    (behind_tells is_volume_path IsVolumePath volume_path (codes "\\\\?\\Volume{") t))
+
+pipe_tells : Tells is_pipe IsPipe
+pipe_tells = behind_tells (is_some_of is_not_nul) (IsSomeOf is_not_nul) (some_tells is_not_nul) (codes "\\\\.\\pipe\\")
+
+pub windows_path : Tells is_windows_path IsWindowsPath
+windows_path t = Decides-or _ _ (drive_path t) (Decides-or _ _ (unc_share t) (Decides-or _ _ (long_path t) (pipe_tells t)))
 
 -- ---- others
 

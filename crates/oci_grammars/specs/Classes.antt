@@ -4,7 +4,7 @@ use Rattle.std.specs.Char.{is_ascii_digit, is_ascii_alphabetic, is_ascii_alphanu
 use Rattle.std.specs.Int.{is_in_range}
 use Rattle.oci_base.specs.Classes.{dash, dot, slash, colon, underscore, has, is_word, is_host_byte, is_tag_byte}
 use Rattle.oci_grammars.specs.declared.classes.Class.{Class}
-use Rattle.oci_grammars.specs.declared.classes.Class.TheVariants.{Digit, Positive, Hex, Letter, LetterOrDigit, Capital, CapitalOrDigit, Capability, NameStart, Word, Label, Host, Tag, Restricted, Scheme, RegName, UserInfo, Path, Query, Address, Base64, IdByte, LicenseWord, Access, Scale, Context, Graphic, Interface, Separator, FileStart, NotSlash, NotColon, NotEquals, NotNul, NotLineFeed}
+use Rattle.oci_grammars.specs.declared.classes.Class.TheVariants.{Digit, Positive, Hex, Letter, LetterOrDigit, Capital, CapitalOrDigit, Capability, NameStart, Word, Label, Host, Tag, Restricted, Scheme, RegName, UserInfo, Path, Query, Address, Base64, IdByte, LicenseWord, Access, Scale, Context, Graphic, Interface, Separator, Share, RefName, FileStart, NotSlash, NotColon, NotEquals, NotNul, NotLineFeed}
 
 -- 1 to 9
 abbrev pub is_positive : ℕ → Bool
@@ -85,6 +85,14 @@ is_scale b = has b (codes "KMGTkmgt")
 abbrev pub is_path_separator : ℕ → Bool
 is_path_separator b = (b == 92) || (b == slash)
 
+-- a byte of a server's or a share's name
+abbrev pub is_share_byte : ℕ → Bool
+is_share_byte b = not (is_path_separator b) && not (b == 0)
+
+-- [A-Za-z0-9] and -._:@/+ (image specification, "Pre-Defined Annotation Keys", `org.opencontainers.image.ref.name`)
+abbrev pub is_ref_name_byte : ℕ → Bool
+is_ref_name_byte b = is_ascii_alphanumeric b || has b (codes "-._:@/+")
+
 abbrev pub is_file_start : ℕ → Bool
 is_file_start b = not (b == slash) && not (b == dot)
 
@@ -134,6 +142,8 @@ class_of Context b = is_context_byte b
 class_of Graphic b = is_ascii_graphic b
 class_of Interface b = is_interface_byte b
 class_of Separator b = is_path_separator b
+class_of Share b = is_share_byte b
+class_of RefName b = is_ref_name_byte b
 class_of FileStart b = is_file_start b
 class_of NotSlash b = is_not_slash b
 class_of NotColon b = is_not_colon b

@@ -1,9 +1,9 @@
 -- Texts of a container's configuration (runtime specification, "Linux Container Configuration" and "Solaris Application Container Configuration").
 use Rattle.std.specs.Prelude.{ℕ, ◌≡◌, ◌≢◌, ◌≤◌, ◌⊎◌, not, List, length, codes, IsTrue}
 use Rattle.std.specs.Char.{is_ascii_digit, is_ascii_graphic}
-use Rattle.oci_base.specs.Classes.{dot, colon, has, after, IsIn, IsSomeOf}
+use Rattle.oci_base.specs.Classes.{dot, colon, has, after, IsIn, IsSomeOf, IsMark, IsJoined}
 use Rattle.oci_grammars.specs.Classes.{is_access_byte, is_capability_byte, is_context_byte, is_file_start, is_interface_byte, is_not_slash, is_scale}
-use Rattle.oci_grammars.specs.Numbers.{IsPlainNumber}
+use Rattle.oci_grammars.specs.Numbers.{IsNumberOrRange, IsPlainNumber}
 use Rattle.oci_grammars.specs.Parts.{IsBehind, IsExtended, IsPair, IsRun}
 
 -- `KB`, `MB` or `GB`
@@ -18,6 +18,10 @@ IsPageSize text = IsRun IsPlainNumber IsPageUnit text
 abbrev pub IsSelinuxLabel : List ℕ → Type 0
 IsSelinuxLabel text =
     IsPair colon (IsSomeOf is_context_byte) (IsPair colon (IsSomeOf is_context_byte) (IsExtended colon (IsSomeOf is_context_byte) (IsSomeOf is_ascii_graphic))) text
+
+-- a CPU list that the kernel takes: numbers of 32 bits, and ranges that do not descend (Linux, lib/bitmap-str.c, bitmap_parselist: else EOVERFLOW, EINVAL)
+abbrev pub IsAscendingCpuList : List ℕ → Type 0
+IsAscendingCpuList text = IsJoined (IsMark 44) (IsNumberOrRange 0 4294967295) text
 
 -- neither `.` nor `..`
 abbrev pub IsNoDots : List ℕ → Type 0

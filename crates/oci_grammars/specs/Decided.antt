@@ -1,12 +1,12 @@
 -- What the deciders compute. That it is what the grammars say is proved, and only the grammars stand in public contracts.
 use Rattle.std.specs.Prelude.{ℕ, ◌+◌, ◌-◌, ◌*◌, ◌%◌, ◌&&◌, ◌||◌, ◌==◌, Bool, false, not, List, [], ◌∷◌, length, drop, nat_le, nat_eq, min, codes, bytes_eq, if◌then◌else◌}
-use Rattle.std.specs.Char.{is_ascii_digit, is_ascii_alphabetic, is_ascii_alphanumeric, is_ascii_uppercase, is_ascii_graphic, is_ascii_hexdigit}
+use Rattle.std.specs.Char.{is_ascii_digit, is_ascii_alphabetic, is_ascii_alphanumeric, is_ascii_graphic, is_ascii_hexdigit}
 use Rattle.std.specs.List.{fold, list_all, slice_split, starts_with, ends_with}
 use Rattle.oci_base.specs.Classes.{plus, dash, dot, slash, colon, has, until, after, is_word, is_host_byte, is_tag_byte}
-use Rattle.oci_grammars.specs.Classes.{is_positive, is_restricted_byte, is_capital_or_digit, is_name_start, is_label_byte, is_base64_byte, is_context_byte, is_interface_byte, is_capability_byte, is_access_byte, is_scale, is_path_separator, is_file_start, is_not_slash, is_not_colon, is_not_equals, is_not_nul}
+use Rattle.oci_grammars.specs.Classes.{is_positive, is_restricted_byte, is_name_start, is_label_byte, is_base64_byte, is_context_byte, is_interface_byte, is_capability_byte, is_access_byte, is_scale, is_path_separator, is_share_byte, is_file_start, is_not_slash, is_not_colon, is_not_equals, is_not_nul}
 use Rattle.oci_grammars.specs.DecidedNames.{is_ref_component, is_path_component, is_host_label}
 use Rattle.oci_grammars.specs.declared.parts.Part.{Part}
-use Rattle.oci_grammars.specs.declared.parts.Part.TheVariants.{KeyLabel, PreIdentifier, BuildIdentifier, NotParent, RefComponent, PathComponent, HostLabel}
+use Rattle.oci_grammars.specs.declared.parts.Part.TheVariants.{KeyLabel, PreIdentifier, BuildIdentifier, NotParent, RefComponent, PathComponent, HostLabel, PortSpec, CpuRange}
 use Rattle.oci_grammars.specs.DateTimes.{days_in}
 
 -- ---- parts
@@ -32,9 +32,9 @@ back_in class (b ∷ text) = if class b then back_in class text else b ∷ text
 
 -- ---- numbers
 
--- the number that digits write, or 65,536 where it is larger
+-- the number that digits write, or 2^32 where it is larger
 abbrev pub capped_from : ℕ → List ℕ → ℕ
-capped_from n digits = fold (λ n b. min (n * 10 + (b - 48)) 65536) n digits
+capped_from n digits = fold (λ n b. min (n * 10 + (b - 48)) 4294967296) n digits
 
 unfoldable pub capped : List ℕ → ℕ
 capped digits = capped_from 0 digits
@@ -44,6 +44,11 @@ is_within low high n = nat_le low n && nat_le n high
 
 abbrev pub is_number : ℕ → ℕ → List ℕ → Bool
 is_number low high text = is_some_of is_ascii_digit text && is_within low high (capped text)
+
+abbrev pub is_number_or_range : ℕ → ℕ → List ℕ → Bool
+is_number_or_range low high text =
+    is_number low high (until dash text)
+    && (not (has dash text) || (is_number low high (after dash text) && nat_le (capped (until dash text)) (capped (after dash text))))
 
 abbrev pub is_field : ℕ → ℕ → ℕ → List ℕ → Bool
 is_field count low high text = is_counted is_ascii_digit count text && is_within low high (capped text)
@@ -88,6 +93,14 @@ is_date_time_at mark text = is_date (until mark text) && is_time (after mark tex
 abbrev pub is_date_time : List ℕ → Bool
 is_date_time text = is_date_time_at 84 text || is_date_time_at 116 text
 
+-- ---- ports
+
+abbrev pub is_protocol : List ℕ → Bool
+is_protocol text = bytes_eq text (codes "tcp") || (bytes_eq text (codes "udp") || bytes_eq text (codes "sctp"))
+
+abbrev pub is_port_spec : List ℕ → Bool
+is_port_spec text = is_number_or_range 1 65535 (until slash text) && (not (has slash text) || is_protocol (after slash text))
+
 -- ---- parts that are joined
 
 abbrev pub is_pre_identifier : List ℕ → Bool
@@ -104,6 +117,8 @@ part_of NotParent text = is_no_parent text
 part_of RefComponent text = is_ref_component text
 part_of PathComponent text = is_path_component text
 part_of HostLabel text = is_host_label text
+part_of PortSpec text = is_port_spec text
+part_of CpuRange text = is_number_or_range 0 4294967295 text
 
 abbrev pub are_joined : Part → ℕ → List ℕ → Bool
 are_joined part mark text = list_all (part_of part) (slice_split (λ b. b == mark) text)
@@ -121,8 +136,8 @@ is_media_type text = is_restricted_name (until slash text) && is_restricted_name
 abbrev pub begins_with : List ℕ → List ℕ → Bool
 begins_with prefix text = starts_with nat_eq text prefix
 
-abbrev pub is_windows_path : List ℕ → Bool
-is_windows_path text = is_counted is_ascii_alphabetic 1 (until colon text) && is_headed is_path_separator is_not_nul (after colon text)
+abbrev pub is_drive_path : List ℕ → Bool
+is_drive_path text = is_counted is_ascii_alphabetic 1 (until colon text) && is_headed is_path_separator is_not_nul (after colon text)
 
 abbrev pub is_hex : ℕ → List ℕ → Bool
 is_hex count text = is_counted is_ascii_hexdigit count text
@@ -137,6 +152,38 @@ is_guid text =
 abbrev pub is_volume_guid_path : List ℕ → Bool
 is_volume_guid_path text =
     starts_with nat_eq text (codes "\\\\?\\Volume{") && (is_guid (until 125 (drop 11 text)) && bytes_eq (after 125 (drop 11 text)) (codes "\\"))
+
+abbrev pub is_path_end : List ℕ → Bool
+is_path_end text = (length text == 0) || is_headed is_path_separator is_not_nul text
+
+abbrev pub is_share : List ℕ → Bool
+is_share text = is_some_of is_share_byte (front_in is_share_byte text) && is_path_end (back_in is_share_byte text)
+
+abbrev pub is_behind_separator : List ℕ → Bool
+is_behind_separator text = (begins_with (codes "\\") text && is_share (drop 1 text)) || (begins_with (codes "/") text && is_share (drop 1 text))
+
+abbrev pub is_server : List ℕ → Bool
+is_server text = is_some_of is_share_byte text && (not (bytes_eq text (codes ".")) && not (bytes_eq text (codes "?")))
+
+abbrev pub is_server_share : List ℕ → Bool
+is_server_share text = is_server (front_in is_share_byte text) && is_behind_separator (back_in is_share_byte text)
+
+abbrev pub is_unc_share : List ℕ → Bool
+is_unc_share text = (begins_with (codes "\\\\") text && is_server_share (drop 2 text)) || (begins_with (codes "//") text && is_server_share (drop 2 text))
+
+abbrev pub is_volume_path : List ℕ → Bool
+is_volume_path text = is_guid (until 125 text) && is_headed is_path_separator is_not_nul (after 125 text)
+
+abbrev pub is_long_path : List ℕ → Bool
+is_long_path text =
+    (begins_with (codes "\\\\?\\") text && is_drive_path (drop 4 text))
+    || ((begins_with (codes "\\\\?\\UNC\\") text && is_server_share (drop 8 text)) || (begins_with (codes "\\\\?\\Volume{") text && is_volume_path (drop 11 text)))
+
+abbrev pub is_pipe : List ℕ → Bool
+is_pipe text = begins_with (codes "\\\\.\\pipe\\") text && is_some_of is_not_nul (drop 9 text)
+
+abbrev pub is_windows_path : List ℕ → Bool
+is_windows_path text = is_drive_path text || (is_unc_share text || (is_long_path text || is_pipe text))
 
 abbrev pub is_unc_path : List ℕ → Bool
 is_unc_path text =
@@ -159,27 +206,8 @@ is_reverse_domain text = is_some_of is_label_byte (until dot text) && are_joined
 
 -- ---- an image's settings
 
-abbrev pub is_port_spec : List ℕ → Bool
-is_port_spec text =
-    is_number 1 65535 (until slash text)
-    && (not (has slash text) || (bytes_eq (after slash text) (codes "tcp") || bytes_eq (after slash text) (codes "udp")))
-
 abbrev pub is_user_spec : List ℕ → Bool
 is_user_spec text = is_some_of is_not_colon (until colon text) && (not (has colon text) || is_some_of is_not_colon (after colon text))
-
-abbrev pub is_real_time : List ℕ → List ℕ → Bool
-is_real_time prefix text = starts_with nat_eq text prefix && is_some_of is_ascii_digit (drop 9 text)
-
-abbrev pub is_signal_name : List ℕ → Bool
-is_signal_name text =
-    (starts_with nat_eq text (codes "SIG") && is_headed is_ascii_uppercase is_capital_or_digit (drop 3 text))
-    || (is_real_time (codes "SIGRTMIN+") text || is_real_time (codes "SIGRTMAX-") text)
-
-abbrev pub is_signal_number : List ℕ → Bool
-is_signal_number text = is_headed is_positive is_ascii_digit text && nat_le (capped text) 64
-
-abbrev pub is_signal : List ℕ → Bool
-is_signal text = is_signal_name text || is_signal_number text
 
 -- ---- a container's controls
 
@@ -255,6 +283,12 @@ are_no_parents text = are_joined NotParent slash text
 
 abbrev pub is_ref_name : List ℕ → Bool
 is_ref_name text = are_joined RefComponent slash text
+
+abbrev pub are_port_specs : List ℕ → Bool
+are_port_specs text = are_joined PortSpec 44 text
+
+abbrev pub are_cpu_ranges : List ℕ → Bool
+are_cpu_ranges text = are_joined CpuRange 44 text
 
 abbrev pub is_repository : List ℕ → Bool
 is_repository text = are_joined PathComponent slash text

@@ -1,7 +1,9 @@
 -- Which texts are of a grammar.
 use Rattle.std.specs.Prelude.{ℕ, List}
+use Rattle.oci_base.specs.Classes.{IsIn}
 use Rattle.oci_grammars.specs.Base64.{IsBase64}
-use Rattle.oci_grammars.specs.Controls.{IsCapabilityName, IsCgroupFile, IsDecimalNumber, IsDeviceAccess, IsInterfaceName, IsOneDirectory, IsPageSize, IsScaledNumber, IsSelinuxLabel}
+use Rattle.oci_grammars.specs.Classes.{is_ref_name_byte}
+use Rattle.oci_grammars.specs.Controls.{IsAscendingCpuList, IsCapabilityName, IsCgroupFile, IsDecimalNumber, IsDeviceAccess, IsInterfaceName, IsOneDirectory, IsPageSize, IsScaledNumber, IsSelinuxLabel}
 use Rattle.oci_grammars.specs.DateTimes.{IsDateTime}
 use Rattle.oci_grammars.specs.Entries.{IsEnvironmentEntry, IsNoNul, IsOneLine, IsPortableEntry, IsReverseDomain}
 use Rattle.oci_grammars.specs.Licenses.{IsSpdxExpression}
@@ -11,14 +13,16 @@ use Rattle.oci_reference.specs.Reference.{IsDomain, IsPath, IsTag}
 use Rattle.oci_base.specs.CpuList.{IsCpuList}
 use Rattle.oci_base.specs.Digest.{IsDigestText}
 use Rattle.oci_grammars.specs.RefNames.{IsFullReference, IsRefName, IsSomeReference}
-use Rattle.oci_grammars.specs.Settings.{IsPortSpec, IsSignal, IsUserSpec}
+use Rattle.oci_grammars.specs.Settings.{IsExposedPorts, IsPortSpec, IsUserSpec}
+use Rattle.oci_grammars.specs.Signals.{IsSignal}
 use Rattle.oci_grammars.specs.Uris.{IsHttpUri, IsUri}
 use Rattle.oci_grammars.specs.Versions.{IsSemver}
 use Rattle.oci_grammars.specs.declared.grammar.Grammar.{Grammar}
-use Rattle.oci_grammars.specs.declared.grammar.Grammar.TheVariants.{AbsolutePath, Base64, CapabilityName, CgroupFile, CpuList, DateTime, DecimalNumber, DeviceAccess, Digest, Domain, EnvironmentEntry, FullReference, Guid, HttpUri, InterfaceName, LocalDirectory, MediaType, NoNul, NoParent, OneDirectory, OneLine, PageSize, Port, PortableEntry, RefName, Reference, Repository, ReverseDomain, RootfsPath, ScaledNumber, SelinuxLabel, SemVer, Signal, SpdxExpression, Tag, Uri, User, VolumeGuidPath, WindowsPath}
+use Rattle.oci_grammars.specs.declared.grammar.Grammar.TheVariants.{AbsolutePath, AscendingCpuList, Base64, CapabilityName, CgroupFile, CpuList, DateTime, DecimalNumber, DeviceAccess, Digest, Domain, EnvironmentEntry, ExposedPorts, FullReference, Guid, HttpUri, InterfaceName, LocalDirectory, MediaType, NoNul, NoParent, OneDirectory, OneLine, PageSize, Port, PortableEntry, RefName, RefNameCharacters, Reference, Repository, ReverseDomain, RootfsPath, ScaledNumber, SelinuxLabel, SemVer, Signal, SpdxExpression, Tag, Uri, User, VolumeGuidPath, WindowsPath}
 
 abbrev pub IsOf : Grammar → List ℕ → Type 0
 IsOf AbsolutePath text = IsAbsolutePath text
+IsOf AscendingCpuList text = IsAscendingCpuList text
 IsOf Base64 text = IsBase64 text
 IsOf CapabilityName text = IsCapabilityName text
 IsOf CgroupFile text = IsCgroupFile text
@@ -29,6 +33,7 @@ IsOf DeviceAccess text = IsDeviceAccess text
 IsOf Digest text = IsDigestText text
 IsOf Domain text = IsDomain text
 IsOf EnvironmentEntry text = IsEnvironmentEntry text
+IsOf ExposedPorts text = IsExposedPorts text
 IsOf FullReference text = IsFullReference text
 IsOf Guid text = IsGuid text
 IsOf HttpUri text = IsHttpUri text
@@ -43,6 +48,7 @@ IsOf PageSize text = IsPageSize text
 IsOf Port text = IsPortSpec text
 IsOf PortableEntry text = IsPortableEntry text
 IsOf RefName text = IsRefName text
+IsOf RefNameCharacters text = IsIn is_ref_name_byte text
 IsOf Reference text = IsSomeReference text
 IsOf Repository text = IsPath text
 IsOf ReverseDomain text = IsReverseDomain text

@@ -5,6 +5,7 @@ pub mod DateTimes
 pub mod Decided
 pub mod DecidedLicenses
 pub mod DecidedNames
+pub mod DecidedSignals
 pub mod DecidedUris
 pub mod Entries
 pub mod FullTexts
@@ -16,6 +17,7 @@ pub mod Parts
 pub mod Paths
 pub mod RefNames
 pub mod Settings
+pub mod Signals
 pub mod Tests
 pub mod Uris
 pub mod Versions

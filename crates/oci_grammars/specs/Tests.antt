@@ -4,16 +4,18 @@ use Rattle.std.specs.List.{fold, list_all}
 use Rattle.oci_text.specs.CpuScan.{is_cpu_text}
 use Rattle.oci_reference.specs.Scanner.{start, step, found}
 use Rattle.oci_base.specs.Digest.{digest_refusal}
-use Rattle.oci_grammars.specs.Classes.{is_not_nul, is_not_line_feed}
-use Rattle.oci_grammars.specs.Decided.{are_no_parents, begins_with, is_base64, is_capability_name, is_cgroup_file, is_date_time, is_decimal_number, is_device_access, is_domain, is_environment_entry, is_guid, is_interface_name, is_media_type, is_one_directory, is_page_size, is_port_spec, is_portable_entry, is_ref_name, is_repository, is_reverse_domain, is_rootfs_path, is_scaled_number, is_selinux_label, is_semver, is_signal, is_tag, is_unc_path, is_user_spec, is_volume_guid_path, is_windows_path}
+use Rattle.oci_grammars.specs.Classes.{is_not_nul, is_not_line_feed, is_ref_name_byte}
+use Rattle.oci_grammars.specs.Decided.{are_cpu_ranges, are_no_parents, are_port_specs, begins_with, is_base64, is_capability_name, is_cgroup_file, is_date_time, is_decimal_number, is_device_access, is_domain, is_environment_entry, is_guid, is_interface_name, is_media_type, is_one_directory, is_page_size, is_port_spec, is_portable_entry, is_ref_name, is_repository, is_reverse_domain, is_rootfs_path, is_scaled_number, is_selinux_label, is_semver, is_tag, is_unc_path, is_user_spec, is_volume_guid_path, is_windows_path}
 use Rattle.oci_grammars.specs.DecidedLicenses.{is_spdx_expression}
+use Rattle.oci_grammars.specs.DecidedSignals.{is_signal}
 use Rattle.oci_grammars.specs.FullTexts.{is_full_text}
 use Rattle.oci_grammars.specs.DecidedUris.{is_http_uri, is_uri}
 use Rattle.oci_grammars.specs.declared.grammar.Grammar.{Grammar}
-use Rattle.oci_grammars.specs.declared.grammar.Grammar.TheVariants.{AbsolutePath, Base64, CapabilityName, CgroupFile, CpuList, DateTime, DecimalNumber, DeviceAccess, Digest, Domain, EnvironmentEntry, FullReference, Guid, HttpUri, InterfaceName, LocalDirectory, MediaType, NoNul, NoParent, OneDirectory, OneLine, PageSize, Port, PortableEntry, RefName, Reference, Repository, ReverseDomain, RootfsPath, ScaledNumber, SelinuxLabel, SemVer, Signal, SpdxExpression, Tag, Uri, User, VolumeGuidPath, WindowsPath}
+use Rattle.oci_grammars.specs.declared.grammar.Grammar.TheVariants.{AbsolutePath, AscendingCpuList, Base64, CapabilityName, CgroupFile, CpuList, DateTime, DecimalNumber, DeviceAccess, Digest, Domain, EnvironmentEntry, ExposedPorts, FullReference, Guid, HttpUri, InterfaceName, LocalDirectory, MediaType, NoNul, NoParent, OneDirectory, OneLine, PageSize, Port, PortableEntry, RefName, RefNameCharacters, Reference, Repository, ReverseDomain, RootfsPath, ScaledNumber, SelinuxLabel, SemVer, Signal, SpdxExpression, Tag, Uri, User, VolumeGuidPath, WindowsPath}
 
 unfoldable pub is_of : Grammar → List ℕ → Bool
 is_of AbsolutePath text = begins_with (codes "/") text
+is_of AscendingCpuList text = are_cpu_ranges text
 is_of Base64 text = is_base64 text
 is_of CapabilityName text = is_capability_name text
 is_of CgroupFile text = is_cgroup_file text
@@ -24,6 +26,7 @@ is_of DeviceAccess text = is_device_access text
 is_of Digest text = is_none (digest_refusal text)
 is_of Domain text = is_domain text
 is_of EnvironmentEntry text = is_environment_entry text
+is_of ExposedPorts text = are_port_specs text
 is_of FullReference text = is_full_text text
 is_of Guid text = is_guid text
 is_of HttpUri text = is_http_uri text
@@ -38,6 +41,7 @@ is_of PageSize text = is_page_size text
 is_of Port text = is_port_spec text
 is_of PortableEntry text = is_portable_entry text
 is_of RefName text = is_ref_name text
+is_of RefNameCharacters text = list_all is_ref_name_byte text
 is_of Reference text = is_some (found (fold step start text))
 is_of Repository text = is_repository text
 is_of ReverseDomain text = is_reverse_domain text

@@ -30,7 +30,7 @@ fn is_date(text: &[u8]) -> bool
     Class::Digit.has_count(year, 4) & (is_field(month, 2, 1, 12) & is_field(day, 2, 1, days))
 }
 
-fn days_in(year: u32, month: u32) -> u32
+fn days_in(year: u64, month: u64) -> u64
     ensures { result ≡ date.days_in year month }
 {
     match month {
@@ -40,7 +40,7 @@ fn days_in(year: u32, month: u32) -> u32
     }
 }
 
-fn is_leap(year: u32) -> bool
+fn is_leap(year: u64) -> bool
     ensures { result ≡ date.is_leap year }
 {
     (year % 4 == 0) & ((year % 100 != 0) | (year % 400 == 0))

@@ -15,7 +15,8 @@ use crate::media_type::is_media_type;
 use crate::names::{is_domain, is_full_reference, is_tag};
 use crate::parts::Part;
 use crate::paths::{is_guid, is_rootfs_path, is_unc_path, is_volume_guid_path, is_windows_path};
-use crate::settings::{is_port_spec, is_signal, is_user_spec};
+use crate::settings::{is_port_spec, is_user_spec};
+use crate::signals::is_signal;
 use crate::uris::{is_http_uri, is_uri};
 use crate::versions::is_semver;
 use oci_reference::parts;
@@ -26,6 +27,8 @@ use oci_text::{is_cpu_list, is_digest};
 pub enum Grammar {
     /// It begins with `/` (POSIX, XBD 3.2, "Absolute Pathname").
     AbsolutePath,
+    /// A CPU list as the kernel reads it: numbers of 32 bits, and ranges that do not descend (Linux, bitmap_parselist).
+    AscendingCpuList,
     /// Base64 with padding (RFC 4648, section 4).
     Base64,
     /// `CAP_` and capitals.
@@ -46,6 +49,8 @@ pub enum Grammar {
     Domain,
     /// `NAME=value`, with any name that is not empty.
     EnvironmentEntry,
+    /// Ports, joined by commas.
+    ExposedPorts,
     /// A reference that says its registry.
     FullReference,
     /// 32 hexadecimal digits in five groups (RFC 4122, section 3).
@@ -68,12 +73,14 @@ pub enum Grammar {
     OneLine,
     /// `64KB`, `2MB`, `1GB`.
     PageSize,
-    /// A port, `8080`, `8080/tcp` or `8080/udp`.
+    /// A port or a range of ports, `8080`, `8080/tcp`, `7000-7002/udp`, `9/sctp`.
     Port,
     /// `NAME=value`, with a name of POSIX (XBD 3.235).
     PortableEntry,
     /// The name of a reference (image specification, "Pre-Defined Annotation Keys").
     RefName,
+    /// The characters of a reference's name (image specification, "Pre-Defined Annotation Keys").
+    RefNameCharacters,
     /// A reference to an image (distribution specification, "Pulling manifests").
     Reference,
     /// The name of a repository (distribution specification, "Pulling manifests").
@@ -88,7 +95,7 @@ pub enum Grammar {
     SelinuxLabel,
     /// A semantic version (SemVer 2.0.0).
     SemVer,
-    /// A signal by its name or number, `SIGKILL`, `SIGRTMIN+3`, `15`.
+    /// A signal by its name or number, `SIGKILL`, `SIGRTMIN+3`, `kill`, `15`.
     Signal,
     /// A licence expression (SPDX specification 2.3, annex D), with identifiers by their shape.
     SpdxExpression,
@@ -100,7 +107,7 @@ pub enum Grammar {
     User,
     /// `\\?\Volume{GUID}\`.
     VolumeGuidPath,
-    /// A drive and a path from its root (Windows).
+    /// An absolute path of Windows: on a drive, a share or a volume, or of a named pipe.
     WindowsPath,
 }
 
@@ -112,6 +119,7 @@ impl Grammar {
         let bytes = text.as_bytes();
         match self {
             Grammar::AbsolutePath => bytes.starts_with(b"/"),
+            Grammar::AscendingCpuList => Part::CpuRange.joins(bytes, b','),
             Grammar::Base64 => is_base64(bytes),
             Grammar::CapabilityName => is_capability_name(bytes),
             Grammar::CgroupFile => is_cgroup_file(bytes),
@@ -122,6 +130,7 @@ impl Grammar {
             Grammar::Digest => is_digest(text),
             Grammar::Domain => is_domain(bytes),
             Grammar::EnvironmentEntry => is_environment_entry(bytes),
+            Grammar::ExposedPorts => Part::PortSpec.joins(bytes, b','),
             Grammar::FullReference => is_full_reference(text),
             Grammar::Guid => is_guid(bytes),
             Grammar::HttpUri => is_http_uri(bytes),
@@ -136,6 +145,7 @@ impl Grammar {
             Grammar::Port => is_port_spec(bytes),
             Grammar::PortableEntry => is_portable_entry(bytes),
             Grammar::RefName => Part::RefComponent.joins(bytes, b'/'),
+            Grammar::RefNameCharacters => Class::RefName.has_all(bytes),
             Grammar::Reference => parts(text).is_ok(),
             Grammar::Repository => Part::PathComponent.joins(bytes, b'/'),
             Grammar::ReverseDomain => is_reverse_domain(bytes),

@@ -15,6 +15,7 @@ mod numbers;
 mod parts;
 mod paths;
 mod settings;
+mod signals;
 mod uris;
 mod versions;
 

@@ -5,7 +5,8 @@ ghost use Rattle.oci_grammars.specs.Decided as decided;
 use crate::classes::Class;
 use crate::cuts::cut;
 use crate::names::{is_host_label, is_path_component, is_ref_component};
-use crate::numbers::is_numeric;
+use crate::numbers::{is_number_or_range, is_numeric};
+use crate::settings::is_port_spec;
 
 /// A part of a text.
 #[derive(Clone, Copy)]
@@ -17,6 +18,8 @@ pub(crate) enum Part {
     RefComponent,
     PathComponent,
     HostLabel,
+    PortSpec,
+    CpuRange,
 }
 
 impl Part {
@@ -31,6 +34,8 @@ impl Part {
             Part::RefComponent => is_ref_component(text),
             Part::PathComponent => is_path_component(text),
             Part::HostLabel => is_host_label(text),
+            Part::PortSpec => is_port_spec(text),
+            Part::CpuRange => is_number_or_range(text, 0, 4_294_967_295),
         }
     }
 

@@ -146,7 +146,8 @@ pub(crate) fn is_http_uri(text: &[u8]) -> bool
     is_uri(text) & (http & path.starts_with(b"//"))
 }
 
-fn is_any_case(text: &[u8], word: &[u8]) -> bool
+/// Returns whether the text is the word, but for the case of letters.
+pub(crate) fn is_any_case(text: &[u8], word: &[u8]) -> bool
     ensures { result ≡ decided.is_any_case word.now text.now }
 {
     text.eq_ignore_ascii_case(word)

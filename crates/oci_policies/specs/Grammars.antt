@@ -7,6 +7,7 @@ use Rattle.oci_grammars.specs.declared.grammar.Grammar.TheVariants as grammar
 abbrev pub grammars : List (List ℕ × Grammar)
 grammars =
     (codes "absolute-path", grammar.AbsolutePath) ∷
+    (codes "ascending-cpu-list", grammar.AscendingCpuList) ∷
     (codes "base64", grammar.Base64) ∷
     (codes "capability-name", grammar.CapabilityName) ∷
     (codes "cgroup-file", grammar.CgroupFile) ∷
@@ -17,6 +18,7 @@ grammars =
     (codes "digest", grammar.Digest) ∷
     (codes "domain", grammar.Domain) ∷
     (codes "environment-entry", grammar.EnvironmentEntry) ∷
+    (codes "exposed-ports", grammar.ExposedPorts) ∷
     (codes "full-reference", grammar.FullReference) ∷
     (codes "guid", grammar.Guid) ∷
     (codes "http-uri", grammar.HttpUri) ∷
@@ -31,6 +33,7 @@ grammars =
     (codes "port", grammar.Port) ∷
     (codes "portable-entry", grammar.PortableEntry) ∷
     (codes "ref-name", grammar.RefName) ∷
+    (codes "ref-name-characters", grammar.RefNameCharacters) ∷
     (codes "reference", grammar.Reference) ∷
     (codes "repository", grammar.Repository) ∷
     (codes "reverse-domain", grammar.ReverseDomain) ∷

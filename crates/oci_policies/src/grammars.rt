@@ -9,8 +9,9 @@ use crate::values::text;
 use oci_grammars::Grammar;
 use toml::Value;
 
-static GRAMMARS: [(&str, Grammar); 39] = [
+static GRAMMARS: [(&str, Grammar); 42] = [
     ("absolute-path", Grammar::AbsolutePath),
+    ("ascending-cpu-list", Grammar::AscendingCpuList),
     ("base64", Grammar::Base64),
     ("capability-name", Grammar::CapabilityName),
     ("cgroup-file", Grammar::CgroupFile),
@@ -21,6 +22,7 @@ static GRAMMARS: [(&str, Grammar); 39] = [
     ("digest", Grammar::Digest),
     ("domain", Grammar::Domain),
     ("environment-entry", Grammar::EnvironmentEntry),
+    ("exposed-ports", Grammar::ExposedPorts),
     ("full-reference", Grammar::FullReference),
     ("guid", Grammar::Guid),
     ("http-uri", Grammar::HttpUri),
@@ -35,6 +37,7 @@ static GRAMMARS: [(&str, Grammar); 39] = [
     ("port", Grammar::Port),
     ("portable-entry", Grammar::PortableEntry),
     ("ref-name", Grammar::RefName),
+    ("ref-name-characters", Grammar::RefNameCharacters),
     ("reference", Grammar::Reference),
     ("repository", Grammar::Repository),
     ("reverse-domain", Grammar::ReverseDomain),

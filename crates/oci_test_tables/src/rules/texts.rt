@@ -7,8 +7,9 @@ use std::alloc::Global;
 use std::fs;
 use std::rt::Files;
 
-static GRAMMARS: [(&str, Grammar); 39] = [
+static GRAMMARS: [(&str, Grammar); 42] = [
     ("AbsolutePath", Grammar::AbsolutePath),
+    ("AscendingCpuList", Grammar::AscendingCpuList),
     ("Base64", Grammar::Base64),
     ("CapabilityName", Grammar::CapabilityName),
     ("CgroupFile", Grammar::CgroupFile),
@@ -19,6 +20,7 @@ static GRAMMARS: [(&str, Grammar); 39] = [
     ("Digest", Grammar::Digest),
     ("Domain", Grammar::Domain),
     ("EnvironmentEntry", Grammar::EnvironmentEntry),
+    ("ExposedPorts", Grammar::ExposedPorts),
     ("FullReference", Grammar::FullReference),
     ("Guid", Grammar::Guid),
     ("HttpUri", Grammar::HttpUri),
@@ -33,6 +35,7 @@ static GRAMMARS: [(&str, Grammar); 39] = [
     ("Port", Grammar::Port),
     ("PortableEntry", Grammar::PortableEntry),
     ("RefName", Grammar::RefName),
+    ("RefNameCharacters", Grammar::RefNameCharacters),
     ("Reference", Grammar::Reference),
     ("Repository", Grammar::Repository),
     ("ReverseDomain", Grammar::ReverseDomain),

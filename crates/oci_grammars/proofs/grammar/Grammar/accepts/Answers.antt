@@ -5,7 +5,7 @@ use Rattle.std.proofs.lemmas.Bool.Decides.{Decides-at}
 use Rattle.oci_grammars.specs.Grammars.{IsOf}
 use Rattle.oci_grammars.specs.Tests.{is_of}
 use Rattle.oci_grammars.specs.declared.grammar.Grammar.{Grammar}
-use Rattle.oci_grammars.specs.declared.grammar.Grammar.TheVariants.{AbsolutePath, Base64, CapabilityName, CgroupFile, CpuList, DateTime, DecimalNumber, DeviceAccess, Digest, Domain, EnvironmentEntry, FullReference, Guid, HttpUri, InterfaceName, LocalDirectory, MediaType, NoNul, NoParent, OneDirectory, OneLine, PageSize, Port, PortableEntry, RefName, Reference, Repository, ReverseDomain, RootfsPath, ScaledNumber, SelinuxLabel, SemVer, Signal, SpdxExpression, Tag, Uri, User, VolumeGuidPath, WindowsPath}
+use Rattle.oci_grammars.specs.declared.grammar.Grammar.TheVariants.{AbsolutePath, AscendingCpuList, Base64, CapabilityName, CgroupFile, CpuList, DateTime, DecimalNumber, DeviceAccess, Digest, Domain, EnvironmentEntry, ExposedPorts, FullReference, Guid, HttpUri, InterfaceName, LocalDirectory, MediaType, NoNul, NoParent, OneDirectory, OneLine, PageSize, Port, PortableEntry, RefName, RefNameCharacters, Reference, Repository, ReverseDomain, RootfsPath, ScaledNumber, SelinuxLabel, SemVer, Signal, SpdxExpression, Tag, Uri, User, VolumeGuidPath, WindowsPath}
 use Rattle.oci_grammars.proofs.Grammars.{is_of_decides}
 use Rattle.oci_grammars.proofs.NameGrammars.{reference_decides}
 use Rattle.oci_grammars.proofs.grammar.Grammar.accepts.Goals as goal
@@ -20,6 +20,10 @@ at x g b t r e same k = is x g t r e (Decides-at r (is_of x t) (k ∙ ap (is_of 
 pub returns-in-AbsolutePath : goal.returns-in-AbsolutePath
 unfolding is_of
 returns-in-AbsolutePath c = at AbsolutePath c.args.self _ c.args.text.now _ c.in-AbsolutePath.is c.as_bytes-bytes.ensures.value (c.starts_with.ensures.value)
+
+pub returns-in-AscendingCpuList : goal.returns-in-AscendingCpuList
+unfolding is_of
+returns-in-AscendingCpuList c = at AscendingCpuList c.args.self _ c.args.text.now _ c.in-AscendingCpuList.is c.as_bytes-bytes.ensures.value (c.joins.ensures)
 
 pub returns-in-Base64 : goal.returns-in-Base64
 unfolding is_of
@@ -59,6 +63,10 @@ pub returns-in-EnvironmentEntry : goal.returns-in-EnvironmentEntry
 unfolding is_of
 returns-in-EnvironmentEntry c = at EnvironmentEntry c.args.self _ c.args.text.now _ c.in-EnvironmentEntry.is c.as_bytes-bytes.ensures.value (c.is_environment_entry.ensures)
 
+pub returns-in-ExposedPorts : goal.returns-in-ExposedPorts
+unfolding is_of
+returns-in-ExposedPorts c = at ExposedPorts c.args.self _ c.args.text.now _ c.in-ExposedPorts.is c.as_bytes-bytes.ensures.value (c.joins-in-ExposedPorts.ensures)
+
 pub returns-in-FullReference : goal.returns-in-FullReference
 returns-in-FullReference c = is FullReference c.args.self c.args.text.now _ c.in-FullReference.is (c.is_full_reference.ensures)
 
@@ -88,7 +96,7 @@ returns-in-NoNul c = at NoNul c.args.self _ c.args.text.now _ c.in-NoNul.is c.as
 
 pub returns-in-NoParent : goal.returns-in-NoParent
 unfolding is_of
-returns-in-NoParent c = at NoParent c.args.self _ c.args.text.now _ c.in-NoParent.is c.as_bytes-bytes.ensures.value (c.joins.ensures)
+returns-in-NoParent c = at NoParent c.args.self _ c.args.text.now _ c.in-NoParent.is c.as_bytes-bytes.ensures.value (c.joins-in-NoParent.ensures)
 
 pub returns-in-OneDirectory : goal.returns-in-OneDirectory
 unfolding is_of
@@ -113,6 +121,10 @@ returns-in-PortableEntry c = at PortableEntry c.args.self _ c.args.text.now _ c.
 pub returns-in-RefName : goal.returns-in-RefName
 unfolding is_of
 returns-in-RefName c = at RefName c.args.self _ c.args.text.now _ c.in-RefName.is c.as_bytes-bytes.ensures.value (c.joins-in-RefName.ensures)
+
+pub returns-in-RefNameCharacters : goal.returns-in-RefNameCharacters
+unfolding is_of
+returns-in-RefNameCharacters c = at RefNameCharacters c.args.self _ c.args.text.now _ c.in-RefNameCharacters.is c.as_bytes-bytes.ensures.value (c.has_all-in-RefNameCharacters.ensures)
 
 pub returns-in-Reference : goal.returns-in-Reference
 returns-in-Reference c = is Reference c.args.self c.args.text.now _ c.in-Reference.is (reference_decides c.args.text.now c.parts.result c.is_ok.result c.is_ok.ensures.value c.parts.ensures.ok c.parts.ensures.only)
