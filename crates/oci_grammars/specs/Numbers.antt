@@ -14,7 +14,7 @@ number_of digits = fold (λ n b. n * 10 + (b - 48)) 0 digits
 abbrev pub IsNumber : ℕ → ℕ → List ℕ → Type 0
 IsNumber low high text = IsSomeOf is_ascii_digit text × (low ≤ number_of text) × (number_of text ≤ high)
 
--- two such numbers with a dash between, of which the second is not the smaller
+-- two such numbers with a dash between, the second no smaller than the first
 pub record IsRange (low high : ℕ) (text : List ℕ) : Type 0 where
   pub first : List ℕ
   pub last : List ℕ

@@ -25,7 +25,7 @@ pub(crate) fn is_number(text: &[u8], low: u64, high: u64) -> bool
     Class::Digit.has_some(text) & ((low <= value) & (value <= high))
 }
 
-/// Returns whether the text is such a number, or two of them with `-` between, of which the second is not the smaller.
+/// Returns whether the text is such a number, or two of them with `-` between, the second no smaller than the first.
 pub(crate) fn is_number_or_range(text: &[u8], low: u64, high: u64) -> bool
     ensures { result ≡ decided.is_number_or_range low high text.now }
 {
