@@ -123,6 +123,8 @@ class Reader:
             return (word, self.texts(rest[0]))
         if word == "reserved":
             return (word, rest[0], self.texts(rest[1]))
+        if word == "spdx_identifiers":
+            return (word, self.texts(rest[0]), self.texts(rest[1]))
         if word == "within":
             return (word, int(rest[0]), int(rest[1]))
         if word == "at_least":
@@ -140,7 +142,7 @@ class Reader:
         if word == "as_many":
             first, name, second = rest
             return (word, way(first), name, way(second))
-        counts = {"begins": 1, "there": 1, "absent": 1, "not_null": 1, "boolean_member": 1, "not_empty": 0, "at_most": 2, "lists_item": 2, "among": 2}
+        counts = {"begins": 1, "there": 1, "absent": 1, "not_null": 1, "boolean_member": 1, "not_empty": 0, "at_most": 2, "versions_in_order": 2, "lists_item": 2, "among": 2}
         if counts.get(word) != len(rest):
             raise Wrong(f"no test {word} of {len(rest)}")
         return (word, *rest)

@@ -3,6 +3,7 @@ import glob
 import os
 
 from rule_books.expressions import Reader, Wrong, places
+from rule_books.tree import JOINED
 
 LEVELS = ("must", "stated", "should", "host")
 PLATFORMS = ("linux", "windows", "solaris", "vm", "zos", "freebsd")
@@ -158,6 +159,11 @@ class Model:
         """The lists that a crate's rules name."""
         named = {texts for it in self.descriptions_of(crate) for line in it.lines for texts in tuples(line)}
         return [name for name, texts in self.lists.items() if texts in named]
+
+    def joined_of(self, crate):
+        """The lists that a crate's rules name as words of one text."""
+        joined = {texts for it in self.descriptions_of(crate) for line in it.lines if line.test[0] in JOINED for texts in tuples(line)}
+        return [name for name, texts in self.lists.items() if texts in joined]
 
     def rules(self):
         """All descriptions of a name, by it, in the order of the files."""

@@ -33,7 +33,7 @@ def asked(test):
         return [("item", test[1])] if word == "lists_item" else [((), test[1])]
     if word == "as_many":
         return [((), test[1]), ((), test[3])]
-    if word in ("at_most", "among", "sum_at_most"):
+    if word in ("at_most", "versions_in_order", "among", "sum_at_most"):
         return [((), test[1]), ((), test[2])]
     if word == "either":
         return [((), it) for it in test[1]]

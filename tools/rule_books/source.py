@@ -104,8 +104,9 @@ def lists(model, crate):
     if any(it.platforms == POSIX for it in model.descriptions_of(crate)):
         out += f"use oci_rules::RuntimePlatform;\n\n/// All but Windows.\npub(crate) const POSIX: &[RuntimePlatform] = {array([f'RuntimePlatform::{VARIANTS[it]}' for it in POSIX])};\n"
     for name in model.lists_of(crate):
-        items = array([f'"{it}"' for it in model.lists[name]])
-        out += f"\n/// {model.list_about[name]}\npub(crate) const {name.upper()}: &[&str] = {items};\n"
+        joined = name in model.joined_of(crate)
+        kind, value = ("&str", f'"{" ".join(model.lists[name])}"') if joined else ("&[&str]", array([f'"{it}"' for it in model.lists[name]]))
+        out += f"\n/// {model.list_about[name]}\npub(crate) const {name.upper()}: {kind} = {value};\n"
     return out
 
 

@@ -8,8 +8,8 @@ from rule_books.tree import pascal
 PRELUDE = ("ℕ", "List", "[]", "◌∷◌", "◌++◌", "◌≡◌", "map", "codes", "pos", "negsuc", "true", "false")
 WORDS = ("Rule", "Platform", "linux", "windows", "solaris", "vm", "zos", "freebsd", "must", "stated", "should", "host", "here", "under", "each_item",
          "each_member", "each_name", "if_so", "asks", "the_part", "the_document", "is_there", "is_text", "is_truth", "is_within", "has_text", "has_item",
-         "text", "one_of", "none_of", "begins", "reserved", "within", "truth", "there", "absent", "not_null", "boolean_member", "either", "not_empty",
-         "length_at_most", "at_most", "sum_at_most", "as_many", "lists", "lists_item", "distinct", "among", "itself", "members", "entry_name", "beneath")
+         "text", "spdx_identifiers", "one_of", "none_of", "begins", "reserved", "within", "truth", "there", "absent", "not_null", "boolean_member", "either", "not_empty",
+         "length_at_most", "at_most", "versions_in_order", "sum_at_most", "as_many", "lists", "lists_item", "distinct", "among", "itself", "members", "entry_name", "beneath")
 
 
 class Specs(tree.Printer):
@@ -135,7 +135,10 @@ def lists(model, crate):
     if any(it.platforms == POSIX for it in model.descriptions_of(crate)):
         used.append(f"-- all but Windows\nabbrev pub posix : List Platform\nposix = {chain(POSIX)}\n")
     for name in model.lists_of(crate):
-        used.append(f"-- {model.list_about[name]}\nabbrev pub {name} : List (List ℕ)\n{name} =\n" + "".join(f'    codes "{it}" ∷\n' for it in model.lists[name]) + "    []\n")
+        if name in model.joined_of(crate):
+            used.append(f'-- {model.list_about[name]}\nabbrev pub {name} : List ℕ\n{name} = codes "{" ".join(model.lists[name])}"\n')
+        else:
+            used.append(f"-- {model.list_about[name]}\nabbrev pub {name} : List (List ℕ)\n{name} =\n" + "".join(f'    codes "{it}" ∷\n' for it in model.lists[name]) + "    []\n")
     text = "\n".join(used)
     named = [it for it in ("Platform", *PLATFORMS) if it in re.findall(r"\w+", re.sub(r'"[^"]*"', "", text))]
     rules = f"use Rattle.oci_rules.specs.Rules.{{{', '.join(named)}}}\n" if named else ""

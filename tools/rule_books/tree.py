@@ -1,7 +1,7 @@
 """Places, conditions and tests of rules as trees, which code and specs print alike.
 
 A tree is a Call of a word of the machinery with its arguments: strings, integers, booleans, tuples of strings (a list, by its name where it has
-one), and Natural, Listing or Call. A Printer has what is written for each of them.
+one), and Natural, Words, Listing or Call. A Printer has what is written for each of them.
 """
 from collections import namedtuple
 
@@ -9,6 +9,8 @@ from collections import namedtuple
 Call = namedtuple("Call", "type code spec arguments fields", defaults=((), ()))
 # a natural number; a plain integer is one of either sign
 Natural = namedtuple("Natural", "value")
+# words that are joined by spaces
+Words = namedtuple("Words", "items")
 # a list that is written out
 Listing = namedtuple("Listing", "items")
 
@@ -17,6 +19,8 @@ CHECKS = {"there": ("There", "is_there"), "one_of": ("OneOf", "is_text"), "boole
           "lists": ("Lists", "has_text"), "lists_item": ("ListsItem", "has_item")}
 STEPS = {"member": ("Member", "under"), "item": ("EachItem", "each_item"), "each": ("EachMember", "each_member"), "name": ("EachName", "each_name")}
 KEYS = {"itself": ("Itself", "itself"), "members": ("Members", "members"), "entry_name": ("EntryName", "entry_name")}
+# the tests whose lists are words of one text
+JOINED = ("spdx_identifiers",)
 # the words of tests whose names differ in specs
 TESTS = {"boolean": "truth"}
 
@@ -45,6 +49,8 @@ def argument(word, number, it):
         return Call("Grammar", it, it)
     if word == "distinct":
         return key(it)
+    if word in JOINED:
+        return Words(it)
     if word == "either" or (word == "as_many" and number != 1):
         return Listing(it)
     if word == "length_at_most" or (word == "sum_at_most" and number == 2):
@@ -72,6 +78,8 @@ class Printer:
             return self.text(it)
         if isinstance(it, Natural):
             return str(it.value)
+        if isinstance(it, Words):
+            return self.list_name(self.names[it.items]) if it.items in self.names else self.text(" ".join(it.items))
         if isinstance(it, Listing):
             return self.listing([self.shown(each) for each in it.items])
         if isinstance(it, Call):

@@ -8,6 +8,7 @@ pub mod EntryGrammars
 pub mod FirstCuts
 pub mod Grammars
 pub mod LicenseGrammar
+pub mod LicenseLists
 pub mod LicensePieces
 pub mod MediaTypeGrammar
 pub mod NameGrammars
@@ -20,3 +21,4 @@ pub mod Taken
 pub mod UriBytes
 pub mod UriGrammars
 pub mod VersionGrammars
+pub mod VersionOrder

@@ -1,12 +1,12 @@
 -- The first piece of a licence expression.
-use Rattle.std.proofs.Common.{◌≡◌, ◌≢◌, ℕ, ◌+◌, ◌-◌, ◌<◌, ◌≤◌, Bool, true, false, List, [], ◌∷◌, ◌++◌, Option, Some, None, length, take, drop, map, refl, sym, ap, ◌∙◌, true≢false, ne_eqb, length-append, arith}
+use Rattle.std.proofs.Common.{◌≡◌, ◌≢◌, ℕ, ◌+◌, ◌-◌, ◌<◌, ◌≤◌, Bool, true, false, List, [], ◌∷◌, ◌++◌, Option, Some, None, length, take, drop, map, option_map, refl, sym, ap, ◌∙◌, true≢false, ne_eqb, length-append, arith}
 use Rattle.std.specs.Prelude.{codes, bytes_eq, ◌==◌, if◌then◌else◌}
 use Rattle.std.specs.List.{fold, onto_first}
 use Rattle.std.proofs.lemmas.Bool.{eqb-true, eq-eqb}
 use Rattle.std.proofs.lemmas.Slice.Eq.{bytes_eq-Decides}
 use Rattle.oci_grammars.specs.Classes.{is_word_byte}
 use Rattle.oci_grammars.specs.Decided.{front_in, back_in}
-use Rattle.oci_grammars.specs.DecidedLicenses.{at, closed, next, next_by, after_piece, put_piece}
+use Rattle.oci_grammars.specs.DecidedLicenses.{at, closed, next, next_by, after_piece, put_word, put_piece}
 use Rattle.oci_grammars.specs.Licenses.{begins_word, pieces, kind_of, kinds}
 use Rattle.oci_grammars.specs.declared.licenses.Kind.{Kind}
 use Rattle.oci_grammars.specs.declared.licenses.Kind.TheVariants.{Name, License, Operator, With, OpenMark, CloseMark, NoKind}
@@ -61,22 +61,27 @@ some_word (b ∷ t) h = go (is_word_byte b) refl h
 apart : (n : ℕ) → (n == 0) ≡ false → n ≢ 0
 apart n h e = true≢false (sym (eq-eqb n 0 e) ∙ h)
 
-pub kinds_word : (t : List ℕ) → (length (front_in is_word_byte t) == 0) ≡ false → kinds t ≡ kind_of (front_in is_word_byte t) ∷ kinds (back_in is_word_byte t)
-kinds_word t h = ap (map kind_of) (word_first t (some_word t (apart (length (front_in is_word_byte t)) h)))
+pub pieces_word : (t : List ℕ) → (length (front_in is_word_byte t) == 0) ≡ false → pieces t ≡ front_in is_word_byte t ∷ pieces (back_in is_word_byte t)
+pieces_word t h = word_first t (some_word t (apart (length (front_in is_word_byte t)) h))
 
-pub kinds_space : (t : List ℕ) → (length (front_in is_word_byte t) == 0) ≡ true → bytes_eq (take 1 t) (codes " ") ≡ true → kinds t ≡ kinds (drop 1 t)
-kinds_space t h e = go t (no_word t (eqb-true (length (front_in is_word_byte t)) 0 h)) ((bytes_eq-Decides (take 1 t) (codes " ")).0 e)
+pub pieces_space : (t : List ℕ) → (length (front_in is_word_byte t) == 0) ≡ true → bytes_eq (take 1 t) (codes " ") ≡ true → pieces t ≡ pieces (drop 1 t)
+pieces_space t h e = go t (no_word t (eqb-true (length (front_in is_word_byte t)) 0 h)) ((bytes_eq-Decides (take 1 t) (codes " ")).0 e)
   where
-    go : (t : List ℕ) → begins_word t ≡ false → take 1 t ≡ 32 ∷ [] → kinds t ≡ kinds (drop 1 t)
+    go : (t : List ℕ) → begins_word t ≡ false → take 1 t ≡ 32 ∷ [] → pieces t ≡ pieces (drop 1 t)
     go [] h e = refl
-    go (b ∷ t) h e = let same : b ≡ 32 = cc e in ap (map kind_of) (space_first b t h (eq-eqb b 32 same))
+    go (b ∷ t) h e = let same : b ≡ 32 = cc e in space_first b t h (eq-eqb b 32 same)
 
-pub kinds_mark : (t : List ℕ) → 0 < length t → (length (front_in is_word_byte t) == 0) ≡ true → bytes_eq (take 1 t) (codes " ") ≡ false → kinds t ≡ kind_of (take 1 t) ∷ kinds (drop 1 t)
-kinds_mark t some h e = go t some (no_word t (eqb-true (length (front_in is_word_byte t)) 0 h)) (λ s. true≢false (sym ((bytes_eq-Decides (take 1 t) (codes " ")).1 s) ∙ e))
+pub pieces_mark : (t : List ℕ) → 0 < length t → (length (front_in is_word_byte t) == 0) ≡ true → bytes_eq (take 1 t) (codes " ") ≡ false → pieces t ≡ take 1 t ∷ pieces (drop 1 t)
+pieces_mark t some h e = go t some (no_word t (eqb-true (length (front_in is_word_byte t)) 0 h)) (λ s. true≢false (sym ((bytes_eq-Decides (take 1 t) (codes " ")).1 s) ∙ e))
   where
-    go : (t : List ℕ) → 0 < length t → begins_word t ≡ false → take 1 t ≢ 32 ∷ [] → kinds t ≡ kind_of (take 1 t) ∷ kinds (drop 1 t)
+    go : (t : List ℕ) → 0 < length t → begins_word t ≡ false → take 1 t ≢ 32 ∷ [] → pieces t ≡ take 1 t ∷ pieces (drop 1 t)
     go [] some h ne = absurd (omega (arith, some))
-    go (b ∷ t) some h ne = ap (map kind_of) (mark_first b t h (ne_eqb b 32 (λ e. ne (ap (λ z. z ∷ []) e))))
+    go (b ∷ t) some h ne = mark_first b t h (ne_eqb b 32 (λ e. ne (ap (λ z. z ∷ []) e)))
+
+-- the kinds of the pieces
+pub put_kinds : (o : Option (List ℕ)) (t rest : List ℕ) → pieces t ≡ put_word o (pieces rest) → kinds t ≡ put_piece (option_map kind_of o) (kinds rest)
+put_kinds None t rest e = ap (map kind_of) e
+put_kinds (Some word) t rest e = ap (map kind_of) e
 
 pub shorter_back : (t : List ℕ) → (length (front_in is_word_byte t) == 0) ≡ false → length (back_in is_word_byte t) < length t
 shorter_back t h =

@@ -1,5 +1,5 @@
 -- Signals are decided word by word, and at their marks.
-use Rattle.std.proofs.Common.{◌≡◌, ℕ, ◌&&◌, Bool, false, true, List, [], ◌∷◌, ◌++◌, length, take, drop, map, refl, sym, ap, ◌∙◌, subst, lit<, true≢false}
+use Rattle.std.proofs.Common.{◌≡◌, ◌<◌, ℕ, ◌&&◌, Bool, false, true, List, [], ◌∷◌, ◌++◌, length, take, drop, map, refl, sym, ap, ◌∙◌, subst, lit<, true≢false}
 use Rattle.std.specs.Prelude.{codes, bytes_eq}
 use Rattle.std.specs.Bool.{Decides}
 use Rattle.std.specs.Char.{is_ascii_digit, is_ascii_alphabetic, to_ascii_lowercase}
@@ -8,18 +8,18 @@ use Rattle.std.proofs.lemmas.List.{take-append-drop, length-map}
 use Rattle.std.proofs.lemmas.Slice.Eq.{bytes_eq-Decides}
 use Rattle.oci_base.specs.Classes.{plus, dash}
 use Rattle.oci_base.proofs.Lacks.{Lacks, both, lacks_in}
-use Rattle.oci_grammars.specs.DecidedSignals.{is_word_of, is_plain, is_real_time, is_bare_signal, is_signal_name, is_signal}
-use Rattle.oci_grammars.specs.DecidedUris.{is_any_case}
-use Rattle.oci_grammars.specs.Signals.{signal_words, IsWordOf, IsPlainUpTo, IsRealTime, IsBareSignal, IsSignalName, IsSignal}
+use Rattle.oci_grammars.specs.DecidedSignals.{is_plain, is_real_time, is_bare_signal, is_signal_name, is_signal}
+use Rattle.oci_grammars.specs.DecidedUris.{is_any_case, is_word_of}
+use Rattle.oci_grammars.specs.Signals.{signal_words, IsPlainUpTo, IsRealTime, IsBareSignal, IsSignalName, IsSignal}
 use Rattle.oci_grammars.specs.Parts.{IsRun}
-use Rattle.oci_grammars.specs.Uris.{IsAnyCase}
+use Rattle.oci_grammars.specs.Uris.{IsAnyCase, IsWordOf}
 use Rattle.oci_grammars.proofs.Deciding.{Tells, also, pair_tells}
 use Rattle.oci_grammars.proofs.Numerals.{plain_at_most}
 
 case_tells : (word : List ℕ) → Tells (is_any_case word) (IsAnyCase word)
 case_tells word t = bytes_eq-Decides (map to_ascii_lowercase t) (map to_ascii_lowercase word)
 
-word_tells : (words : List (List ℕ)) → Tells (is_word_of words) (IsWordOf words)
+pub word_tells : (words : List (List ℕ)) → Tells (is_word_of words) (IsWordOf words)
 word_tells [] t = ((λ e. absurd (true≢false (sym e))), (λ h. absurd h))
 word_tells (word ∷ words) t = Decides-or (is_any_case word t) (is_word_of words t) (case_tells word t) (word_tells words t)
 
@@ -48,7 +48,7 @@ bare_tells t = Decides-or _ _ (word_tells signal_words t) (real_time_tells t)
 -- ---- a word in front
 
 same_length : (word t : List ℕ) → IsAnyCase word t → length t ≡ length word
-same_length word t e = sym (length-map to_ascii_lowercase t) ∙ ap length e ∙ length-map to_ascii_lowercase word
+same_length word t e = sym (length-map t to_ascii_lowercase) ∙ ap length e ∙ length-map word to_ascii_lowercase
 
 cut_front : (x y : List ℕ) → (take (length x) (x ++ y) ≡ x) × (drop (length x) (x ++ y) ≡ y)
 cut_front [] y = (refl, refl)

@@ -9,7 +9,7 @@ use Rattle.oci_grammars.specs.declared.parts.Part.{Part}
 use Rattle.oci_grammars.proofs.Splits.{split_none, split_at}
 
 -- a text that has the mark, cut at the first
-split_first : (mark : ℕ) (t : List ℕ) → has mark t ≡ true → slice_split (λ b. b == mark) t ≡ until mark t ∷ slice_split (λ b. b == mark) (after mark t)
+pub split_first : (mark : ℕ) (t : List ℕ) → has mark t ≡ true → slice_split (λ b. b == mark) t ≡ until mark t ∷ slice_split (λ b. b == mark) (after mark t)
 split_first mark t h =
     let (x, y, free, e) = first_cut mark t h in
     let k = until_is mark x y free in

@@ -1,7 +1,9 @@
 -- What the decider of licence expressions computes.
-use Rattle.std.specs.Prelude.{ℕ, ◌+◌, ◌-◌, ◌&&◌, ◌==◌, Bool, true, false, List, ◌∷◌, Option, Some, None, if◌then◌else◌}
+use Rattle.std.specs.Prelude.{ℕ, ◌+◌, ◌-◌, ◌&&◌, ◌||◌, ◌==◌, not, Bool, true, false, List, [], ◌∷◌, codes, bytes_eq, Option, Some, None, if◌then◌else◌}
 use Rattle.std.specs.List.{fold}
-use Rattle.oci_grammars.specs.Licenses.{kinds}
+use Rattle.oci_base.specs.Classes.{plus, until}
+use Rattle.oci_grammars.specs.DecidedUris.{is_word_of}
+use Rattle.oci_grammars.specs.Licenses.{is_identifier, is_reference, pieces, kinds}
 use Rattle.oci_grammars.specs.declared.licenses.Kind.{Kind}
 use Rattle.oci_grammars.specs.declared.licenses.Kind.TheVariants.{Name, License, Operator, With, OpenMark, CloseMark, NoKind}
 use Rattle.oci_grammars.specs.declared.licenses.Phase.{Phase}
@@ -73,6 +75,11 @@ is_whole p = is_ended p.phase && (p.depth == 0)
 abbrev pub begun : Progress
 begun = at Wanted 0
 
+-- the pieces of a text whose first one was taken off
+abbrev pub put_word : Option (List ℕ) → List (List ℕ) → List (List ℕ)
+put_word None rest = rest
+put_word (Some word) rest = word ∷ rest
+
 -- a piece, or none
 abbrev pub after_piece : Progress → Option Kind → Progress
 after_piece p None = p
@@ -85,3 +92,17 @@ put_piece (Some kind) rest = kind ∷ rest
 
 unfoldable pub is_spdx_expression : List ℕ → Bool
 is_spdx_expression text = is_whole (fold next begun (kinds text))
+
+abbrev pub is_with : List ℕ → Bool
+is_with word = bytes_eq word (codes "WITH")
+
+abbrev pub is_listed : List (List ℕ) → List (List ℕ) → Bool → List ℕ → Bool
+is_listed licenses exceptions behind_with word =
+    if behind_with then is_word_of exceptions word else not (is_identifier word) || (is_reference word || is_word_of licenses (until plus word))
+
+abbrev pub are_listed : List (List ℕ) → List (List ℕ) → Bool → List (List ℕ) → Bool
+are_listed licenses exceptions behind_with [] = true
+are_listed licenses exceptions behind_with (word ∷ words) = is_listed licenses exceptions behind_with word && are_listed licenses exceptions (is_with word) words
+
+unfoldable pub has_listed : List (List ℕ) → List (List ℕ) → List ℕ → Bool
+has_listed licenses exceptions text = not (is_spdx_expression text) || are_listed licenses exceptions false (pieces text)

@@ -1,16 +1,11 @@
 -- What the decider of signals computes.
 use Rattle.std.specs.Prelude.{ℕ, ◌&&◌, ◌||◌, Bool, List, take, drop, nat_le, codes}
 use Rattle.std.specs.Char.{is_ascii_digit}
-use Rattle.std.specs.List.{list_any}
 use Rattle.oci_base.specs.Classes.{plus, dash, until, after}
 use Rattle.oci_grammars.specs.Classes.{is_positive}
 use Rattle.oci_grammars.specs.Decided.{capped, is_headed}
-use Rattle.oci_grammars.specs.DecidedUris.{is_any_case}
+use Rattle.oci_grammars.specs.DecidedUris.{is_any_case, is_word_of}
 use Rattle.oci_grammars.specs.Signals.{signal_words}
-
--- one of the words, but for the case of letters
-abbrev pub is_word_of : List (List ℕ) → List ℕ → Bool
-is_word_of words text = list_any (λ word. is_any_case word text) words
 
 -- a number without a zero in front, and no larger than this
 abbrev pub is_plain : ℕ → List ℕ → Bool

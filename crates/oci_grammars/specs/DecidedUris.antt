@@ -1,7 +1,7 @@
 -- What the deciders of URIs compute.
 use Rattle.std.specs.Prelude.{ℕ, ◌&&◌, ◌||◌, ◌==◌, Bool, true, false, not, List, length, drop, nat_eq, codes, map, bytes_eq, if◌then◌else◌}
 use Rattle.std.specs.Char.{is_ascii_digit, is_ascii_alphabetic, is_ascii_hexdigit, to_ascii_lowercase}
-use Rattle.std.specs.List.{fold, list_all, starts_with}
+use Rattle.std.specs.List.{fold, list_any, list_all, starts_with}
 use Rattle.oci_base.specs.Classes.{dot, slash, colon, at_sign, has, until, after}
 use Rattle.oci_grammars.specs.Classes.{is_scheme_byte, is_reg_name_byte, is_user_info_byte, is_path_byte, is_query_byte, is_address_byte}
 use Rattle.oci_grammars.specs.Decided.{is_some_of, is_headed}
@@ -67,6 +67,9 @@ is_uri text = is_before_fragment (until 35 text) && (not (has 35 text) || is_cod
 
 abbrev pub is_any_case : List ℕ → List ℕ → Bool
 is_any_case word text = bytes_eq (map to_ascii_lowercase text) (map to_ascii_lowercase word)
+
+abbrev pub is_word_of : List (List ℕ) → List ℕ → Bool
+is_word_of words text = list_any (λ word. is_any_case word text) words
 
 unfoldable pub is_http_uri : List ℕ → Bool
 is_http_uri text =

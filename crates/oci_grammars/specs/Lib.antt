@@ -5,6 +5,7 @@ pub mod DateTimes
 pub mod Decided
 pub mod DecidedLicenses
 pub mod DecidedNames
+pub mod DecidedPrecedence
 pub mod DecidedSignals
 pub mod DecidedUris
 pub mod Entries
@@ -15,6 +16,7 @@ pub mod MediaTypes
 pub mod Numbers
 pub mod Parts
 pub mod Paths
+pub mod Precedence
 pub mod RefNames
 pub mod Settings
 pub mod Signals

@@ -4,7 +4,7 @@ use Rattle.std.specs.Prelude.{ℕ, ◌≤◌, ◌⊎◌, List, [], ◌∷◌, co
 use Rattle.oci_base.specs.Classes.{plus, dash}
 use Rattle.oci_grammars.specs.Numbers.{number_of, IsPlainNumber}
 use Rattle.oci_grammars.specs.Parts.{IsPair, IsRun}
-use Rattle.oci_grammars.specs.Uris.{IsAnyCase}
+use Rattle.oci_grammars.specs.Uris.{IsAnyCase, IsWordOf}
 
 -- the names of signal(7) without `SIG`, and those of the first and the last real-time signal
 abbrev pub signal_words : List (List ℕ)
@@ -50,11 +50,6 @@ signal_words =
     codes "XCPU" ∷
     codes "XFSZ" ∷
     []
-
--- one of the words, but for the case of letters
-abbrev pub IsWordOf : List (List ℕ) → List ℕ → Type 0
-IsWordOf [] text = ⊥
-IsWordOf (word ∷ words) text = IsAnyCase word text ⊎ IsWordOf words text
 
 -- a number without a zero in front, and no larger than this
 abbrev pub IsPlainUpTo : ℕ → List ℕ → Type 0

@@ -54,6 +54,11 @@ IsUri text = IsExtended 35 (IsExtended 63 IsSchemePath (IsCoded is_query_byte)) 
 abbrev pub IsAnyCase : List ℕ → List ℕ → Type 0
 IsAnyCase word text = map to_ascii_lowercase text ≡ map to_ascii_lowercase word
 
+-- one of the words, but for the case of letters
+abbrev pub IsWordOf : List (List ℕ) → List ℕ → Type 0
+IsWordOf [] text = ⊥
+IsWordOf (word ∷ words) text = IsAnyCase word text ⊎ IsWordOf words text
+
 -- a URI whose scheme is `http` or `https`, with an authority (RFC 7230, section 2.7; that the host is not empty is not asked)
 abbrev pub IsHttpUri : List ℕ → Type 0
 IsHttpUri text = IsUri text × IsPair colon (λ s. IsAnyCase (codes "http") s ⊎ IsAnyCase (codes "https") s) (IsBehind (codes "//") IsAny) text

@@ -1,5 +1,5 @@
 //! Licence expressions (SPDX specification 2.3, annex D).
-ghost use Rattle.std.specs.Prelude.{◌≡◌, ◌+◌, ◌<◌, ◌^◌, length, codes, bytes_eq};
+ghost use Rattle.std.specs.Prelude.{◌≡◌, ◌+◌, ◌<◌, ◌^◌, length, codes, bytes_eq, option_map};
 ghost use Rattle.oci_grammars.specs.DecidedLicenses as decided;
 ghost use Rattle.oci_grammars.specs.Licenses as license;
 
@@ -124,13 +124,25 @@ fn is_document_ref(word: &[u8]) -> bool
     word.starts_with(b"DocumentRef-") & Class::IdByte.has_some(behind(word, 12))
 }
 
+fn is_other_ref(word: &[u8]) -> bool
+    ensures { result ≡ license.is_other_ref word.now }
+{
+    let (document, reference) = cut(word, b':');
+    is_document_ref(document) & is_license_ref(reference)
+}
+
+/// Returns whether the word is a licence that no list has, with its document or without.
+pub(crate) fn is_reference(word: &[u8]) -> bool
+    ensures { result ≡ license.is_reference word.now }
+{
+    is_license_ref(word) | is_other_ref(word)
+}
+
 fn is_license(word: &[u8]) -> bool
     ensures { result ≡ license.is_license word.now }
 {
     let (id, plus) = Class::IdByte.run(word);
-    let (document, reference) = cut(word, b':');
-    (Class::IdByte.has_some(id) & (plus == b"+".as_slice()))
-        | (is_document_ref(document) & is_license_ref(reference))
+    (Class::IdByte.has_some(id) & (plus == b"+".as_slice())) | is_other_ref(word)
 }
 
 fn kind_of(piece: &[u8]) -> Kind
@@ -153,16 +165,23 @@ fn kind_of(piece: &[u8]) -> Kind
     }
 }
 
+/// Returns whether the piece is an identifier, as of a licence or an exception.
+pub(crate) fn is_identifier(piece: &[u8]) -> bool
+    ensures { result ≡ license.is_identifier piece.now }
+{
+    matches!(kind_of(piece), Kind::Name | Kind::License)
+}
+
 fn is_space(piece: &[u8]) -> bool
     ensures { result ≡ bytes_eq piece.now (codes " ") }
 {
     piece == b" ".as_slice()
 }
 
-/// What the text begins with, nothing for a space, and the bytes after it.
-fn first_piece(text: &[u8]) -> (Option<Kind>, &[u8])
+/// The word or the mark that the text begins with, nothing for a space, and the bytes after it.
+pub(crate) fn first_word(text: &[u8]) -> (Option<&[u8]>, &[u8])
     requires { 0 < length text.now }
-    ensures kinds { license.kinds text.now ≡ decided.put_piece result.0 (license.kinds result.1.now) }
+    ensures words { license.pieces text.now ≡ decided.put_word (option_map (λ t. t.now) result.0) (license.pieces result.1.now) }
     ensures shorter { length result.1.now < length text.now }
 {
     let (word, rest) = Class::LicenseWord.run(text);
@@ -171,10 +190,22 @@ fn first_piece(text: &[u8]) -> (Option<Kind>, &[u8])
         if is_space(mark) {
             (None, rest)
         } else {
-            (Some(kind_of(mark)), rest)
+            (Some(mark), rest)
         }
     } else {
-        (Some(kind_of(word)), rest)
+        (Some(word), rest)
+    }
+}
+
+/// The kind of what the text begins with, nothing for a space, and the bytes after it.
+fn first_piece(text: &[u8]) -> (Option<Kind>, &[u8])
+    requires { 0 < length text.now }
+    ensures kinds { license.kinds text.now ≡ decided.put_piece result.0 (license.kinds result.1.now) }
+    ensures shorter { length result.1.now < length text.now }
+{
+    match first_word(text) {
+        (Some(word), rest) => (Some(kind_of(word)), rest),
+        (None, rest) => (None, rest),
     }
 }
 

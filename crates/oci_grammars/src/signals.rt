@@ -1,6 +1,7 @@
 //! Signals by their names and numbers.
 ghost use Rattle.std.specs.Prelude.{◌≡◌, map};
 ghost use Rattle.oci_grammars.specs.DecidedSignals as decided;
+ghost use Rattle.oci_grammars.specs.DecidedUris.{is_word_of as is_one_of};
 ghost use Rattle.oci_grammars.specs.Signals.{signal_words};
 
 use crate::classes::Class;
@@ -50,7 +51,7 @@ fn is_bare_signal(text: &[u8]) -> bool
 
 /// Returns whether the text is one of the words, but for the case of letters.
 fn is_word_of(words: &[&str], text: &[u8]) -> bool
-    ensures { result ≡ decided.is_word_of (map (λ t. t.now) words.now) text.now }
+    ensures { result ≡ is_one_of (map (λ t. t.now) words.now) text.now }
 {
     for word in words {
         if is_any_case(text, word.as_bytes()) {

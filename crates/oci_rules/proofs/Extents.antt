@@ -11,3 +11,6 @@ array_extent o vs n e len = ap Some (len ∙ sym (items_len-items_view vs)) ∙ 
 
 pub object_extent : (o : Option Members) (es : List Entry) (n : ℕ) → Some (members_view es) ≡ o → n ≡ length es → Some n ≡ option_map members_len o
 object_extent o es n e len = ap Some (len ∙ sym (members_len-members_view es)) ∙ ap (option_map members_len) e
+
+pub items_extent : (vs : List Value) (n : ℕ) → n ≡ length vs → n ≡ items_len (items_view vs)
+items_extent vs n len = len ∙ sym (items_len-items_view vs)

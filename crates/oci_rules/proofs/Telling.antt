@@ -10,8 +10,12 @@ use Rattle.serde_json.specs.Find.{as_bool, as_str, as_array, as_object, get_item
 use Rattle.oci_model.specs.Means.{as_whole, is_object}
 use Rattle.oci_base.specs.Names.{is_listed}
 use Rattle.oci_schema.specs.Places.{under_name, under_index}
+use Rattle.oci_grammars.specs.DecidedLicenses.{has_listed}
+use Rattle.oci_grammars.specs.DecidedPrecedence.{are_in_order}
 use Rattle.oci_grammars.specs.Grammars.{IsOf}
-use Rattle.oci_rules.specs.Rules.{Key, Test, text, one_of, none_of, begins, reserved, within, truth, there, absent, not_null, boolean_member, either, not_empty, length_at_most, at_most, sum_at_most, as_many, lists, lists_item, distinct, among, Rule}
+use Rattle.oci_grammars.specs.Licenses.{words_in, HasListed}
+use Rattle.oci_grammars.specs.Precedence.{AreInOrder}
+use Rattle.oci_rules.specs.Rules.{Key, Test, text, spdx_identifiers, one_of, none_of, begins, reserved, within, truth, there, absent, not_null, boolean_member, either, not_empty, length_at_most, at_most, versions_in_order, sum_at_most, as_many, lists, lists_item, distinct, among, Rule}
 use Rattle.oci_rules.specs.Parts.{present, text_at, whole_at, natural_at, items_at, items_led, extent}
 use Rattle.oci_rules.specs.Tests.{SomeItem, SomeName, EachItem, IsThere, IsOneOf, IsWithin, BeginsWith, IsAmong, AreDistinct, Passes}
 use Rattle.oci_rules.specs.Breaks.{Told, Shows, HasEarlier, IsOther}
@@ -20,6 +24,8 @@ use Rattle.oci_rules.specs.Decided.{if_any, some_item, has, is_one_of, is_in, be
 use Rattle.oci_rules.specs.Listed.{unless, twins_of, others_of, has_text, told_by}
 use Rattle.oci_rules.proofs.Deciding.{clash, itself, if_any_tells, some_item_tells, some_name_tells, has_tells, lacks_tells, not_null_tells, as_many_tells, one_of_tells, int_tells, nat_tells, some_tells, in_tells, begins_tells, text_tells, then_tells}
 use Rattle.oci_grammars.proofs.Grammars.{is_of_decides}
+use Rattle.oci_grammars.proofs.LicenseLists.{has_listed_decides}
+use Rattle.oci_grammars.proofs.VersionOrder.{in_order_decides}
 use Rattle.oci_schema.proofs.EachPart.{nothing_in}
 use Rattle.oci_rules.proofs.Found.{not_nil, in_unless, none_of as no_item_of}
 use Rattle.oci_rules.proofs.Others.{others_none, others_in}
@@ -134,6 +140,9 @@ among_law a b r at d = (none (items_at a d), λ x. (there x, back x))
 
 pub law : (t : Test) (r : Rule) (at : List ℕ) (d : Data) → Law t r at d
 law (text g) r at d = alone (is_passed (text g) d) (Passes (text g) d) r at (if_any_tells (is_of g) (IsOf g) (is_of_decides g) (as_str d))
+law (spdx_identifiers licenses exceptions) r at d =
+    alone (is_passed (spdx_identifiers licenses exceptions) d) (Passes (spdx_identifiers licenses exceptions) d) r at
+    (if_any_tells (has_listed (words_in licenses) (words_in exceptions)) (HasListed (words_in licenses) (words_in exceptions)) (has_listed_decides (words_in licenses) (words_in exceptions)) (as_str d))
 law (one_of ts) r at d = alone (is_passed (one_of ts) d) (Passes (one_of ts) d) r at (if_any_tells (is_listed ts) (λ t. IsTrue (is_listed ts t)) (λ t. itself (is_listed ts t)) (as_str d))
 law (none_of ts) r at d =
     alone (is_passed (none_of ts) d) (Passes (none_of ts) d) r at
@@ -159,6 +168,10 @@ law (length_at_most most) r at d = alone (is_passed (length_at_most most) d) (Pa
 law (at_most a b) r at d =
     alone (is_passed (at_most a b) d) (Passes (at_most a b) d) r (under_name at a)
     (if_any_tells (λ x. if_any (λ y. int_le x y) (whole_at b d)) (λ x. IfSome (whole_at b d) (λ y. x ≤ℤ y)) (λ x. if_any_tells (λ y. int_le x y) (λ y. x ≤ℤ y) (int_tells x) (whole_at b d)) (whole_at a d))
+law (versions_in_order a b) r at d =
+    alone (is_passed (versions_in_order a b) d) (Passes (versions_in_order a b) d) r (under_name at a)
+    (if_any_tells (λ s. if_any (λ t. are_in_order s t) (text_at b d)) (λ s. IfSome (text_at b d) (λ t. AreInOrder s t))
+    (λ s. if_any_tells (λ t. are_in_order s t) (λ t. AreInOrder s t) (in_order_decides s) (text_at b d)) (text_at a d))
 law (sum_at_most a b most) r at d =
     alone (is_passed (sum_at_most a b most) d) (Passes (sum_at_most a b most) d) r at
     (if_any_tells (λ x. if_any (λ y. nat_le (x + y) most) (natural_at b d)) (λ x. IfSome (natural_at b d) (λ y. x + y ≤ most))

@@ -5,7 +5,7 @@ use Rattle.serde_json.specs.Data.{Data, string, Items, no_items}
 use Rattle.serde_json.specs.Find.{get_item}
 use Rattle.oci_schema.specs.Places.{under_name, under_index}
 use Rattle.oci_schema.specs.Leads.{HasMember, HasItem}
-use Rattle.oci_rules.specs.Rules.{Platform, Key, Test, text, one_of, none_of, begins, reserved, within, truth, there, absent, not_null, boolean_member, either, not_empty, length_at_most, at_most, sum_at_most, as_many, lists, lists_item, distinct, among, Place, here, under, each_item, each_member, each_name, if_so, Rule}
+use Rattle.oci_rules.specs.Rules.{Platform, Key, Test, text, spdx_identifiers, one_of, none_of, begins, reserved, within, truth, there, absent, not_null, boolean_member, either, not_empty, length_at_most, at_most, versions_in_order, sum_at_most, as_many, lists, lists_item, distinct, among, Place, here, under, each_item, each_member, each_name, if_so, Rule}
 use Rattle.oci_rules.specs.Platforms.{is_for}
 use Rattle.oci_rules.specs.Parts.{present, items_at, key_of}
 use Rattle.oci_rules.specs.Tests.{IsAmong, Holds, Passes}
@@ -30,6 +30,7 @@ IsOther a b i d = (ds : Items) × (c : Data) × (items_at a d ≡ Some ds) × (g
 -- what is shown of a part that does not pass: itself, or what of it is missing or too much
 abbrev pub Shows : Test → List ℕ → Data → List ℕ → Type 0
 Shows (text g) at d shown = shown ≡ at
+Shows (spdx_identifiers licenses exceptions) at d shown = shown ≡ at
 Shows (one_of ts) at d shown = shown ≡ at
 Shows (none_of ts) at d shown = shown ≡ at
 Shows (begins front) at d shown = shown ≡ at
@@ -44,6 +45,7 @@ Shows (either names) at d shown = shown ≡ at
 Shows not_empty at d shown = shown ≡ at
 Shows (length_at_most most) at d shown = shown ≡ at
 Shows (at_most a b) at d shown = shown ≡ under_name at a
+Shows (versions_in_order a b) at d shown = shown ≡ under_name at a
 Shows (sum_at_most a b most) at d shown = shown ≡ at
 Shows (as_many a name b) at d shown = shown ≡ at
 Shows (lists ts) at d shown = shown ≡ at

@@ -7,8 +7,11 @@ use Rattle.serde_json.specs.Events.{items_len}
 use Rattle.serde_json.specs.Find.{as_bool, as_null, as_str, as_array, get}
 use Rattle.oci_model.specs.Means.{as_whole, is_object}
 use Rattle.oci_base.specs.Names.{is_listed}
+use Rattle.oci_grammars.specs.DecidedLicenses.{has_listed}
+use Rattle.oci_grammars.specs.DecidedPrecedence.{are_in_order}
+use Rattle.oci_grammars.specs.Licenses.{words_in}
 use Rattle.oci_grammars.specs.Tests.{is_of}
-use Rattle.oci_rules.specs.Rules.{Check, is_there, is_text, is_truth, is_within, has_text, has_item, Condition, asks, Test, text, one_of, none_of, begins, reserved, within, truth, there, absent, not_null, boolean_member, either, not_empty, length_at_most, at_most, sum_at_most, as_many, lists, lists_item, distinct, among}
+use Rattle.oci_rules.specs.Rules.{Check, is_there, is_text, is_truth, is_within, has_text, has_item, Condition, asks, Test, text, spdx_identifiers, one_of, none_of, begins, reserved, within, truth, there, absent, not_null, boolean_member, either, not_empty, length_at_most, at_most, versions_in_order, sum_at_most, as_many, lists, lists_item, distinct, among}
 use Rattle.oci_rules.specs.Parts.{present, led, text_at, whole_at, natural_at, items_led, without, extent}
 use Rattle.oci_rules.specs.Tests.{origin_in}
 
@@ -74,6 +77,9 @@ begins_with front t = starts_with nat_eq t front
 abbrev pub is_at_most : Option ℤ → Option ℤ → Bool
 is_at_most x y = if_any (λ a. if_any (λ b. int_le a b) y) x
 
+abbrev pub are_versions : Option (List ℕ) → Option (List ℕ) → Bool
+are_versions x y = if_any (λ s. if_any (λ t. are_in_order s t) y) x
+
 abbrev pub is_sum_at_most : ℕ → Option ℕ → Option ℕ → Bool
 is_sum_at_most most x y = if_any (λ a. if_any (λ b. nat_le (a + b) most) y) x
 
@@ -86,6 +92,7 @@ has_text_under name t d = there_and (bytes_eq t) (text_at name d)
 -- of the two tests of items, that of whole lists stands with what it lists
 abbrev pub is_passed : Test → Data → Bool
 is_passed (text g) d = if_any (is_of g) (as_str d)
+is_passed (spdx_identifiers licenses exceptions) d = if_any (has_listed (words_in licenses) (words_in exceptions)) (as_str d)
 is_passed (one_of ts) d = if_any (is_listed ts) (as_str d)
 is_passed (none_of ts) d = if_any (λ t. not (is_listed ts t)) (as_str d)
 is_passed (begins front) d = if_any (begins_with front) (as_str d)
@@ -100,6 +107,7 @@ is_passed (either names) d = not (is_object d) || list_any (has d) names
 is_passed not_empty d = if_any (λ n. not (n == 0)) (extent d)
 is_passed (length_at_most most) d = if_any (λ n. nat_le n most) (extent d)
 is_passed (at_most a b) d = is_at_most (whole_at a d) (whole_at b d)
+is_passed (versions_in_order a b) d = are_versions (text_at a d) (text_at b d)
 is_passed (sum_at_most a b most) d = is_sum_at_most most (natural_at a d) (natural_at b d)
 is_passed (as_many a name b) d = is_as_many name (items_led a d) (items_led b d)
 is_passed (lists ts) d = if_any (some_item (is_one_of ts)) (as_array d)

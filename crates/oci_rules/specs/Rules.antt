@@ -72,6 +72,8 @@ pub data Key : Type 0 where
 pub data Test : Type 0 where
   -- a text is of this grammar
   text : Grammar → Test
+  -- the licences of an expression are in the first list, its exceptions in the second
+  spdx_identifiers : List ℕ → List ℕ → Test
   one_of : List (List ℕ) → Test
   none_of : List (List ℕ) → Test
   begins : List ℕ → Test
@@ -91,6 +93,8 @@ pub data Test : Type 0 where
   length_at_most : ℕ → Test
   -- the first member is no larger than the second
   at_most : List ℕ → List ℕ → Test
+  -- the second member is a version of no lower precedence than the first
+  versions_in_order : List ℕ → List ℕ → Test
   -- the two members together are no larger than this
   sum_at_most : List ℕ → List ℕ → ℕ → Test
   -- the items of the first list, without those that have `true` under the name, are as many as those of the second

@@ -77,6 +77,7 @@ key_of key.EntryName = rules.entry_name
 
 abbrev pub test_of : Test → rules.Test
 test_of (test.Text g) = rules.text g
+test_of (test.SpdxIdentifiers licenses exceptions) = rules.spdx_identifiers licenses.now exceptions.now
 test_of (test.OneOf ts) = rules.one_of (texts_of ts.now)
 test_of (test.NoneOf ts) = rules.none_of (texts_of ts.now)
 test_of (test.Begins t) = rules.begins t.now
@@ -91,6 +92,7 @@ test_of (test.Either names) = rules.either (texts_of names.now)
 test_of test.NotEmpty = rules.not_empty
 test_of (test.LengthAtMost n) = rules.length_at_most n
 test_of (test.AtMost a b) = rules.at_most a.now b.now
+test_of (test.VersionsInOrder a b) = rules.versions_in_order a.now b.now
 test_of (test.SumAtMost a b n) = rules.sum_at_most a.now b.now n
 test_of (test.AsMany a name b) = rules.as_many (texts_of a.now) name.now (texts_of b.now)
 test_of (test.Lists ts) = rules.lists (texts_of ts.now)

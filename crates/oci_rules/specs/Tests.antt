@@ -6,7 +6,9 @@ use Rattle.serde_json.specs.Find.{as_bool, as_str, as_array, as_object, get}
 use Rattle.oci_model.specs.Means.{as_whole}
 use Rattle.oci_base.specs.Names.{is_listed}
 use Rattle.oci_grammars.specs.Grammars.{IsOf}
-use Rattle.oci_rules.specs.Rules.{Origin, the_part, the_document, Check, is_there, is_text, is_truth, is_within, has_text, has_item, Condition, asks, Key, Test, text, one_of, none_of, begins, reserved, within, truth, there, absent, not_null, boolean_member, either, not_empty, length_at_most, at_most, sum_at_most, as_many, lists, lists_item, distinct, among}
+use Rattle.oci_grammars.specs.Licenses.{words_in, HasListed}
+use Rattle.oci_grammars.specs.Precedence.{AreInOrder}
+use Rattle.oci_rules.specs.Rules.{Origin, the_part, the_document, Check, is_there, is_text, is_truth, is_within, has_text, has_item, Condition, asks, Key, Test, text, spdx_identifiers, one_of, none_of, begins, reserved, within, truth, there, absent, not_null, boolean_member, either, not_empty, length_at_most, at_most, versions_in_order, sum_at_most, as_many, lists, lists_item, distinct, among}
 use Rattle.oci_rules.specs.Parts.{present, led, text_at, whole_at, natural_at, items_at, items_led, without, extent, key_of}
 
 abbrev pub EachItem : (Data → Type 0) → Items → Type 0
@@ -84,6 +86,7 @@ IsAmong ds d = IfSome (as_str d) (λ t. SomeItem (λ e. as_str e ≡ Some t) ds)
 
 abbrev pub Passes : Test → Data → Type 0
 Passes (text g) d = IfSome (as_str d) (IsOf g)
+Passes (spdx_identifiers licenses exceptions) d = IfSome (as_str d) (HasListed (words_in licenses) (words_in exceptions))
 Passes (one_of ts) d = IfSome (as_str d) (λ t. IsTrue (is_listed ts t))
 Passes (none_of ts) d = IfSome (as_str d) (λ t. IsTrue (is_listed ts t) → ⊥)
 Passes (begins front) d = IfSome (as_str d) (BeginsWith front)
@@ -98,6 +101,7 @@ Passes (either names) d = IfSome (as_object d) (λ ms. SomeName (λ n. IsThere n
 Passes not_empty d = IfSome (extent d) (λ n. 0 < n)
 Passes (length_at_most most) d = IfSome (extent d) (λ n. n ≤ most)
 Passes (at_most a b) d = IfSome (whole_at a d) (λ x. IfSome (whole_at b d) (λ y. x ≤ℤ y))
+Passes (versions_in_order a b) d = IfSome (text_at a d) (λ s. IfSome (text_at b d) (λ t. AreInOrder s t))
 Passes (sum_at_most a b most) d = IfSome (natural_at a d) (λ x. IfSome (natural_at b d) (λ y. x + y ≤ most))
 Passes (as_many a name b) d = IfSome (items_led a d) (λ ds. IfSome (items_led b d) (λ es. without name ds ≡ items_len es))
 Passes (lists ts) d = IfSome (as_array d) (SomeItem (IsOneOf ts))

@@ -127,7 +127,8 @@ fn add_shown<'a>(
         | Test::Absent(name)
         | Test::NotNull(name)
         | Test::BooleanMember(name)
-        | Test::AtMost(name, _) => {
+        | Test::AtMost(name, _)
+        | Test::VersionsInOrder(name, _) => {
             let place = Place::Member(&*at, name);
             push(rule, &place, found, alloc)
         }

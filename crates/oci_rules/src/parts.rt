@@ -65,7 +65,10 @@ pub fn is_true_at(value: &Value, name: &str) -> bool
     ensures { result ≡ parts.is_true name.now (view value.now) }
 {
     match value.get(name) {
-        Some(member) => member.as_bool() == Some(true),
+        Some(member) => match member.as_bool() {
+            Some(boolean) => boolean,
+            None => false,
+        },
         None => false,
     }
 }
@@ -142,6 +145,14 @@ pub fn items_led<'v>(value: &'v Value, way: &[&str]) -> Option<&'v Vec<Value>>
         Some(found) => found.as_array(),
         None => None,
     }
+}
+
+/// How many items there are.
+#[tactic(auto, using(crate::proofs::Extents::items_extent))]
+pub fn count(items: &Vec<Value>) -> usize
+    ensures { result ≡ items_len (items_view items.now.items) }
+{
+    items.len()
 }
 
 /// How many bytes a string has, how many items an array, how many members an object.

@@ -2,17 +2,21 @@
 ghost use Rattle.std.specs.Prelude.{◌≡◌, option_map};
 ghost use Rattle.std.specs.List.{list_any};
 ghost use Rattle.serde_json.specs.View.{view, items_view};
+ghost use Rattle.oci_grammars.specs.DecidedLicenses.{has_listed};
+ghost use Rattle.oci_grammars.specs.DecidedPrecedence.{are_in_order as in_order};
+ghost use Rattle.oci_grammars.specs.Licenses.{words_in};
 ghost use Rattle.oci_grammars.specs.Tests.{is_of};
-ghost use Rattle.oci_rules.specs.Decided.{has as does_have, is_passed, begins_with as does_begin, is_at_most, is_sum_at_most, is_as_many, some_item, has_text_under as does_have_text};
+ghost use Rattle.oci_rules.specs.Decided.{has as does_have, is_passed, begins_with as does_begin, is_at_most, are_versions as are_versions_in, is_sum_at_most, is_as_many, some_item, has_text_under as does_have_text};
 ghost use Rattle.oci_rules.specs.Parts.{without};
 ghost use Rattle.oci_rules.specs.Tables.{texts_of, test_of};
 
 use crate::conditions::{has_text, is_among, is_in};
 use crate::parts::{
-    extent, has, is_null_at, is_true_at, items_led, natural_at, present, text_at, whole, whole_at,
+    count, extent, has, is_null_at, is_true_at, items_led, natural_at, present, text_at, whole,
+    whole_at,
 };
 use crate::rule::Test;
-use oci_grammars::Grammar;
+use oci_grammars::{Grammar, are_in_order, has_listed_licenses};
 use serde_json::Value;
 
 /// Whether the part passes the test; where a test compares items, nothing is asked here.
@@ -22,6 +26,10 @@ pub fn passes(test: &Test, part: &Value) -> bool
     match test {
         Test::Text(grammar) => match part.as_str() {
             Some(text) => accepts(*grammar, text),
+            None => true,
+        },
+        Test::SpdxIdentifiers(licenses, exceptions) => match part.as_str() {
+            Some(text) => are_listed(text, licenses, exceptions),
             None => true,
         },
         Test::OneOf(texts) => match part.as_str() {
@@ -65,6 +73,9 @@ pub fn passes(test: &Test, part: &Value) -> bool
             None => true,
         },
         Test::AtMost(first, second) => is_no_more(whole_at(part, first), whole_at(part, second)),
+        Test::VersionsInOrder(first, second) => {
+            are_versions(text_at(part, first), text_at(part, second))
+        }
         Test::SumAtMost(first, second, most) => {
             is_sum_no_more(natural_at(part, first), natural_at(part, second), *most)
         }
@@ -87,6 +98,12 @@ fn accepts(grammar: Grammar, text: &str) -> bool
     ensures { result ≡ is_of grammar text.now }
 {
     grammar.accepts(text)
+}
+
+fn are_listed(text: &str, licenses: &str, exceptions: &str) -> bool
+    ensures { result ≡ has_listed (words_in licenses.now) (words_in exceptions.now) text.now }
+{
+    has_listed_licenses(text, licenses, exceptions)
 }
 
 fn begins_with(front: &str, text: &str) -> bool
@@ -119,6 +136,25 @@ fn is_no_more(first: Option<i128>, second: Option<i128>) -> bool
     }
 }
 
+/// Whether the second version is of no lower precedence than the first, where both are there.
+fn are_versions(first: Option<&str>, second: Option<&str>) -> bool
+    ensures { result ≡ are_versions_in (option_map (λ t. t.now) first.entry) (option_map (λ t. t.now) second.entry) }
+{
+    match first {
+        Some(first) => match second {
+            Some(second) => is_in_order(first, second),
+            None => true,
+        },
+        None => true,
+    }
+}
+
+fn is_in_order(first: &str, second: &str) -> bool
+    ensures { result ≡ in_order first.now second.now }
+{
+    are_in_order(first, second)
+}
+
 fn is_sum_no_more(first: Option<u64>, second: Option<u64>, most: u64) -> bool
     ensures { result ≡ is_sum_at_most most first second }
 {
@@ -137,7 +173,7 @@ fn are_as_many(name: &str, first: Option<&Vec<Value>>, second: Option<&Vec<Value
 {
     match first {
         Some(first) => match second {
-            Some(second) => count_without(name, first) == second.len(),
+            Some(second) => count_without(name, first) == count(second),
             None => true,
         },
         None => true,

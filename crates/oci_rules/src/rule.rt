@@ -111,6 +111,9 @@ pub enum Key<'a> {
 pub enum Test<'a> {
     /// A string is of this grammar.
     Text(Grammar),
+    /// A string that is a licence expression (SPDX) has licences of the first list, and exceptions of the second, in any case; each list
+    /// is identifiers joined by spaces.
+    SpdxIdentifiers(&'a str, &'a str),
     /// A string is one of these.
     OneOf(&'a [&'a str]),
     /// A string is none of these.
@@ -139,6 +142,8 @@ pub enum Test<'a> {
     LengthAtMost(usize),
     /// Of an object: the first member is no larger than the second, where both are integers.
     AtMost(&'a str, &'a str),
+    /// Of an object: the second member is of no lower precedence than the first, where both are semantic versions.
+    VersionsInOrder(&'a str, &'a str),
     /// Of an object: the two members together are no larger than this, where both are integers that are not negative.
     SumAtMost(&'a str, &'a str, u64),
     /// Of an object: the items of the array to which the first names lead, without those that have `true` under the name, are as

@@ -15,16 +15,18 @@ A rule is one line of a file of tools/rules, with eight cells between ` | `:
              array, `{}` each member of an object, `(a,b)` one of these names, with slashes between them
   PLATFORMS  linux windows solaris vm zos freebsd, posix for all but windows, `-` for all
   TESTS      what is asked of each part, with ` ; ` between them; a part of another kind passes:
-               text GRAMMAR, one_of LIST, none_of LIST, begins TEXT, reserved TEXT LIST (what begins so is listed), within LOW HIGH,
-               at_least LOW, boolean true|false, there NAME, absent NAME, not_null NAME, boolean_member NAME (which the records need not list),
-               either NAME.., not_empty, length_at_most N, at_most NAME NAME, sum_at_most NAME NAME N, as_many WAY MEMBER WAY (the items of
-               the first array without those whose MEMBER is true are as many as the items of the second), lists LIST, lists_item NAME TEXT, among NAME NAME, distinct itself|entry_name|(members WAY..)
+               text GRAMMAR, one_of LIST, none_of LIST, begins TEXT, reserved TEXT LIST (what begins so is listed),
+               spdx_identifiers LIST LIST (an expression's licences are in the first, its exceptions in the second), within LOW HIGH,
+               at_least LOW, boolean true|false, there NAME, absent NAME, not_null NAME, either NAME.., boolean_member NAME (which the
+               records need not list), not_empty, length_at_most N, at_most NAME NAME, versions_in_order NAME NAME, sum_at_most NAME NAME N, lists LIST,
+               lists_item NAME TEXT, among NAME NAME, distinct itself|entry_name|(members WAY..), as_many WAY MEMBER WAY (the items of
+               the first array without those whose MEMBER is true are as many as the items of the second)
                names TEST                  of each name of an object's members
                at WAY TEST                 of the part on this way
                when COND TEST, unless COND TEST
              a condition: has WAY, lacks WAY, is WAY LIST, true WAY, between WAY LOW HIGH, lists WAY LIST, item WAY NAME LIST; new KIND,
-             joined KIND, namespace KIND (the document lists such a namespace: a new one, one to join by its path, any; an empty path is none). A way has slashes; `.` is the
-             part itself. A LIST is [a b c] or the name of one
+             joined KIND, namespace KIND (the document lists such a namespace: a new one, one to join by its path, any; an empty path
+             is none). A way has slashes; `.` is the part itself. A LIST is [a b c] or the name of one
   PEERS      what others do: T runtime-tools, S the JSON schemas, V the Go code beside them, R runc, C crun; E: they refuse it
   WANTED     what people read behind the colon
 

@@ -1,6 +1,6 @@
 -- The words that are left decide.
 use Rattle.std.proofs.Common.{◌≡◌, drop, map}
-use Rattle.oci_grammars.specs.DecidedSignals.{is_word_of}
+use Rattle.oci_grammars.specs.DecidedUris.{is_word_of}
 use Rattle.oci_grammars.proofs.signals.is_word_of.Given as goal
 
 abbrev pub invariant-loop-word : goal.invariant-loop-word
