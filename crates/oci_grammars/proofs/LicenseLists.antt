@@ -1,4 +1,4 @@
--- Which identifiers of a licence expression stand on a list.
+-- Which identifiers of a licence expression are in a list.
 use Rattle.std.proofs.Common.{◌≡◌, ℕ, ◌&&◌, ◌||◌, not, Bool, true, false, List, [], ◌∷◌, Option, Some, None, refl, sym, ap, ◌∙◌, true≢false}
 use Rattle.std.specs.Prelude.{◌↔◌, ◌⊎◌, ◌==◌, IsTrue}
 use Rattle.std.specs.Bool.{Decides}

@@ -1,4 +1,4 @@
--- Licence expressions (SPDX specification 2.3, annex D, with identifiers by their shape), and which of their identifiers stand on a list, in any case.
+-- Licence expressions (SPDX specification 2.3, annex D, with identifiers by their shape), and which of their identifiers are in a list, in any case.
 use Rattle.std.specs.Prelude.{ℕ, ◌&&◌, ◌||◌, ◌==◌, ◌⊎◌, ⊤, Bool, true, false, IsTrue, List, [], ◌∷◌, ◌++◌, map, drop, nat_eq, codes, bytes_eq, if◌then◌else◌}
 use Rattle.std.specs.List.{starts_with, slice_split, onto_first}
 use Rattle.oci_base.specs.Classes.{plus, colon, until, after}

@@ -1,4 +1,4 @@
-//! Whether the identifiers of a licence expression stand on a list.
+//! Whether the identifiers of a licence expression are in a list.
 ghost use Rattle.std.specs.Prelude.{◌≡◌, ◌↔◌, IsTrue, false};
 ghost use Rattle.oci_grammars.specs.DecidedLicenses as decided;
 ghost use Rattle.oci_grammars.specs.DecidedUris.{is_word_of};
