@@ -1,15 +1,12 @@
 -- Which identifiers of a licence expression are in a list.
-use Rattle.std.proofs.Common.{◌≡◌, ℕ, ◌&&◌, ◌||◌, not, Bool, true, false, List, [], ◌∷◌, Option, Some, None, refl, sym, ap, ◌∙◌, true≢false}
-use Rattle.std.specs.Prelude.{◌↔◌, ◌⊎◌, ◌==◌, IsTrue}
+use Rattle.std.proofs.Common.{◌≡◌, ℕ, ◌&&◌, ◌||◌, not, Bool, true, false, List, [], ◌∷◌, refl, sym, ap, ◌∙◌, true≢false}
 use Rattle.std.specs.Bool.{Decides}
-use Rattle.std.specs.List.{list_any, slice_split}
 use Rattle.std.proofs.lemmas.Bool.Decides.{Decides-and, Decides-or, Decides-at}
 use Rattle.oci_base.specs.Classes.{plus, has, until, after}
 use Rattle.oci_base.proofs.Marks.{lacks_not_has}
-use Rattle.oci_grammars.specs.DecidedLicenses.{is_spdx_expression, is_with, is_listed, are_listed, has_listed, put_word}
+use Rattle.oci_grammars.specs.DecidedLicenses.{is_spdx_expression, is_with, is_listed, are_listed, has_listed}
 use Rattle.oci_grammars.specs.DecidedUris.{is_any_case, is_word_of}
-use Rattle.oci_grammars.specs.Licenses.{is_identifier, is_reference, pieces, words_in, IsSpdxExpression, IsListed, AreListed, HasListed}
-use Rattle.oci_grammars.specs.Uris.{IsWordOf}
+use Rattle.oci_grammars.specs.Licenses.{is_identifier, is_reference, pieces, words_in, IsListed, AreListed, HasListed}
 use Rattle.oci_grammars.proofs.Deciding.{Decides-itself}
 use Rattle.oci_grammars.proofs.LicenseGrammar.{spdx_expression}
 use Rattle.oci_grammars.proofs.SignalGrammars.{word_tells}

@@ -1,5 +1,5 @@
 -- Each platform is one of all.
-use Rattle.std.proofs.Common.{◌≡◌, true, sym, refl}
+use Rattle.std.proofs.Common.{◌≡◌, true, refl}
 use Rattle.oci_rules.specs.Rules.{Platform, linux, windows, solaris, vm, zos, freebsd}
 use Rattle.oci_rules.specs.Platforms.{every, is_for}
 

@@ -1,10 +1,10 @@
 -- What is listed is what breaks the rules.
-use Rattle.std.proofs.Common.{◌≡◌, inl, inr, ℕ, zero, suc, ◌+◌, List, [], ◌∷◌, ◌++◌, true, Option, Some, None, map, refl, sym, ap, ◌∙◌, subst, arith}
+use Rattle.std.proofs.Common.{◌≡◌, inl, inr, ℕ, ◌+◌, List, [], ◌∷◌, ◌++◌, true, Option, Some, None, map, refl, sym, ap, ◌∙◌, subst, arith}
 use Rattle.std.specs.Prelude.{◌↔◌, ◌⊎◌, IsTrue}
 use Rattle.std.specs.List.{Contains}
 use Rattle.std.proofs.lemmas.List.Elements.{Contains-append_right, Contains-append_cases}
-use Rattle.serde_json.specs.Data.{Data, string, Items, no_items, item, Members, no_members, member}
-use Rattle.serde_json.specs.Find.{as_array, as_object, get_item}
+use Rattle.serde_json.specs.Data.{Data, string, Items, Members, no_members, member}
+use Rattle.serde_json.specs.Find.{as_array, as_object}
 use Rattle.oci_schema.specs.Places.{under_name, under_index}
 use Rattle.oci_schema.specs.Leads.{Have, HasMember}
 use Rattle.oci_rules.specs.Rules.{Platform, Condition, Place, here, under, each_item, each_member, each_name, if_so, Rule}

@@ -1,8 +1,7 @@
 -- What lists contain.
-use Rattle.std.proofs.Common.{◌≡◌, inl, inr, ℕ, zero, List, [], ◌∷◌, ◌++◌, Bool, true, false, Some, None, refl, sym, arith, true≢false}
-use Rattle.std.specs.Prelude.{◌↔◌, ◌⊎◌}
+use Rattle.std.proofs.Common.{◌≡◌, ℕ, zero, List, [], ◌∷◌, ◌++◌, Bool, true, false, refl, sym, arith, true≢false}
+use Rattle.std.specs.Prelude.{◌↔◌}
 use Rattle.std.specs.List.{Contains}
-use Rattle.std.proofs.lemmas.List.Elements.{Contains-append_left, Contains-append_right, Contains-append_cases, Contains-push_cases}
 use Rattle.oci_schema.proofs.EachPart.{nothing_in, one_in}
 use Rattle.oci_rules.specs.Rules.{Rule}
 use Rattle.oci_rules.specs.Breaks.{Told}

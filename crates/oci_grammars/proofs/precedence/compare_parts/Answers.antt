@@ -1,5 +1,5 @@
 -- The first identifiers differ, or are taken off.
-use Rattle.std.proofs.Common.{◌≡◌, ◌≢◌, ◌<◌, ◌&&◌, Bool, true, length, sym, ap, ◌∙◌, subst}
+use Rattle.std.proofs.Common.{◌≡◌, ◌≢◌, ◌<◌, true, length, sym, ap, ◌∙◌, subst}
 use Rattle.std.specs.declared.cmp.Ordering.TheVariants.{Equal}
 use Rattle.oci_base.specs.Classes.{dot, has, until, after}
 use Rattle.oci_base.proofs.Lacks.{both}
