@@ -142,7 +142,7 @@ class Reader:
         if word == "as_many":
             first, name, second = rest
             return (word, way(first), name, way(second))
-        counts = {"begins": 1, "there": 1, "absent": 1, "not_null": 1, "boolean_member": 1, "not_empty": 0, "at_most": 2, "versions_in_order": 2, "lists_item": 2, "among": 2}
+        counts = {"begins": 1, "there": 1, "absent": 1, "not_null": 1, "boolean_member": 1, "not_empty": 0, "apart": 1, "at_most": 2, "versions_in_order": 2, "lists_item": 2, "among": 2}
         if counts.get(word) != len(rest):
             raise Wrong(f"no test {word} of {len(rest)}")
         return (word, *rest)

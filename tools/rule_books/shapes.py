@@ -29,8 +29,10 @@ def through(kind, names, records):
 def asked(test):
     """The members that a test names, but those that are to be absent, or a boolean."""
     word = test[0]
-    if word in ("there", "not_null", "lists_item"):
-        return [("item", test[1])] if word == "lists_item" else [((), test[1])]
+    if word in ("there", "not_null"):
+        return [((), test[1])]
+    if word in ("lists_item", "apart"):
+        return [("item", test[1])]
     if word == "as_many":
         return [((), test[1]), ((), test[3])]
     if word in ("at_most", "versions_in_order", "among", "sum_at_most"):

@@ -9,7 +9,7 @@ PRELUDE = ("ℕ", "List", "[]", "◌∷◌", "◌++◌", "◌≡◌", "map", "co
 WORDS = ("Rule", "Platform", "linux", "windows", "solaris", "vm", "zos", "freebsd", "must", "stated", "should", "host", "here", "under", "each_item",
          "each_member", "each_name", "if_so", "asks", "the_part", "the_document", "is_there", "is_text", "is_truth", "is_within", "has_text", "has_item",
          "text", "spdx_identifiers", "one_of", "none_of", "begins", "reserved", "within", "truth", "there", "absent", "not_null", "boolean_member", "either", "not_empty",
-         "length_at_most", "at_most", "versions_in_order", "sum_at_most", "as_many", "lists", "lists_item", "distinct", "among", "itself", "members", "entry_name", "beneath")
+         "length_at_most", "at_most", "versions_in_order", "sum_at_most", "as_many", "lists", "lists_item", "apart", "distinct", "among", "itself", "members", "entry_name", "beneath")
 
 
 class Specs(tree.Printer):

@@ -1,9 +1,10 @@
 -- A test decides what a text made of parts is, if tests decide what its parts are.
-use Rattle.std.proofs.Common.{◌≡◌, ◌≢◌, ℕ, ◌≤◌, ◌&&◌, ◌||◌, ◌⊎◌, Bool, true, false, not, List, [], ◌∷◌, ◌++◌, length, drop, refl, sym, ap, ◌∙◌, subst, inl, inr, leb-true, le-leb, true≢false, append_assoc, append-nil, ne_eqb, arith}
+use Rattle.std.proofs.Common.{◌≡◌, ◌≢◌, ℕ, ◌≤◌, ◌&&◌, ◌||◌, ◌⊎◌, Bool, true, false, not, List, [], ◌∷◌, ◌++◌, length, take, drop, refl, sym, ap, ◌∙◌, subst, inl, inr, leb-true, le-leb, true≢false, append_assoc, append-nil, ne_eqb, arith}
 use Rattle.std.specs.Prelude.{nat_le, nat_eq, IsTrue, ◌==◌}
 use Rattle.std.specs.Bool.{Decides}
 use Rattle.std.specs.List.{list_all, slice_split, starts_with}
 use Rattle.std.proofs.lemmas.Bool.{eqb-true, eq-eqb}
+use Rattle.std.proofs.lemmas.List.{take-append-drop}
 use Rattle.std.proofs.lemmas.Bool.Decides.{Decides-at, Decides-eqb}
 use Rattle.oci_base.specs.Classes.{has, until, after, IsIn, IsSomeOf, IsMark, IsJoined, one, more}
 use Rattle.oci_base.proofs.Lacks.{Lacks, lacks_in, lacks_append, both}
@@ -235,6 +236,26 @@ module _ (class : ℕ → Bool) (p q : List ℕ → Bool) (P Q : List ℕ → Ty
     (λ e. let parts = both _ _ e in record { front = front_in class t; back = back_in class t; spelled = front_joins class t; is_front = (front _).0 parts.0; is_back = (back _).0 parts.1 }),
     (λ h. let k = front_is class h.front h.back (within h.front h.is_front) (stops h.back h.is_back) in
         also _ _ (ap (λ z. p (front_in class z)) h.spelled ∙ ap p k.0 ∙ (front h.front).1 h.is_front) (ap (λ z. q (back_in class z)) h.spelled ∙ ap q k.1 ∙ (back h.back).1 h.is_back)),
+  )
+
+-- ---- a part of a size, and a part
+
+cut_front : (x y : List ℕ) → (take (length x) (x ++ y) ≡ x) × (drop (length x) (x ++ y) ≡ y)
+cut_front [] y = (refl, refl)
+cut_front (b ∷ x) y = let rec = cut_front x y in (ap (λ z. b ∷ z) rec.0, rec.1)
+
+module _ (size : ℕ) (p q : List ℕ → Bool) (P Q : List ℕ → Type 0) (front : Tells p P) (back : Tells q Q) where
+  pub sized_tells : ((x : List ℕ) → P x → length x ≡ size) → Tells (λ t. p (take size t) && q (drop size t)) (IsRun P Q)
+  sized_tells sized t = (
+    (λ e.
+        let parts = both _ _ e in
+        record { front = take size t; back = drop size t; spelled = sym (take-append-drop size t); is_front = (front _).0 parts.0; is_back = (back _).0 parts.1 }),
+    (λ h.
+        let k = cut_front h.front h.back in
+        let same : size ≡ length h.front = sym (sized h.front h.is_front) in
+        let first : take size t ≡ h.front = ap (take size) h.spelled ∙ ap (λ n. take n (h.front ++ h.back)) same ∙ k.0 in
+        let rest : drop size t ≡ h.back = ap (drop size) h.spelled ∙ ap (λ n. drop n (h.front ++ h.back)) same ∙ k.1 in
+        also _ _ (ap p first ∙ (front h.front).1 h.is_front) (ap q rest ∙ (back h.back).1 h.is_back)),
   )
 
 -- ---- parts joined by a mark

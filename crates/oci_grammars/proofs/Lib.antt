@@ -12,6 +12,7 @@ pub mod LicenseLists
 pub mod LicensePieces
 pub mod MediaTypeGrammar
 pub mod NameGrammars
+pub mod NestedPaths
 pub mod Numerals
 pub mod PathGrammars
 pub mod SettingGrammars

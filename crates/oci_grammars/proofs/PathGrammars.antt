@@ -142,7 +142,7 @@ unc t =
 pub local_directory : (t : List ℕ) (r : Bool) → r ≡ is_unc_path t → Decides r (IsUncPath t)
 local_directory t r e = ((λ h. (unc t).0 (sym e ∙ h)), (λ h. e ∙ (unc t).1 h))
 
-ends_tells : (end : List ℕ) (t : List ℕ) → Decides (ends_with nat_eq t end) ((front : List ℕ) × (t ≡ front ++ end))
+pub ends_tells : (end : List ℕ) (t : List ℕ) → Decides (ends_with nat_eq t end) ((front : List ℕ) × (t ≡ front ++ end))
 ends_tells end t = (
   (λ e.
       let same = (bytes_eq-Decides end (drop (length t - length end) t)).0 e in

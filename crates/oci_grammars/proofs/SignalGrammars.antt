@@ -1,18 +1,18 @@
 -- Signals are decided word by word, and at their marks.
-use Rattle.std.proofs.Common.{◌≡◌, ◌<◌, ℕ, ◌&&◌, Bool, false, true, List, [], ◌∷◌, ◌++◌, length, take, drop, map, refl, sym, ap, ◌∙◌, subst, lit<, true≢false}
+use Rattle.std.proofs.Common.{◌≡◌, ◌<◌, ℕ, ◌&&◌, Bool, false, true, List, [], ◌∷◌, length, take, drop, map, refl, sym, ap, ◌∙◌, subst, lit<, true≢false}
 use Rattle.std.specs.Prelude.{codes}
 use Rattle.std.specs.Char.{is_ascii_alphabetic, to_ascii_lowercase}
 use Rattle.std.proofs.lemmas.Bool.Decides.{Decides-or}
-use Rattle.std.proofs.lemmas.List.{take-append-drop, length-map}
+use Rattle.std.proofs.lemmas.List.{length-map}
 use Rattle.std.proofs.lemmas.Slice.Eq.{bytes_eq-Decides}
 use Rattle.oci_base.specs.Classes.{plus, dash}
-use Rattle.oci_base.proofs.Lacks.{Lacks, both, lacks_in}
+use Rattle.oci_base.proofs.Lacks.{Lacks, lacks_in}
 use Rattle.oci_grammars.specs.DecidedSignals.{is_plain, is_real_time, is_bare_signal, is_signal_name, is_signal}
 use Rattle.oci_grammars.specs.DecidedUris.{is_any_case, is_word_of}
 use Rattle.oci_grammars.specs.Signals.{signal_words, IsPlainUpTo, IsRealTime, IsBareSignal, IsSignalName, IsSignal}
 use Rattle.oci_grammars.specs.Parts.{IsRun}
 use Rattle.oci_grammars.specs.Uris.{IsAnyCase, IsWordOf}
-use Rattle.oci_grammars.proofs.Deciding.{Tells, also, pair_tells}
+use Rattle.oci_grammars.proofs.Deciding.{Tells, pair_tells, sized_tells}
 use Rattle.oci_grammars.proofs.Numerals.{plain_at_most}
 
 case_tells : (word : List ℕ) → Tells (is_any_case word) (IsAnyCase word)
@@ -49,23 +49,9 @@ bare_tells t = Decides-or _ _ (word_tells signal_words t) (real_time_tells t)
 same_length : (word t : List ℕ) → IsAnyCase word t → length t ≡ length word
 same_length word t e = sym (length-map t to_ascii_lowercase) ∙ ap length e ∙ length-map word to_ascii_lowercase
 
-cut_front : (x y : List ℕ) → (take (length x) (x ++ y) ≡ x) × (drop (length x) (x ++ y) ≡ y)
-cut_front [] y = (refl, refl)
-cut_front (b ∷ x) y = let rec = cut_front x y in (ap (λ z. b ∷ z) rec.0, rec.1)
-
 front_tells : (word : List ℕ) (p : List ℕ → Bool) (P : List ℕ → Type 0) → Tells p P
     → Tells (λ t. is_any_case word (take (length word) t) && p (drop (length word) t)) (IsRun (IsAnyCase word) P)
-front_tells word p P tells t = (
-  (λ e.
-      let parts = both _ _ e in
-      record { front = take (length word) t; back = drop (length word) t; spelled = sym (take-append-drop (length word) t); is_front = (case_tells word _).0 parts.0; is_back = (tells _).0 parts.1 }),
-  (λ h.
-      let size = same_length word h.front h.is_front in
-      let k = cut_front h.front h.back in
-      let front : take (length word) t ≡ h.front = ap (take (length word)) h.spelled ∙ ap (λ n. take n (h.front ++ h.back)) (sym size) ∙ k.0 in
-      let back : drop (length word) t ≡ h.back = ap (drop (length word)) h.spelled ∙ ap (λ n. drop n (h.front ++ h.back)) (sym size) ∙ k.1 in
-      also _ _ (ap (is_any_case word) front ∙ (case_tells word h.front).1 h.is_front) (ap p back ∙ (tells h.back).1 h.is_back)),
-)
+front_tells word p P tells = sized_tells (length word) (is_any_case word) p (IsAnyCase word) P (case_tells word) tells (same_length word)
 
 name_tells : Tells is_signal_name IsSignalName
 name_tells t = Decides-or _ _ (bare_tells t) (front_tells (codes "SIG") is_bare_signal IsBareSignal bare_tells t)

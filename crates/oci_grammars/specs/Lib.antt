@@ -5,6 +5,7 @@ pub mod DateTimes
 pub mod Decided
 pub mod DecidedLicenses
 pub mod DecidedNames
+pub mod DecidedNesting
 pub mod DecidedPrecedence
 pub mod DecidedSignals
 pub mod DecidedUris
@@ -13,6 +14,7 @@ pub mod FullTexts
 pub mod Grammars
 pub mod Licenses
 pub mod MediaTypes
+pub mod Nesting
 pub mod Numbers
 pub mod Parts
 pub mod Paths

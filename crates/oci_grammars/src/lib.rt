@@ -12,6 +12,7 @@ mod license_lists;
 mod licenses;
 mod media_type;
 mod names;
+mod nesting;
 mod numbers;
 mod parts;
 mod paths;
@@ -23,4 +24,5 @@ mod versions;
 
 pub use grammar::Grammar;
 pub use license_lists::has_listed_licenses;
+pub use nesting::is_inside;
 pub use precedence::are_in_order;

@@ -3,7 +3,7 @@ use Rattle.std.specs.Prelude.{ℕ, ◌&&◌, ◌||◌, Bool, true, false, bytes_
 use Rattle.std.specs.List.{list_all}
 use Rattle.oci_model.specs.Shape as shape
 use Rattle.oci_model.specs.Shape.{Shape, Rows, no_rows, row}
-use Rattle.oci_rules.specs.Rules.{Origin, the_part, the_document, is_there, has_item, Condition, asks, members, Test, there, not_null, either, at_most, versions_in_order, sum_at_most, as_many, among, lists_item, distinct, Place, here, under, each_item, each_member, each_name, if_so, Rule}
+use Rattle.oci_rules.specs.Rules.{Origin, the_part, the_document, is_there, has_item, Condition, asks, members, Test, there, not_null, either, at_most, versions_in_order, sum_at_most, as_many, among, lists_item, apart, distinct, Place, here, under, each_item, each_member, each_name, if_so, Rule}
 
 abbrev pub is_second : List ℕ → Option (List ℕ) → Bool
 is_second name None = false
@@ -70,6 +70,7 @@ test_stands (sum_at_most a b most) s = is_member s a && is_member s b
 test_stands (as_many a name b) s = of_some (λ e. is_member e name) (option_and_then item_shape (led_shape a s)) && is_led s b
 test_stands (among a b) s = is_member s a && is_member s b
 test_stands (lists_item name t) s = of_some (λ e. is_member e name) (item_shape s)
+test_stands (apart name) s = of_some (λ e. is_member e name) (item_shape s)
 test_stands (distinct (members ways)) s = of_some (λ e. list_all (is_led e) ways) (item_shape s)
 test_stands test s = true
 

@@ -12,10 +12,13 @@ use Rattle.serde_json.specs.Events.{items_len}
 use Rattle.serde_json.specs.Find.{as_bool, as_null, as_str, as_array, get}
 use Rattle.oci_model.specs.Means.{as_whole}
 use Rattle.oci_base.specs.Names.{is_listed}
+use Rattle.oci_grammars.specs.DecidedNesting.{is_inside}
+use Rattle.oci_grammars.specs.Nesting.{IsInside}
+use Rattle.oci_grammars.proofs.NestedPaths.{is_inside_decides}
 use Rattle.oci_rules.specs.Rules.{Check, is_there, is_text, is_truth, is_within, has_text, has_item, Condition, asks}
 use Rattle.oci_rules.specs.Parts.{present, led, text_at, without}
-use Rattle.oci_rules.specs.Tests.{SomeItem, EachName, SomeName, IsThere, IsAbsent, IsSet, IsOneOf, IsWithin, IsItem, IsSo, Asked, origin_in, Holds, BeginsWith}
-use Rattle.oci_rules.specs.Decided.{if_any, there_and, some_item, has, lacks, is_empty, is_set, is_unset, has_null, is_as_many, is_one_of, is_in, is_item, is_so, holds, begins_with}
+use Rattle.oci_rules.specs.Tests.{EachItem, SomeItem, IsApart, EachName, SomeName, IsThere, IsAbsent, IsSet, IsOneOf, IsWithin, IsItem, IsSo, Asked, origin_in, Holds, BeginsWith}
+use Rattle.oci_rules.specs.Decided.{if_any, there_and, some_item, has, lacks, is_empty, is_set, is_unset, has_null, is_as_many, all_items, is_apart, are_apart, is_one_of, is_in, is_item, is_so, holds, begins_with}
 
 pub clash : {P : Type 0} → false ≡ true → P
 clash e = absurd (true≢false (sym e))
@@ -146,6 +149,22 @@ pub as_many_tells : (name : List ℕ) (x y : Option Items) → Decides (is_as_ma
 as_many_tells name x y =
     if_any_tells (λ ds. if_any (λ es. without name ds == items_len es) y) (λ ds. IfSome y (λ es. without name ds ≡ items_len es))
     (λ ds. if_any_tells (λ es. without name ds == items_len es) (λ es. without name ds ≡ items_len es) (λ es. Decides-eqb (without name ds) (items_len es)) y) x
+
+-- ---- paths
+
+pub all_items_tells : (f : Data → Bool) (P : Data → Type 0) → ((d : Data) → Decides (f d) (P d)) → (ds : Items) → Decides (all_items f ds) (EachItem P ds)
+all_items_tells f P is no_items = ((λ e. tt), (λ h. refl))
+all_items_tells f P is (item d ds) = Decides-and (f d) (all_items f ds) (is d) (all_items_tells f P is ds)
+
+apart_tells : (name : List ℕ) (c e : Data) → Decides (is_apart name c e) (IsApart name c e)
+apart_tells name c e =
+    if_any_tells (λ s. if_any (λ t. not (is_inside s t)) (text_at name e)) (λ s. IfSome (text_at name e) (λ t. ¬ IsInside s t))
+    (λ s. if_any_tells (λ t. not (is_inside s t)) (λ t. ¬ IsInside s t) (λ t. Decides-not (is_inside s t) (is_inside_decides s t)) (text_at name e)) (text_at name c)
+
+pub all_apart_tells : (name : List ℕ) (o : Option Items) → Decides (if_any (λ ds. are_apart name ds ds) o) (IfSome o (λ ds. EachItem (λ c. EachItem (IsApart name c) ds) ds))
+all_apart_tells name o =
+    if_any_tells (λ ds. are_apart name ds ds) (λ ds. EachItem (λ c. EachItem (IsApart name c) ds) ds)
+    (λ ds. all_items_tells (λ c. all_items (is_apart name c) ds) (λ c. EachItem (IsApart name c) ds) (λ c. all_items_tells (is_apart name c) (IsApart name c) (apart_tells name c) ds) ds) o
 
 -- ---- texts
 

@@ -15,14 +15,14 @@ use Rattle.oci_grammars.specs.DecidedPrecedence.{are_in_order}
 use Rattle.oci_grammars.specs.Grammars.{IsOf}
 use Rattle.oci_grammars.specs.Licenses.{words_in, HasListed}
 use Rattle.oci_grammars.specs.Precedence.{AreInOrder}
-use Rattle.oci_rules.specs.Rules.{Key, Test, text, spdx_identifiers, one_of, none_of, begins, reserved, within, truth, there, absent, not_null, boolean_member, either, not_empty, length_at_most, at_most, versions_in_order, sum_at_most, as_many, lists, lists_item, distinct, among, Rule}
+use Rattle.oci_rules.specs.Rules.{Key, Test, text, spdx_identifiers, one_of, none_of, begins, reserved, within, truth, there, absent, not_null, boolean_member, either, not_empty, length_at_most, at_most, versions_in_order, sum_at_most, as_many, lists, lists_item, apart, distinct, among, Rule}
 use Rattle.oci_rules.specs.Parts.{present, text_at, whole_at, natural_at, items_at, items_led, extent}
 use Rattle.oci_rules.specs.Tests.{SomeItem, SomeName, EachItem, IsThere, IsOneOf, IsWithin, BeginsWith, IsAmong, AreDistinct, Passes}
 use Rattle.oci_rules.specs.Breaks.{Told, Shows, HasEarlier, IsOther}
 use Rattle.oci_grammars.specs.Tests.{is_of}
 use Rattle.oci_rules.specs.Decided.{if_any, some_item, has, is_one_of, is_in, begins_with, has_text_under, is_passed}
 use Rattle.oci_rules.specs.Listed.{unless, twins_of, others_of, has_text, told_by}
-use Rattle.oci_rules.proofs.Deciding.{clash, itself, if_any_tells, some_item_tells, some_name_tells, has_tells, lacks_tells, not_null_tells, as_many_tells, one_of_tells, int_tells, nat_tells, some_tells, in_tells, begins_tells, text_tells, then_tells}
+use Rattle.oci_rules.proofs.Deciding.{clash, itself, if_any_tells, some_item_tells, some_name_tells, has_tells, lacks_tells, not_null_tells, as_many_tells, all_apart_tells, one_of_tells, int_tells, nat_tells, some_tells, in_tells, begins_tells, text_tells, then_tells}
 use Rattle.oci_grammars.proofs.Grammars.{is_of_decides}
 use Rattle.oci_grammars.proofs.LicenseLists.{has_listed_decides}
 use Rattle.oci_grammars.proofs.VersionOrder.{in_order_decides}
@@ -182,5 +182,6 @@ law (lists ts) r at d =
 law (lists_item name t) r at d =
     alone (is_passed (lists_item name t) d) (Passes (lists_item name t) d) r at
     (if_any_tells (some_item (has_text_under name t)) (SomeItem (λ e. text_at name e ≡ Some t)) (some_item_tells (has_text_under name t) (λ e. text_at name e ≡ Some t) (λ e. text_tells t (text_at name e))) (as_array d))
+law (apart name) r at d = alone (is_passed (apart name) d) (Passes (apart name) d) r at (all_apart_tells name (as_array d))
 law (distinct key) r at d = distinct_law key r at d
 law (among a b) r at d = among_law a b r at d

@@ -5,7 +5,7 @@ use Rattle.serde_json.specs.Data.{Data, string, Items, no_items}
 use Rattle.serde_json.specs.Find.{get_item}
 use Rattle.oci_schema.specs.Places.{under_name, under_index}
 use Rattle.oci_schema.specs.Leads.{HasMember, HasItem}
-use Rattle.oci_rules.specs.Rules.{Platform, Key, Test, text, spdx_identifiers, one_of, none_of, begins, reserved, within, truth, there, absent, not_null, boolean_member, either, not_empty, length_at_most, at_most, versions_in_order, sum_at_most, as_many, lists, lists_item, distinct, among, Place, here, under, each_item, each_member, each_name, if_so, Rule}
+use Rattle.oci_rules.specs.Rules.{Platform, Key, Test, text, spdx_identifiers, one_of, none_of, begins, reserved, within, truth, there, absent, not_null, boolean_member, either, not_empty, length_at_most, at_most, versions_in_order, sum_at_most, as_many, lists, lists_item, apart, distinct, among, Place, here, under, each_item, each_member, each_name, if_so, Rule}
 use Rattle.oci_rules.specs.Platforms.{is_for}
 use Rattle.oci_rules.specs.Parts.{present, items_at, key_of}
 use Rattle.oci_rules.specs.Tests.{IsAmong, Holds, Passes}
@@ -50,6 +50,7 @@ Shows (sum_at_most a b most) at d shown = shown ≡ at
 Shows (as_many a name b) at d shown = shown ≡ at
 Shows (lists ts) at d shown = shown ≡ at
 Shows (lists_item name t) at d shown = shown ≡ at
+Shows (apart name) at d shown = shown ≡ at
 Shows (distinct key) at d shown = (i : ℕ) × (shown ≡ under_index at i) × HasEarlier key i d
 Shows (among a b) at d shown = (i : ℕ) × (shown ≡ under_index (under_name at a) i) × IsOther a b i d
 

@@ -8,10 +8,11 @@ use Rattle.serde_json.specs.Find.{as_bool, as_null, as_str, as_array, get}
 use Rattle.oci_model.specs.Means.{as_whole, is_object}
 use Rattle.oci_base.specs.Names.{is_listed}
 use Rattle.oci_grammars.specs.DecidedLicenses.{has_listed}
+use Rattle.oci_grammars.specs.DecidedNesting.{is_inside}
 use Rattle.oci_grammars.specs.DecidedPrecedence.{are_in_order}
 use Rattle.oci_grammars.specs.Licenses.{words_in}
 use Rattle.oci_grammars.specs.Tests.{is_of}
-use Rattle.oci_rules.specs.Rules.{Check, is_there, is_text, is_truth, is_within, has_text, has_item, Condition, asks, Test, text, spdx_identifiers, one_of, none_of, begins, reserved, within, truth, there, absent, not_null, boolean_member, either, not_empty, length_at_most, at_most, versions_in_order, sum_at_most, as_many, lists, lists_item, distinct, among}
+use Rattle.oci_rules.specs.Rules.{Check, is_there, is_text, is_truth, is_within, has_text, has_item, Condition, asks, Test, text, spdx_identifiers, one_of, none_of, begins, reserved, within, truth, there, absent, not_null, boolean_member, either, not_empty, length_at_most, at_most, versions_in_order, sum_at_most, as_many, lists, lists_item, apart, distinct, among}
 use Rattle.oci_rules.specs.Parts.{present, led, text_at, whole_at, natural_at, items_led, without, extent}
 use Rattle.oci_rules.specs.Tests.{origin_in}
 
@@ -89,6 +90,17 @@ is_as_many name x y = if_any (λ ds. if_any (λ es. without name ds == items_len
 abbrev pub has_text_under : List ℕ → List ℕ → Data → Bool
 has_text_under name t d = there_and (bytes_eq t) (text_at name d)
 
+abbrev pub all_items : (Data → Bool) → Items → Bool
+all_items f no_items = true
+all_items f (item d ds) = f d && all_items f ds
+
+abbrev pub is_apart : List ℕ → Data → Data → Bool
+is_apart name c e = if_any (λ s. if_any (λ t. not (is_inside s t)) (text_at name e)) (text_at name c)
+
+-- each of the second items is apart from each of the first
+abbrev pub are_apart : List ℕ → Items → Items → Bool
+are_apart name ds es = all_items (λ c. all_items (is_apart name c) ds) es
+
 -- of the two tests of items, that of whole lists stands with what it lists
 abbrev pub is_passed : Test → Data → Bool
 is_passed (text g) d = if_any (is_of g) (as_str d)
@@ -112,5 +124,6 @@ is_passed (sum_at_most a b most) d = is_sum_at_most most (natural_at a d) (natur
 is_passed (as_many a name b) d = is_as_many name (items_led a d) (items_led b d)
 is_passed (lists ts) d = if_any (some_item (is_one_of ts)) (as_array d)
 is_passed (lists_item name t) d = if_any (some_item (has_text_under name t)) (as_array d)
+is_passed (apart name) d = if_any (λ ds. are_apart name ds ds) (as_array d)
 is_passed (distinct key) d = true
 is_passed (among a b) d = true

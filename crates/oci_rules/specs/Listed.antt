@@ -39,6 +39,7 @@ shown_at (rules.sum_at_most a b most) at = at
 shown_at (rules.as_many a name b) at = at
 shown_at (rules.lists ts) at = at
 shown_at (rules.lists_item name t) at = at
+shown_at (rules.apart name) at = at
 shown_at (distinct key) at = at
 shown_at (among a b) at = at
 
@@ -98,6 +99,7 @@ items_told (rules.sum_at_most a b most) r at d = []
 items_told (rules.as_many a name b) r at d = []
 items_told (rules.lists ts) r at d = []
 items_told (rules.lists_item name t) r at d = []
+items_told (rules.apart name) r at d = []
 
 -- what one part breaks
 abbrev pub told_by : Test → Rule → List ℕ → Data → List Told

@@ -103,6 +103,8 @@ pub data Test : Type 0 where
   lists : List (List ℕ) → Test
   -- an item has this text (second) under this name (first)
   lists_item : List ℕ → List ℕ → Test
+  -- no item's path under this name is inside another's
+  apart : List ℕ → Test
   -- no two items have the same key
   distinct : Key → Test
   -- each text of the first list is in the second

@@ -97,6 +97,7 @@ test_of (test.SumAtMost a b n) = rules.sum_at_most a.now b.now n
 test_of (test.AsMany a name b) = rules.as_many (texts_of a.now) name.now (texts_of b.now)
 test_of (test.Lists ts) = rules.lists (texts_of ts.now)
 test_of (test.ListsItem name t) = rules.lists_item name.now t.now
+test_of (test.Apart name) = rules.apart name.now
 test_of (test.Distinct k) = rules.distinct (key_of k)
 test_of (test.Among a b) = rules.among a.now b.now
 

@@ -7,8 +7,9 @@ use Rattle.oci_model.specs.Means.{as_whole}
 use Rattle.oci_base.specs.Names.{is_listed}
 use Rattle.oci_grammars.specs.Grammars.{IsOf}
 use Rattle.oci_grammars.specs.Licenses.{words_in, HasListed}
+use Rattle.oci_grammars.specs.Nesting.{IsInside}
 use Rattle.oci_grammars.specs.Precedence.{AreInOrder}
-use Rattle.oci_rules.specs.Rules.{Origin, the_part, the_document, Check, is_there, is_text, is_truth, is_within, has_text, has_item, Condition, asks, Key, Test, text, spdx_identifiers, one_of, none_of, begins, reserved, within, truth, there, absent, not_null, boolean_member, either, not_empty, length_at_most, at_most, versions_in_order, sum_at_most, as_many, lists, lists_item, distinct, among}
+use Rattle.oci_rules.specs.Rules.{Origin, the_part, the_document, Check, is_there, is_text, is_truth, is_within, has_text, has_item, Condition, asks, Key, Test, text, spdx_identifiers, one_of, none_of, begins, reserved, within, truth, there, absent, not_null, boolean_member, either, not_empty, length_at_most, at_most, versions_in_order, sum_at_most, as_many, lists, lists_item, apart, distinct, among}
 use Rattle.oci_rules.specs.Parts.{present, led, text_at, whole_at, natural_at, items_at, items_led, without, extent, key_of}
 
 abbrev pub EachItem : (Data → Type 0) → Items → Type 0
@@ -75,6 +76,10 @@ Holds root (asks origin way holds check) d = Asked holds (IsSomeAnd (led way (or
 abbrev pub BeginsWith : List ℕ → List ℕ → Type 0
 BeginsWith front t = (rest : List ℕ) × (t ≡ front ++ rest)
 
+-- the path under this name is not inside that of the first item
+abbrev pub IsApart : List ℕ → Data → Data → Type 0
+IsApart name c e = IfSome (text_at name c) (λ s. IfSome (text_at name e) (λ t. ¬ IsInside s t))
+
 -- what an item is told apart by, none behind it has
 abbrev pub AreDistinct : Key → Items → Type 0
 AreDistinct key no_items = ⊤
@@ -106,5 +111,6 @@ Passes (sum_at_most a b most) d = IfSome (natural_at a d) (λ x. IfSome (natural
 Passes (as_many a name b) d = IfSome (items_led a d) (λ ds. IfSome (items_led b d) (λ es. without name ds ≡ items_len es))
 Passes (lists ts) d = IfSome (as_array d) (SomeItem (IsOneOf ts))
 Passes (lists_item name t) d = IfSome (as_array d) (SomeItem (λ e. text_at name e ≡ Some t))
+Passes (apart name) d = IfSome (as_array d) (λ ds. EachItem (λ c. EachItem (IsApart name c) ds) ds)
 Passes (distinct key) d = IfSome (as_array d) (AreDistinct key)
 Passes (among a b) d = IfSome (items_at a d) (EachItem (IsAmong (unwrap_or (items_at b d) no_items)))

@@ -1,6 +1,7 @@
 //! Rules as values, and what breaks them in a JSON value.
 #![tactic(auto)]
 
+mod apart;
 mod conditions;
 pub mod document;
 pub mod find;

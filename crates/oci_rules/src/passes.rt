@@ -10,6 +10,7 @@ ghost use Rattle.oci_rules.specs.Decided.{has as does_have, is_passed, begins_wi
 ghost use Rattle.oci_rules.specs.Parts.{without};
 ghost use Rattle.oci_rules.specs.Tables.{texts_of, test_of};
 
+use crate::apart::are_apart;
 use crate::conditions::{has_text, is_among, is_in};
 use crate::parts::{
     count, extent, has, is_null_at, is_true_at, items_led, natural_at, present, text_at, whole,
@@ -88,6 +89,10 @@ pub fn passes(test: &Test, part: &Value) -> bool
         },
         Test::ListsItem(name, text) => match part.as_array() {
             Some(items) => has_text_under(name, text, items),
+            None => true,
+        },
+        Test::Apart(name) => match part.as_array() {
+            Some(items) => are_apart(name, items),
             None => true,
         },
         Test::Distinct(_) | Test::Among(_, _) => true,

@@ -153,6 +153,8 @@ pub enum Test<'a> {
     Lists(&'a [&'a str]),
     /// An array has an item with the second string under the first name.
     ListsItem(&'a str, &'a str),
+    /// No path under this name in an item of an array is inside that of another, as Windows compares paths.
+    Apart(&'a str),
     /// No two items of an array have the same key.
     Distinct(Key<'a>),
     /// Of an object: each string of the array under the first name is in the array under the second, of which none has no strings.

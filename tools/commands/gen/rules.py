@@ -18,9 +18,10 @@ A rule is one line of a file of tools/rules, with eight cells between ` | `:
                text GRAMMAR, one_of LIST, none_of LIST, begins TEXT, reserved TEXT LIST (what begins so is listed),
                spdx_identifiers LIST LIST (an expression's licences are in the first, its exceptions in the second), within LOW HIGH,
                at_least LOW, boolean true|false, there NAME, absent NAME, not_null NAME, either NAME.., boolean_member NAME (which the
-               records need not list), not_empty, length_at_most N, at_most NAME NAME, versions_in_order NAME NAME, sum_at_most NAME NAME N, lists LIST,
-               lists_item NAME TEXT, among NAME NAME, distinct itself|entry_name|(members WAY..), as_many WAY MEMBER WAY (the items of
-               the first array without those whose MEMBER is true are as many as the items of the second)
+               records need not list), not_empty, length_at_most N, at_most NAME NAME, versions_in_order NAME NAME,
+               sum_at_most NAME NAME N, lists LIST, lists_item NAME TEXT, among NAME NAME, distinct itself|entry_name|(members WAY..),
+               apart NAME (no item's path is inside another's, as Windows compares them), as_many WAY MEMBER WAY (the items of the first
+               array without those whose MEMBER is true are as many as the items of the second)
                names TEST                  of each name of an object's members
                at WAY TEST                 of the part on this way
                when COND TEST, unless COND TEST
