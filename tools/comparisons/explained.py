@@ -33,9 +33,15 @@ def limit(document, name):
     return found if isinstance(found, int) else 0
 
 
+def joins(document, kind):
+    """Whether it lists a namespace of a kind with a path."""
+    return any(dig(it, "type") == kind and dig(it, "path") for it in items(document, "linux", "namespaces"))
+
+
 OLD_HOOKS = ("prestart", "poststart", "poststop")
 NEW_HOOKS = ("createRuntime", "createContainer", "startContainer")
 ABSENT = "an absent member is empty for it; of an absent one a rule says nothing, and the schema does"
+NEW = "it wants a new namespace, where the rule takes one that is joined too"
 REASONS = {
     ("annotation-key-reserved-runtime", "theirs"): [
         ("it refuses every key below org.opencontainers, also those that the specification lists",
@@ -63,23 +69,22 @@ REASONS = {
     ("rlimit-once", "theirs"): [("an absent type is empty for it", lambda d: any(not has(it, "type") for it in items(d, "process", "rlimits")))],
     ("rlimit-soft-at-most-hard", "theirs"): [("an absent limit is 0 for it", lambda d: any(not has(it, "hard") for it in items(d, "process", "rlimits")))],
     ("namespace-once", "theirs"): [("an absent type is empty for it", lambda d: any(not has(it, "type") for it in items(d, "linux", "namespaces")))],
-    ("namespace-path-absolute", "ours"): [("it takes an empty path", lambda d: any(dig(it, "path") == "" for it in items(d, "linux", "namespaces")))],
     ("device-path-once", "theirs"): [("an absent path is empty for it", lambda d: any(not has(it, "path") for it in items(d, "linux", "devices")))],
     ("hostname-needs-uts", "ours"): [
         ("it does not ask where there is no part for Linux", lambda d: not has(d, "linux")),
-        ("it takes an empty name, or one of a path that is empty", lambda d: dig(d, "hostname") == "" or any(dig(it, "path") == "" for it in items(d, "linux", "namespaces")))],
+        ("it takes an empty name", lambda d: dig(d, "hostname") == "")],
+    ("hostname-needs-uts", "theirs"): [(NEW, lambda d: joins(d, "uts"))],
     ("mapping-needs-user", "theirs"): [
-        ("it wants a new namespace, where the rule takes one that is joined too", lambda d: any(has(it, "path") for it in items(d, "linux", "namespaces")))],
+        (NEW, lambda d: any(has(it, "path") for it in items(d, "linux", "namespaces")))],
     ("mapping-needs-user", "ours"): [("it takes an empty list", lambda d: [] in (dig(d, "linux", "uidMappings"), dig(d, "linux", "gidMappings")))],
-    ("sysctl-network", "ours"): [("a path that is empty makes a new namespace for it", lambda d: any(dig(it, "path") == "" for it in items(d, "linux", "namespaces")))],
+    ("sysctl-network", "theirs"): [(NEW, lambda d: joins(d, "network"))],
     ("sysctl-ipc", "ours"): [
-        ("it looks at fs.mqueue alone", lambda d: any(key.startswith("kernel.") for key in dig(d, "linux", "sysctl") or {})),
-        ("a path that is empty makes a new namespace for it", lambda d: any(dig(it, "path") == "" for it in items(d, "linux", "namespaces")))],
+        ("it looks at fs.mqueue alone", lambda d: any(key.startswith(("kernel.", "kernel/", "fs/")) for key in dig(d, "linux", "sysctl") or {}))],
     ("sysctl-ipc", "theirs"): [
+        (NEW, lambda d: joins(d, "ipc")),
         ("it wants a new mount namespace too", lambda d: not any(dig(it, "type") == "mount" and not has(it, "path") for it in items(d, "linux", "namespaces")))],
     ("memory-limit-at-most-swap", "theirs"): [("it compares negative limits as very large ones", lambda d: limit(d, "limit") < 0)],
     ("memory-limit-at-most-swap", "ours"): [("it compares negative limits as very large ones", lambda d: limit(d, "swap") < 0)],
-    ("memory-reservation-at-most-limit", "theirs"): [("it compares negative limits as very large ones", lambda d: limit(d, "reservation") < 0)],
     ("cgroup-device-type", "ours"): [("it takes an empty type", lambda d: any(dig(it, "type") == "" for it in items(d, "linux", "resources", "devices"))),
                                      ("it stops at an access that is none, before it", lambda d: any(set(str(dig(it, "access") or "")) - set("rwm") for it in items(d, "linux", "resources", "devices")))],
     ("cgroup-device-access", "ours"): [

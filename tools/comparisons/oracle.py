@@ -93,7 +93,6 @@ SAID = [
     (r"on Linux, hostname requires", "hostname-needs-uts"),
     (r"device .* is duplicated", "device-path-once"),
     (r"minimum memoryswap", "memory-limit-at-most-swap"),
-    (r"minimum memory limit", "memory-reservation-at-most-limit"),
     (r"type of devices", "cgroup-device-type"),
     (r"access .* is invalid", "cgroup-device-access"),
 ]

@@ -10,12 +10,7 @@ import re
 
 ITEM = re.compile(r"(?:[-*]|\d+\.)\s")
 MARK = re.compile(r"^(?:[-*]|\d+\.|>)\s+")
-# RFC 2119's words, and what deprecates, with the level of a rule that they ask for
-WORDS = {
-    "must": "must", "must not": "must", "required": "must", "should": "should", "should not": "should", "recommended": "should",
-    "not recommended": "should", "deprecated": "should", "may": "host", "-": "stated",
-}
-# where a word stands as such, if that is not wherever it stands
+# where a word of RFC 2119 stands as such, if that is not wherever it stands
 AS_SUCH = {"must": r"must(?! not\b)", "should": r"should(?! not\b)", "recommended": r"(?<!not )recommended"}
 
 

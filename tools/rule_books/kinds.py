@@ -76,6 +76,13 @@ def places(model):
     return out + "".join(f"each_stands {variant(kind)} = refl\n" for kind in model.kinds)
 
 
+def beside(model):
+    """The members that the specifications have and the records do not."""
+    out = "-- Members that the specifications have and the records do not; anything stands below them.\n"
+    out += "use Rattle.std.specs.Prelude.{ℕ, List, [], ◌∷◌, codes}\n\nabbrev pub unlisted : List (List ℕ)\nunlisted =\n"
+    return out + "".join(f'    codes "{it}" ∷\n' for it in model.beside) + "    []\n"
+
+
 def answers(model, kind):
     """The proof for a kind, which is one step a book."""
     books = model.books_of(kind)
@@ -93,4 +100,4 @@ def files(model):
     """All files, by their paths."""
     folder = f"crates/{CRATE}"
     proofs = {f"{folder}/proofs/kinds/{snake_of(kind)}_books/Answers.antt": answers(model, kind) for kind in model.kinds}
-    return proofs | {f"{folder}/specs/Kinds.antt": kinds_specs(model), f"{folder}/src/kinds.rt": kinds_source(model), f"{folder}/proofs/Places.antt": places(model)}
+    return proofs | {f"{folder}/specs/Kinds.antt": kinds_specs(model), f"{folder}/specs/Beside.antt": beside(model), f"{folder}/src/kinds.rt": kinds_source(model), f"{folder}/proofs/Places.antt": places(model)}

@@ -94,7 +94,7 @@ class Group:
 class Model:
     def __init__(self, folder):
         self.lists, self.grammars, self.groups, self.kinds, self.files = {}, {}, {}, {}, {}
-        self.about, self.list_about, self.crate = {}, {}, {}
+        self.about, self.list_about, self.crate, self.beside = {}, {}, {}, []
         reader = Reader(self.lists, self.grammars)
         paths = sorted(glob.glob(os.path.join(folder, "*.rules")), key=lambda it: (os.path.basename(it) != "lists.rules", it))
         for path in paths:
@@ -131,6 +131,8 @@ class Model:
             self.list_about[name] = self.remark
         elif word == "crate":
             self.crate[file] = rest
+        elif word == "beside":
+            self.beside += rest.split()
         elif word == "grammar":
             name, _, variant = rest.partition(" = ")
             self.grammars[name] = variant

@@ -1,6 +1,7 @@
-"""docs/RULES.md: each rule with its place, level, section, what is wanted, and what peers do; a table a document."""
+"""docs/RULES.md: each rule with its place, its level and what gives it, section, what is wanted, and what peers do; a table a document."""
 import os
 
+from rule_books import sources
 from rule_books.model import LEVELS, PLATFORMS, POSIX
 
 TITLES = {
@@ -16,9 +17,16 @@ Written by `tools/gen rules` from `tools/rules`; `tools/gen rules --check` compa
 What the specifications ask of a document beyond the types of its members, as far as the document alone shows it. A rule is listed where a
 part breaks it, with the part's JSON Pointer; a part of another type breaks none, since the schema rejects it.
 
-- **Levels.** `must`: MUST, REQUIRED and their negatives. `should`: SHOULD, RECOMMENDED, DEPRECATED. `stated`: a format, a range or a list of
-  values without such a word. `host`: no sentence of a specification asks for it; a manual page, the kernel or every runtime does, or it is a
-  hint, as of a member that is reserved.
+The rules hold to the image specification 1.1.1 (for artifact manifests to 1.1.0-rc2, the last one that has them) and to the runtime
+specification 1.2.1. Where another version says otherwise, theirs counts. Of the distribution specification no text was at hand: the rules of
+tags, repositories, errors and references are from its grammar as the original crate has it.
+
+- **Levels.** By the word of the sentence that a rule is from: `must` is MUST, REQUIRED and their negatives, `should` is SHOULD, RECOMMENDED,
+  their negatives and what is deprecated, `stated` is a sentence without such a word that says as a fact what a document has, so that one
+  that has it otherwise is wrong for every reader. `host`: no sentence asks for it; a manual page, the kernel or every runtime refuses it,
+  or it is a hint, as of a member that is reserved. What a specification says "can", "may" or "for instance" be so asks nothing.
+- **By.** The word in the sentence, "stated" where it has none, or the reason for the level `host`. `tools/rules/sources.rows` has the
+  sentence's version, heading and checksum.
 - **Places.** `*` is each item of an array, `{}` each member of an object, `(a,b)` one of these names; `.` is the whole. Places of a
   set begin where the set stands, which the line below its title says.
 - **Platforms.** A rule with none beside its place is for all. A configuration is for z/OS, Solaris or FreeBSD where it has the member of
@@ -37,9 +45,10 @@ def platforms(items):
     return "" if items == PLATFORMS else " (POSIX)" if items == POSIX else f" ({', '.join(items)})"
 
 
-def row(it):
+def row(it, first):
     where = " ".join(f"`{place}`" for place in it.where.split())
-    return f"| `{it.name}` | {where}{platforms(it.platforms)} | {it.level} | {it.section} | {cell(it.wanted)} | {cell(it.peers) or '-'} |\n"
+    by = first[it.name].said() if it.name in first else "-"
+    return f"| `{it.name}` | {where}{platforms(it.platforms)} | {it.level} | {cell(by)} | {it.section} | {cell(it.wanted)} | {cell(it.peers) or '-'} |\n"
 
 
 def stands(model, group):
@@ -62,18 +71,18 @@ def counted(descriptions):
     return found + [len(names)]
 
 
-def table(model, file):
+def table(model, file, first):
     out = f"\n## {TITLES[file]}\n"
     for group in model.files[file]:
         descriptions = group.descriptions()
         if group.kind == "set":
             out += f"\nThe set {group.name} stands at {stands(model, group)}.\n"
         if descriptions:
-            out += "\n| rule | where | level | section | wanted | peers |\n|---|---|---|---|---|---|\n" + "".join(row(it) for it in descriptions)
+            out += "\n| rule | where | level | by | section | wanted | peers |\n|---|---|---|---|---|---|---|\n" + "".join(row(it, first) for it in descriptions)
     return out
 
 
-def text(model, left_out):
+def text(model, left_out, first):
     files = [it for it in TITLES if it in model.files]
     out = HEAD + "\n| document | must | stated | should | host | together |\n|---|---|---|---|---|---|\n"
     seen, every = set(), []
@@ -83,7 +92,7 @@ def text(model, left_out):
         every += fresh
         out += f"| {TITLES[file]} | {' | '.join(str(it) for it in counted(fresh))} |\n"
     out += f"| **all** | {' | '.join(f'**{it}**' for it in counted(every))} |\n"
-    out += "".join(table(model, file) for file in files)
+    out += "".join(table(model, file, first) for file in files)
     out += "\n## Left out\n\n| rule | reason |\n|---|---|\n" + "".join(f"| `{name}` | {cell(reason)} |\n" for name, reason in left_out)
     return out
 
@@ -97,7 +106,7 @@ def left_out(root):
 def run(root, model, check):
     """Writes the page, or says that it is not up to date. Returns the exit status."""
     path = os.path.join(root, "docs/RULES.md")
-    made = text(model, left_out(root))
+    made = text(model, left_out(root), sources.first_rows(sources.rows(root)))
     there = os.path.exists(path) and open(path, encoding="utf-8").read() == made
     if check:
         if not there:

@@ -1,5 +1,7 @@
 """Whether the places of rules stand in the records of tools/records."""
 FREE = object()
+# members that the specifications have and the records do not, which the lines `beside` of lists.rules name
+BESIDE = set()
 
 
 def after(kind, step, records):
@@ -8,13 +10,15 @@ def after(kind, step, records):
     if word == "when":
         return kind
     if word == "member":
+        if step[1] in BESIDE:
+            return FREE
         if kind in records:
             return records[kind].get(step[1])
         return kind[1:-1] if kind.startswith("{") else FREE if kind in ("Free", "Detail") else None
     if word == "item":
         return kind[1:-1] if kind.startswith("[") else "T" if kind == "Caps" else None
     if word == "name":
-        return "T" if kind.startswith("{") or kind in ("Keys", "Free") else None
+        return "T" if kind.startswith("{") or kind in ("Keys", "Free") or kind in records else None
     return kind[1:-1] if kind.startswith("{") else {"Keys": FREE, "Free": FREE}.get(kind)
 
 

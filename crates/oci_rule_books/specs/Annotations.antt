@@ -12,11 +12,12 @@ image_annotations_rules =
     record { name = codes "annotation-key-reverse-domain"; level = should; section = codes "image annotations.md#rules"; platforms = every; place = each_name here; test = text ReverseDomain } ∷
     record { name = codes "annotation-key-reserved-image"; level = must; section = codes "image annotations.md#rules"; platforms = every; place = each_name here; test = reserved (codes "org.opencontainers.") opencontainers_keys } ∷
     record { name = codes "annotation-created-date"; level = stated; section = codes "image annotations.md#pre-defined-annotation-keys"; platforms = every; place = under (codes "org.opencontainers.image.created") (if_so (asks the_part [] false (is_text (codes "" ∷ []))) here); test = text DateTime } ∷
+    record { name = codes "annotation-created-date"; level = stated; section = codes "image annotations.md#pre-defined-annotation-keys"; platforms = every; place = under (codes "org.opencontainers.artifact.created") (if_so (asks the_part [] false (is_text (codes "" ∷ []))) here); test = text DateTime } ∷
     record { name = codes "annotation-url"; level = stated; section = codes "image annotations.md#pre-defined-annotation-keys"; platforms = every; place = under (codes "org.opencontainers.image.url") (if_so (asks the_part [] false (is_text (codes "" ∷ []))) here); test = text Uri } ∷
     record { name = codes "annotation-url"; level = stated; section = codes "image annotations.md#pre-defined-annotation-keys"; platforms = every; place = under (codes "org.opencontainers.image.documentation") (if_so (asks the_part [] false (is_text (codes "" ∷ []))) here); test = text Uri } ∷
     record { name = codes "annotation-url"; level = stated; section = codes "image annotations.md#pre-defined-annotation-keys"; platforms = every; place = under (codes "org.opencontainers.image.source") (if_so (asks the_part [] false (is_text (codes "" ∷ []))) here); test = text Uri } ∷
     record { name = codes "annotation-licenses-spdx"; level = stated; section = codes "image annotations.md#pre-defined-annotation-keys"; platforms = every; place = under (codes "org.opencontainers.image.licenses") (if_so (asks the_part [] false (is_text (codes "" ∷ []))) here); test = text SpdxExpression } ∷
-    record { name = codes "annotation-ref-name"; level = must; section = codes "image annotations.md#pre-defined-annotation-keys"; platforms = every; place = under (codes "org.opencontainers.image.ref.name") here; test = text RefName } ∷
+    record { name = codes "annotation-ref-name"; level = stated; section = codes "image annotations.md#pre-defined-annotation-keys"; platforms = every; place = under (codes "org.opencontainers.image.ref.name") here; test = text RefName } ∷
     record { name = codes "annotation-base-digest"; level = stated; section = codes "image annotations.md#pre-defined-annotation-keys"; platforms = every; place = under (codes "org.opencontainers.image.base.digest") (if_so (asks the_part [] false (is_text (codes "" ∷ []))) here); test = text Digest } ∷
     record { name = codes "annotation-base-name"; level = should; section = codes "image annotations.md#pre-defined-annotation-keys"; platforms = every; place = under (codes "org.opencontainers.image.base.name") (if_so (asks the_part [] false (is_text (codes "" ∷ []))) here); test = text Reference } ∷
     record { name = codes "annotation-base-name-full"; level = should; section = codes "image annotations.md#pre-defined-annotation-keys"; platforms = every; place = under (codes "org.opencontainers.image.base.name") (if_so (asks the_part [] false (is_text (codes "" ∷ []))) here); test = text FullReference } ∷

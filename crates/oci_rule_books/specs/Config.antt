@@ -4,7 +4,7 @@ use Rattle.std.specs.Prelude.{List, [], ◌∷◌, map, codes, true, false}
 use Rattle.oci_grammars.specs.declared.grammar.Grammar.TheVariants.{AbsolutePath, DateTime, EnvironmentEntry, Port, User, Signal, Digest}
 use Rattle.oci_rules.specs.Rules.{Rule, must, stated, should, host, here, under, each_item, each_name, if_so, asks, the_part, is_text, text, one_of, absent, distinct, entry_name, beneath}
 use Rattle.oci_rules.specs.Platforms.{every}
-use Rattle.oci_rule_books.specs.Lists.{goos, goarch}
+use Rattle.oci_rule_books.specs.Lists.{goos, goarch, arm_variants, arm64_variants, ppc64le_variants, riscv64_variants, amd64_variants}
 use Rattle.oci_rule_books.specs.Annotations.{image_annotations_elsewhere_rules}
 
 -- the book of config
@@ -14,22 +14,25 @@ config_rules =
     record { name = codes "config-history-date"; level = stated; section = codes "image config.md#properties"; platforms = every; place = under (codes "history") (each_item (under (codes "created") here)); test = text DateTime } ∷
     record { name = codes "config-architecture-known"; level = should; section = codes "image config.md#properties"; platforms = every; place = under (codes "architecture") here; test = one_of goarch } ∷
     record { name = codes "config-os-known"; level = should; section = codes "image config.md#properties"; platforms = every; place = under (codes "os") here; test = one_of goos } ∷
-    record { name = codes "config-variant-known"; level = should; section = codes "image config.md#properties"; platforms = every; place = if_so (asks the_part (codes "architecture" ∷ []) true (is_text (codes "arm" ∷ []))) (under (codes "variant") here); test = one_of (codes "v6" ∷ codes "v7" ∷ codes "v8" ∷ []) } ∷
-    record { name = codes "config-variant-known"; level = should; section = codes "image config.md#properties"; platforms = every; place = if_so (asks the_part (codes "architecture" ∷ []) true (is_text (codes "arm64" ∷ []))) (under (codes "variant") here); test = one_of (codes "v8" ∷ []) } ∷
+    record { name = codes "config-variant-known"; level = should; section = codes "image config.md#properties"; platforms = every; place = if_so (asks the_part (codes "architecture" ∷ []) true (is_text (codes "arm" ∷ []))) (under (codes "variant") here); test = one_of arm_variants } ∷
+    record { name = codes "config-variant-known"; level = should; section = codes "image config.md#properties"; platforms = every; place = if_so (asks the_part (codes "architecture" ∷ []) true (is_text (codes "arm64" ∷ []))) (under (codes "variant") here); test = one_of arm64_variants } ∷
+    record { name = codes "config-variant-known"; level = should; section = codes "image config.md#properties"; platforms = every; place = if_so (asks the_part (codes "architecture" ∷ []) true (is_text (codes "ppc64le" ∷ []))) (under (codes "variant") here); test = one_of ppc64le_variants } ∷
+    record { name = codes "config-variant-known"; level = should; section = codes "image config.md#properties"; platforms = every; place = if_so (asks the_part (codes "architecture" ∷ []) true (is_text (codes "riscv64" ∷ []))) (under (codes "variant") here); test = one_of riscv64_variants } ∷
+    record { name = codes "config-variant-known"; level = should; section = codes "image config.md#properties"; platforms = every; place = if_so (asks the_part (codes "architecture" ∷ []) true (is_text (codes "amd64" ∷ []))) (under (codes "variant") here); test = one_of amd64_variants } ∷
     record { name = codes "config-features-windows"; level = should; section = codes "image config.md#properties"; platforms = every; place = if_so (asks the_part (codes "os" ∷ []) true (is_text (codes "windows" ∷ []))) (under (codes "os.features") (each_item here)); test = one_of (codes "win32k" ∷ []) } ∷
     record { name = codes "config-rootfs-type"; level = must; section = codes "image config.md#properties"; platforms = every; place = under (codes "rootfs") (under (codes "type") here); test = one_of (codes "layers" ∷ []) } ∷
     record { name = codes "config-diff-id"; level = stated; section = codes "image config.md#properties"; platforms = every; place = under (codes "rootfs") (under (codes "diff_ids") (each_item here)); test = text Digest } ∷
     record { name = codes "config-env"; level = stated; section = codes "image config.md#properties"; platforms = every; place = under (codes "config") (under (codes "Env") (each_item here)); test = text EnvironmentEntry } ∷
-    record { name = codes "config-port"; level = stated; section = codes "image config.md#properties"; platforms = every; place = under (codes "config") (under (codes "ExposedPorts") (each_name here)); test = text Port } ∷
-    record { name = codes "config-user"; level = stated; section = codes "image config.md#properties"; platforms = every; place = under (codes "config") (under (codes "User") (if_so (asks the_part [] false (is_text (codes "" ∷ []))) here)); test = text User } ∷
-    record { name = codes "config-stop-signal"; level = stated; section = codes "image config.md#properties"; platforms = every; place = under (codes "config") (under (codes "StopSignal") here); test = text Signal } ∷
+    record { name = codes "config-port"; level = host; section = codes "image config.md#properties"; platforms = every; place = under (codes "config") (under (codes "ExposedPorts") (each_name here)); test = text Port } ∷
+    record { name = codes "config-user"; level = stated; section = codes "image config.md#properties"; platforms = every; place = if_so (asks the_part (codes "os" ∷ []) true (is_text (codes "linux" ∷ []))) (under (codes "config") (under (codes "User") (if_so (asks the_part [] false (is_text (codes "" ∷ []))) here))); test = text User } ∷
+    record { name = codes "config-stop-signal"; level = host; section = codes "image config.md#properties"; platforms = every; place = under (codes "config") (under (codes "StopSignal") (if_so (asks the_part [] false (is_text (codes "" ∷ []))) here)); test = text Signal } ∷
     record { name = codes "config-args-escaped"; level = should; section = codes "image config.md#properties"; platforms = every; place = under (codes "config") here; test = absent (codes "ArgsEscaped") } ∷
     record { name = codes "config-reserved"; level = host; section = codes "image config.md#properties"; platforms = every; place = under (codes "config") here; test = absent (codes "Memory") } ∷
     record { name = codes "config-reserved"; level = host; section = codes "image config.md#properties"; platforms = every; place = under (codes "config") here; test = absent (codes "MemorySwap") } ∷
     record { name = codes "config-reserved"; level = host; section = codes "image config.md#properties"; platforms = every; place = under (codes "config") here; test = absent (codes "CpuShares") } ∷
     record { name = codes "config-reserved"; level = host; section = codes "image config.md#properties"; platforms = every; place = under (codes "config") here; test = absent (codes "Healthcheck") } ∷
     record { name = codes "config-env-once"; level = host; section = codes "common practice"; platforms = every; place = under (codes "config") (under (codes "Env") here); test = distinct entry_name } ∷
-    record { name = codes "config-volume-absolute"; level = host; section = codes "common practice"; platforms = every; place = under (codes "config") (under (codes "Volumes") (each_name here)); test = text AbsolutePath } ∷
+    record { name = codes "config-volume-absolute"; level = host; section = codes "common practice"; platforms = every; place = if_so (asks the_part (codes "os" ∷ []) false (is_text (codes "windows" ∷ []))) (under (codes "config") (under (codes "Volumes") (each_name here))); test = text AbsolutePath } ∷
     record { name = codes "config-working-dir-absolute"; level = host; section = codes "common practice"; platforms = every; place = if_so (asks the_part (codes "os" ∷ []) false (is_text (codes "windows" ∷ []))) (under (codes "config") (under (codes "WorkingDir") (if_so (asks the_part [] false (is_text (codes "" ∷ []))) here))); test = text AbsolutePath } ∷
     []
 

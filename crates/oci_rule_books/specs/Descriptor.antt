@@ -11,11 +11,11 @@ abbrev pub bare_descriptor_rules : List Rule
 bare_descriptor_rules =
     record { name = codes "descriptor-media-type"; level = must; section = codes "image descriptor.md#properties"; platforms = every; place = under (codes "mediaType") here; test = text MediaType } ∷
     record { name = codes "descriptor-artifact-type"; level = must; section = codes "image descriptor.md#properties"; platforms = every; place = under (codes "artifactType") here; test = text MediaType } ∷
-    record { name = codes "descriptor-size-limit"; level = must; section = codes "image descriptor.md#properties"; platforms = every; place = under (codes "size") here; test = within (pos 0) (pos 9223372036854775807) } ∷
+    record { name = codes "descriptor-size-limit"; level = stated; section = codes "image descriptor.md#properties"; platforms = every; place = under (codes "size") here; test = within (pos 0) (pos 9223372036854775807) } ∷
     record { name = codes "descriptor-url"; level = must; section = codes "image descriptor.md#properties"; platforms = every; place = under (codes "urls") (each_item here); test = text Uri } ∷
     record { name = codes "descriptor-url-scheme"; level = should; section = codes "image descriptor.md#properties"; platforms = every; place = under (codes "urls") (each_item here); test = text HttpUri } ∷
     record { name = codes "descriptor-data-base64"; level = must; section = codes "image descriptor.md#properties"; platforms = every; place = under (codes "data") here; test = text Base64 } ∷
-    record { name = codes "descriptor-digest-algorithm"; level = should; section = codes "image descriptor.md#digests"; platforms = every; place = under (codes "digest") here; test = begins (codes "sha256:") } ∷
+    record { name = codes "descriptor-digest-algorithm"; level = should; section = codes "image descriptor.md#registered-algorithms"; platforms = every; place = under (codes "digest") here; test = begins (codes "sha256:") } ∷
     record { name = codes "descriptor-empty"; level = stated; section = codes "image manifest.md#guidance-for-an-empty-descriptor"; platforms = every; place = if_so (asks the_part (codes "mediaType" ∷ []) true (is_text (codes "application/vnd.oci.empty.v1+json" ∷ []))) (under (codes "digest") here); test = one_of (codes "sha256:44136fa355b3678a1146ad16f7e8649e94fb4fc21fe77e8310c060f61caaff8a" ∷ []) } ∷
     record { name = codes "descriptor-empty"; level = stated; section = codes "image manifest.md#guidance-for-an-empty-descriptor"; platforms = every; place = if_so (asks the_part (codes "mediaType" ∷ []) true (is_text (codes "application/vnd.oci.empty.v1+json" ∷ []))) (under (codes "size") here); test = within (pos 2) (pos 2) } ∷
     record { name = codes "descriptor-empty"; level = stated; section = codes "image manifest.md#guidance-for-an-empty-descriptor"; platforms = every; place = if_so (asks the_part (codes "mediaType" ∷ []) true (is_text (codes "application/vnd.oci.empty.v1+json" ∷ []))) (under (codes "data") here); test = one_of (codes "e30=" ∷ []) } ∷

@@ -1,4 +1,5 @@
 pub mod Annotations
+pub mod Beside
 pub mod Config
 pub mod Descriptor
 pub mod Features

@@ -10,35 +10,35 @@ use Rattle.oci_rule_books.specs.Lists.{ipc_sysctls}
 abbrev pub linux_rules : List Rule
 linux_rules =
     record { name = codes "namespace-once"; level = must; section = codes "runtime config-linux.md#namespaces"; platforms = every; place = under (codes "linux") (under (codes "namespaces") here); test = distinct (members ((codes "type" ∷ []) ∷ [])) } ∷
-    record { name = codes "namespace-path-absolute"; level = must; section = codes "runtime config-linux.md#namespaces"; platforms = every; place = under (codes "linux") (under (codes "namespaces") (each_item (under (codes "path") here))); test = text AbsolutePath } ∷
+    record { name = codes "namespace-path-absolute"; level = must; section = codes "runtime config-linux.md#namespaces"; platforms = every; place = under (codes "linux") (under (codes "namespaces") (each_item (under (codes "path") (if_so (asks the_part [] false (is_text (codes "" ∷ []))) here)))); test = text AbsolutePath } ∷
+    record { name = codes "namespace-path-some"; level = host; section = codes "runtime config-linux.md#namespaces"; platforms = every; place = under (codes "linux") (under (codes "namespaces") (each_item (under (codes "path") here))); test = not_empty } ∷
     record { name = codes "time-offset-clock"; level = stated; section = codes "runtime config-linux.md#offset-for-time-namespace"; platforms = every; place = under (codes "linux") (under (codes "timeOffsets") (each_name here)); test = one_of (codes "monotonic" ∷ codes "boottime" ∷ []) } ∷
     record { name = codes "time-offset-nanosecs"; level = host; section = codes "time_namespaces(7)"; platforms = every; place = under (codes "linux") (under (codes "timeOffsets") (each_member (under (codes "nanosecs") here))); test = within (pos 0) (pos 999999999) } ∷
-    record { name = codes "time-offset-needs-time"; level = stated; section = codes "runtime config-linux.md#offset-for-time-namespace"; platforms = every; place = if_so (asks the_document (codes "linux" ∷ codes "namespaces" ∷ []) false (has_item (codes "type") (codes "time" ∷ []) [] (codes "path" ∷ []))) (under (codes "linux") here); test = absent (codes "timeOffsets") } ∷
+    record { name = codes "time-offset-needs-time"; level = host; section = codes "time_namespaces(7)"; platforms = every; place = if_so (asks the_document (codes "linux" ∷ codes "namespaces" ∷ []) false (has_item (codes "type") (codes "time" ∷ []) [] (codes "path" ∷ []))) (under (codes "linux") here); test = absent (codes "timeOffsets") } ∷
     record { name = codes "device-type"; level = stated; section = codes "runtime config-linux.md#devices"; platforms = every; place = under (codes "linux") (under (codes "devices") (each_item (under (codes "type") here))); test = one_of (codes "c" ∷ codes "b" ∷ codes "u" ∷ codes "p" ∷ []) } ∷
     record { name = codes "device-path-there"; level = must; section = codes "runtime config-linux.md#devices"; platforms = every; place = under (codes "linux") (under (codes "devices") (each_item here)); test = there (codes "path") } ∷
     record { name = codes "device-path-there"; level = must; section = codes "runtime config-linux.md#devices"; platforms = every; place = under (codes "linux") (under (codes "devices") (each_item (under (codes "path") here))); test = not_empty } ∷
     record { name = codes "device-path-absolute"; level = stated; section = codes "runtime config-linux.md#devices"; platforms = every; place = under (codes "linux") (under (codes "devices") (each_item (under (codes "path") here))); test = text AbsolutePath } ∷
     record { name = codes "device-numbers-there"; level = must; section = codes "runtime config-linux.md#devices"; platforms = every; place = under (codes "linux") (under (codes "devices") (each_item (if_so (asks the_part (codes "type" ∷ []) false (is_text (codes "p" ∷ []))) here))); test = there (codes "major") } ∷
     record { name = codes "device-numbers-there"; level = must; section = codes "runtime config-linux.md#devices"; platforms = every; place = under (codes "linux") (under (codes "devices") (each_item (if_so (asks the_part (codes "type" ∷ []) false (is_text (codes "p" ∷ []))) here))); test = there (codes "minor") } ∷
-    record { name = codes "device-numbers-range"; level = host; section = codes "mknod(2)"; platforms = every; place = under (codes "linux") (under (codes "devices") (each_item (under (codes "major") here))); test = within (pos 0) (pos 18446744073709551615) } ∷
-    record { name = codes "device-numbers-range"; level = host; section = codes "mknod(2)"; platforms = every; place = under (codes "linux") (under (codes "devices") (each_item (under (codes "minor") here))); test = within (pos 0) (pos 18446744073709551615) } ∷
+    record { name = codes "device-numbers-range"; level = host; section = codes "makedev(3)"; platforms = every; place = under (codes "linux") (under (codes "devices") (each_item (under (codes "major") here))); test = within (pos 0) (pos 18446744073709551615) } ∷
+    record { name = codes "device-numbers-range"; level = host; section = codes "makedev(3)"; platforms = every; place = under (codes "linux") (under (codes "devices") (each_item (under (codes "minor") here))); test = within (pos 0) (pos 18446744073709551615) } ∷
     record { name = codes "device-fifo-numbers"; level = host; section = codes "runtime config-linux.md#devices"; platforms = every; place = under (codes "linux") (under (codes "devices") (each_item (if_so (asks the_part (codes "type" ∷ []) true (is_text (codes "p" ∷ []))) (under (codes "major") here)))); test = within (pos 0) (pos 0) } ∷
     record { name = codes "device-fifo-numbers"; level = host; section = codes "runtime config-linux.md#devices"; platforms = every; place = under (codes "linux") (under (codes "devices") (each_item (if_so (asks the_part (codes "type" ∷ []) true (is_text (codes "p" ∷ []))) (under (codes "minor") here)))); test = within (pos 0) (pos 0) } ∷
     record { name = codes "device-once"; level = should; section = codes "runtime config-linux.md#devices"; platforms = every; place = under (codes "linux") (under (codes "devices") here); test = distinct (members ((codes "type" ∷ []) ∷ (codes "major" ∷ []) ∷ (codes "minor" ∷ []) ∷ [])) } ∷
     record { name = codes "device-path-once"; level = host; section = codes "common practice"; platforms = every; place = under (codes "linux") (under (codes "devices") here); test = distinct (members ((codes "path" ∷ []) ∷ [])) } ∷
-    record { name = codes "device-file-mode"; level = host; section = codes "runtime config-linux.md#devices"; platforms = every; place = under (codes "linux") (under (codes "devices") (each_item (under (codes "fileMode") here))); test = within (pos 0) (pos 4095) } ∷
     record { name = codes "cgroups-path"; level = host; section = codes "runtime config-linux.md#cgroups-path"; platforms = every; place = under (codes "linux") (under (codes "cgroupsPath") here); test = text NoParent } ∷
     record { name = codes "rootfs-propagation"; level = stated; section = codes "runtime config-linux.md#rootfs-mount-propagation"; platforms = every; place = under (codes "linux") (under (codes "rootfsPropagation") here); test = one_of (codes "shared" ∷ codes "slave" ∷ codes "private" ∷ codes "unbindable" ∷ []) } ∷
     record { name = codes "masked-path-absolute"; level = must; section = codes "runtime config-linux.md#masked-paths"; platforms = every; place = under (codes "linux") (under (codes "maskedPaths") (each_item here)); test = text AbsolutePath } ∷
     record { name = codes "readonly-path-absolute"; level = must; section = codes "runtime config-linux.md#readonly-paths"; platforms = every; place = under (codes "linux") (under (codes "readonlyPaths") (each_item here)); test = text AbsolutePath } ∷
-    record { name = codes "paths-need-mount"; level = host; section = codes "common practice"; platforms = every; place = if_so (asks the_document (codes "linux" ∷ codes "namespaces" ∷ []) false (has_item (codes "type") (codes "mount" ∷ []) [] (codes "path" ∷ []))) (under (codes "linux") here); test = absent (codes "maskedPaths") } ∷
-    record { name = codes "paths-need-mount"; level = host; section = codes "common practice"; platforms = every; place = if_so (asks the_document (codes "linux" ∷ codes "namespaces" ∷ []) false (has_item (codes "type") (codes "mount" ∷ []) [] (codes "path" ∷ []))) (under (codes "linux") here); test = absent (codes "readonlyPaths") } ∷
+    record { name = codes "paths-need-mount"; level = host; section = codes "common practice"; platforms = every; place = if_so (asks the_document (codes "linux" ∷ codes "namespaces" ∷ []) false (has_item (codes "type") (codes "mount" ∷ []) [] [])) (under (codes "linux") here); test = absent (codes "maskedPaths") } ∷
+    record { name = codes "paths-need-mount"; level = host; section = codes "common practice"; platforms = every; place = if_so (asks the_document (codes "linux" ∷ codes "namespaces" ∷ []) false (has_item (codes "type") (codes "mount" ∷ []) [] [])) (under (codes "linux") here); test = absent (codes "readonlyPaths") } ∷
     record { name = codes "personality-flags"; level = stated; section = codes "runtime config-linux.md#personality"; platforms = every; place = under (codes "linux") (under (codes "personality") (under (codes "flags") here)); test = length_at_most 0 } ∷
     record { name = codes "rdt-l3-begins"; level = should; section = codes "runtime config-linux.md#intelrdt"; platforms = every; place = under (codes "linux") (under (codes "intelRdt") (under (codes "l3CacheSchema") here)); test = begins (codes "L3:") } ∷
     record { name = codes "rdt-l3-one-line"; level = should; section = codes "runtime config-linux.md#intelrdt"; platforms = every; place = under (codes "linux") (under (codes "intelRdt") (under (codes "l3CacheSchema") here)); test = text OneLine } ∷
     record { name = codes "rdt-bandwidth-begins"; level = must; section = codes "runtime config-linux.md#intelrdt"; platforms = every; place = under (codes "linux") (under (codes "intelRdt") (under (codes "memBwSchema") here)); test = begins (codes "MB:") } ∷
     record { name = codes "rdt-bandwidth-one-line"; level = must; section = codes "runtime config-linux.md#intelrdt"; platforms = every; place = under (codes "linux") (under (codes "intelRdt") (under (codes "memBwSchema") here)); test = text OneLine } ∷
-    record { name = codes "rdt-clos-id"; level = host; section = codes "common practice"; platforms = every; place = under (codes "linux") (under (codes "intelRdt") (under (codes "closID") here)); test = text OneDirectory } ∷
+    record { name = codes "rdt-clos-id"; level = stated; section = codes "runtime config-linux.md#intelrdt"; platforms = every; place = under (codes "linux") (under (codes "intelRdt") (under (codes "closID") here)); test = text OneDirectory } ∷
     []
 
 -- the book of linux mappings
@@ -114,7 +114,6 @@ linux_resources_rules =
     record { name = codes "memory-kernel-avoided"; level = should; section = codes "runtime config-linux.md#memory"; platforms = every; place = under (codes "linux") (under (codes "resources") (under (codes "memory") here)); test = absent (codes "kernelTCP") } ∷
     record { name = codes "memory-swappiness"; level = stated; section = codes "runtime config-linux.md#memory"; platforms = every; place = under (codes "linux") (under (codes "resources") (under (codes "memory") (under (codes "swappiness") here))); test = within (pos 0) (pos 100) } ∷
     record { name = codes "memory-limit-at-most-swap"; level = host; section = codes "cgroup v1 memory"; platforms = every; place = under (codes "linux") (under (codes "resources") (under (codes "memory") (if_so (asks the_part (codes "swap" ∷ []) true (is_within (pos 0) (pos 9223372036854775807))) here))); test = at_most (codes "limit") (codes "swap") } ∷
-    record { name = codes "memory-reservation-at-most-limit"; level = host; section = codes "cgroup v1 memory"; platforms = every; place = under (codes "linux") (under (codes "resources") (under (codes "memory") (if_so (asks the_part (codes "limit" ∷ []) true (is_within (pos 0) (pos 9223372036854775807))) here))); test = at_most (codes "reservation") (codes "limit") } ∷
     record { name = codes "memory-swap-needs-limit"; level = host; section = codes "common practice"; platforms = every; place = under (codes "linux") (under (codes "resources") (under (codes "memory") (if_so (asks the_part (codes "swap" ∷ []) true is_there) here))); test = there (codes "limit") } ∷
     record { name = codes "cpu-burst-at-most-quota"; level = must; section = codes "runtime config-linux.md#cpu"; platforms = every; place = under (codes "linux") (under (codes "resources") (under (codes "cpu") (if_so (asks the_part (codes "quota" ∷ []) true (is_within (pos 1) (pos 9223372036854775807))) here))); test = at_most (codes "burst") (codes "quota") } ∷
     record { name = codes "cpu-lists"; level = stated; section = codes "runtime config-linux.md#cpu"; platforms = every; place = under (codes "linux") (under (codes "resources") (under (codes "cpu") (under (codes "cpus") here))); test = text CpuList } ∷
@@ -125,9 +124,11 @@ linux_resources_rules =
     record { name = codes "hugepage-there"; level = must; section = codes "runtime config-linux.md#huge-page-limits"; platforms = every; place = under (codes "linux") (under (codes "resources") (under (codes "hugepageLimits") (each_item here))); test = there (codes "pageSize") } ∷
     record { name = codes "hugepage-there"; level = must; section = codes "runtime config-linux.md#huge-page-limits"; platforms = every; place = under (codes "linux") (under (codes "resources") (under (codes "hugepageLimits") (each_item here))); test = there (codes "limit") } ∷
     record { name = codes "hugepage-size"; level = stated; section = codes "runtime config-linux.md#huge-page-limits"; platforms = every; place = under (codes "linux") (under (codes "resources") (under (codes "hugepageLimits") (each_item (under (codes "pageSize") here)))); test = text PageSize } ∷
+    record { name = codes "hugepage-limit"; level = stated; section = codes "runtime config-linux.md#huge-page-limits"; platforms = every; place = under (codes "linux") (under (codes "resources") (under (codes "hugepageLimits") (each_item (under (codes "limit") here)))); test = within (pos 0) (pos 18446744073709551615) } ∷
     record { name = codes "hugepage-once"; level = host; section = codes "common practice"; platforms = every; place = under (codes "linux") (under (codes "resources") (under (codes "hugepageLimits") here)); test = distinct (members ((codes "pageSize" ∷ []) ∷ [])) } ∷
     record { name = codes "network-priority-there"; level = must; section = codes "runtime config-linux.md#network"; platforms = every; place = under (codes "linux") (under (codes "resources") (under (codes "network") (under (codes "priorities") (each_item here)))); test = there (codes "name") } ∷
     record { name = codes "network-priority-there"; level = must; section = codes "runtime config-linux.md#network"; platforms = every; place = under (codes "linux") (under (codes "resources") (under (codes "network") (under (codes "priorities") (each_item here)))); test = there (codes "priority") } ∷
+    record { name = codes "network-name-some"; level = stated; section = codes "runtime config-linux.md#network"; platforms = every; place = under (codes "linux") (under (codes "resources") (under (codes "network") (under (codes "priorities") (each_item (under (codes "name") here))))); test = not_empty } ∷
     record { name = codes "network-priority-once"; level = host; section = codes "common practice"; platforms = every; place = under (codes "linux") (under (codes "resources") (under (codes "network") (under (codes "priorities") here))); test = distinct (members ((codes "name" ∷ []) ∷ [])) } ∷
     record { name = codes "pids-limit-there"; level = must; section = codes "runtime config-linux.md#pids"; platforms = every; place = under (codes "linux") (under (codes "resources") (under (codes "pids") here)); test = there (codes "limit") } ∷
     record { name = codes "rdma-some"; level = must; section = codes "runtime config-linux.md#rdma"; platforms = every; place = under (codes "linux") (under (codes "resources") (under (codes "rdma") (each_member here))); test = either (codes "hcaHandles" ∷ codes "hcaObjects" ∷ []) } ∷
@@ -168,8 +169,10 @@ abbrev pub linux_seccomp_rules : List Rule
 linux_seccomp_rules =
     record { name = codes "seccomp-default-errno"; level = must; section = codes "runtime config-linux.md#seccomp"; platforms = every; place = under (codes "linux") (under (codes "seccomp") (if_so (asks the_part (codes "defaultErrnoRet" ∷ []) true is_there) (under (codes "defaultAction") here))); test = one_of (codes "SCMP_ACT_ERRNO" ∷ codes "SCMP_ACT_TRACE" ∷ []) } ∷
     record { name = codes "seccomp-errno"; level = must; section = codes "runtime config-linux.md#seccomp"; platforms = every; place = under (codes "linux") (under (codes "seccomp") (under (codes "syscalls") (each_item (if_so (asks the_part (codes "errnoRet" ∷ []) true is_there) (under (codes "action") here))))); test = one_of (codes "SCMP_ACT_ERRNO" ∷ codes "SCMP_ACT_TRACE" ∷ []) } ∷
-    record { name = codes "seccomp-errno-range"; level = host; section = codes "errno(3)"; platforms = every; place = under (codes "linux") (under (codes "seccomp") (under (codes "defaultErrnoRet") here)); test = within (pos 0) (pos 4095) } ∷
-    record { name = codes "seccomp-errno-range"; level = host; section = codes "errno(3)"; platforms = every; place = under (codes "linux") (under (codes "seccomp") (under (codes "syscalls") (each_item (under (codes "errnoRet") here)))); test = within (pos 0) (pos 4095) } ∷
+    record { name = codes "seccomp-errno-range"; level = host; section = codes "seccomp(2)"; platforms = every; place = under (codes "linux") (under (codes "seccomp") (if_so (asks the_part (codes "defaultAction" ∷ []) true (is_text (codes "SCMP_ACT_ERRNO" ∷ []))) (under (codes "defaultErrnoRet") here))); test = within (pos 0) (pos 4095) } ∷
+    record { name = codes "seccomp-errno-range"; level = host; section = codes "seccomp(2)"; platforms = every; place = under (codes "linux") (under (codes "seccomp") (if_so (asks the_part (codes "defaultAction" ∷ []) true (is_text (codes "SCMP_ACT_TRACE" ∷ []))) (under (codes "defaultErrnoRet") here))); test = within (pos 0) (pos 65535) } ∷
+    record { name = codes "seccomp-errno-range"; level = host; section = codes "seccomp(2)"; platforms = every; place = under (codes "linux") (under (codes "seccomp") (under (codes "syscalls") (each_item (if_so (asks the_part (codes "action" ∷ []) true (is_text (codes "SCMP_ACT_ERRNO" ∷ []))) (under (codes "errnoRet") here))))); test = within (pos 0) (pos 4095) } ∷
+    record { name = codes "seccomp-errno-range"; level = host; section = codes "seccomp(2)"; platforms = every; place = under (codes "linux") (under (codes "seccomp") (under (codes "syscalls") (each_item (if_so (asks the_part (codes "action" ∷ []) true (is_text (codes "SCMP_ACT_TRACE" ∷ []))) (under (codes "errnoRet") here))))); test = within (pos 0) (pos 65535) } ∷
     record { name = codes "seccomp-names-some"; level = must; section = codes "runtime config-linux.md#seccomp"; platforms = every; place = under (codes "linux") (under (codes "seccomp") (under (codes "syscalls") (each_item (under (codes "names") here)))); test = not_empty } ∷
     record { name = codes "seccomp-name-some"; level = host; section = codes "common practice"; platforms = every; place = under (codes "linux") (under (codes "seccomp") (under (codes "syscalls") (each_item (under (codes "names") (each_item here))))); test = not_empty } ∷
     record { name = codes "seccomp-metadata-needs-path"; level = must; section = codes "runtime config-linux.md#seccomp"; platforms = every; place = under (codes "linux") (under (codes "seccomp") (if_so (asks the_part (codes "listenerMetadata" ∷ []) true is_there) here)); test = there (codes "listenerPath") } ∷
@@ -178,8 +181,8 @@ linux_seccomp_rules =
     record { name = codes "seccomp-listener-absolute"; level = host; section = codes "common practice"; platforms = every; place = under (codes "linux") (under (codes "seccomp") (under (codes "listenerPath") here)); test = text AbsolutePath } ∷
     record { name = codes "seccomp-notify-default"; level = host; section = codes "common practice"; platforms = every; place = under (codes "linux") (under (codes "seccomp") (under (codes "defaultAction") here)); test = none_of (codes "SCMP_ACT_NOTIFY" ∷ []) } ∷
     record { name = codes "seccomp-notify-write"; level = host; section = codes "common practice"; platforms = every; place = under (codes "linux") (under (codes "seccomp") (under (codes "syscalls") (each_item (if_so (asks the_part (codes "action" ∷ []) true (is_text (codes "SCMP_ACT_NOTIFY" ∷ []))) (under (codes "names") (each_item here)))))); test = none_of (codes "write" ∷ []) } ∷
-    record { name = codes "seccomp-kill-useless"; level = stated; section = codes "runtime config-linux.md#seccomp"; platforms = every; place = under (codes "linux") (under (codes "seccomp") (if_so (asks the_part (codes "defaultAction" ∷ []) true (is_text (codes "SCMP_ACT_KILL" ∷ codes "SCMP_ACT_KILL_THREAD" ∷ codes "SCMP_ACT_KILL_PROCESS" ∷ []))) here)); test = there (codes "syscalls") } ∷
-    record { name = codes "seccomp-kill-useless"; level = stated; section = codes "runtime config-linux.md#seccomp"; platforms = every; place = under (codes "linux") (under (codes "seccomp") (if_so (asks the_part (codes "defaultAction" ∷ []) true (is_text (codes "SCMP_ACT_KILL" ∷ codes "SCMP_ACT_KILL_THREAD" ∷ codes "SCMP_ACT_KILL_PROCESS" ∷ []))) (under (codes "syscalls") here))); test = not_empty } ∷
+    record { name = codes "seccomp-kill-useless"; level = host; section = codes "runtime config-linux.md#seccomp"; platforms = every; place = under (codes "linux") (under (codes "seccomp") (if_so (asks the_part (codes "defaultAction" ∷ []) true (is_text (codes "SCMP_ACT_KILL" ∷ codes "SCMP_ACT_KILL_THREAD" ∷ codes "SCMP_ACT_KILL_PROCESS" ∷ []))) here)); test = there (codes "syscalls") } ∷
+    record { name = codes "seccomp-kill-useless"; level = host; section = codes "runtime config-linux.md#seccomp"; platforms = every; place = under (codes "linux") (under (codes "seccomp") (if_so (asks the_part (codes "defaultAction" ∷ []) true (is_text (codes "SCMP_ACT_KILL" ∷ codes "SCMP_ACT_KILL_THREAD" ∷ codes "SCMP_ACT_KILL_PROCESS" ∷ []))) (under (codes "syscalls") here))); test = not_empty } ∷
     record { name = codes "seccomp-argument-index"; level = host; section = codes "seccomp(2)"; platforms = every; place = under (codes "linux") (under (codes "seccomp") (under (codes "syscalls") (each_item (under (codes "args") (each_item (under (codes "index") here)))))); test = within (pos 0) (pos 5) } ∷
     record { name = codes "seccomp-second-value"; level = host; section = codes "seccomp_rule_add(3)"; platforms = every; place = under (codes "linux") (under (codes "seccomp") (under (codes "syscalls") (each_item (under (codes "args") (each_item (if_so (asks the_part (codes "valueTwo" ∷ []) true is_there) (under (codes "op") here))))))); test = one_of (codes "SCMP_CMP_MASKED_EQ" ∷ []) } ∷
     record { name = codes "seccomp-architecture-once"; level = host; section = codes "common practice"; platforms = every; place = under (codes "linux") (under (codes "seccomp") (under (codes "architectures") here)); test = distinct itself } ∷
@@ -189,10 +192,11 @@ linux_seccomp_rules =
 -- the book of linux sysctl
 abbrev pub linux_sysctl_rules : List Rule
 linux_sysctl_rules =
-    record { name = codes "sysctl-network"; level = host; section = codes "runtime config-linux.md#sysctl"; platforms = every; place = if_so (asks the_document (codes "linux" ∷ codes "namespaces" ∷ []) false (has_item (codes "type") (codes "network" ∷ []) [] (codes "path" ∷ []))) (under (codes "linux") (under (codes "sysctl") (each_name here))); test = reserved (codes "net.") [] } ∷
-    record { name = codes "sysctl-network"; level = host; section = codes "runtime config-linux.md#sysctl"; platforms = every; place = if_so (asks the_document (codes "linux" ∷ codes "namespaces" ∷ []) false (has_item (codes "type") (codes "network" ∷ []) [] (codes "path" ∷ []))) (under (codes "linux") (under (codes "sysctl") (each_name here))); test = reserved (codes "net/") [] } ∷
-    record { name = codes "sysctl-ipc"; level = host; section = codes "runtime config-linux.md#sysctl"; platforms = every; place = if_so (asks the_document (codes "linux" ∷ codes "namespaces" ∷ []) false (has_item (codes "type") (codes "ipc" ∷ []) [] (codes "path" ∷ []))) (under (codes "linux") (under (codes "sysctl") (each_name here))); test = reserved (codes "fs.mqueue.") [] } ∷
-    record { name = codes "sysctl-ipc"; level = host; section = codes "runtime config-linux.md#sysctl"; platforms = every; place = if_so (asks the_document (codes "linux" ∷ codes "namespaces" ∷ []) false (has_item (codes "type") (codes "ipc" ∷ []) [] (codes "path" ∷ []))) (under (codes "linux") (under (codes "sysctl") (each_name here))); test = none_of ipc_sysctls } ∷
-    record { name = codes "sysctl-domainname"; level = host; section = codes "runtime config-linux.md#sysctl"; platforms = every; place = if_so (asks the_document (codes "linux" ∷ codes "namespaces" ∷ []) false (has_item (codes "type") (codes "uts" ∷ []) [] (codes "path" ∷ []))) (under (codes "linux") (under (codes "sysctl") here)); test = absent (codes "kernel.domainname") } ∷
-    record { name = codes "sysctl-hostname"; level = host; section = codes "runtime config-linux.md#sysctl"; platforms = every; place = under (codes "linux") (under (codes "sysctl") here); test = absent (codes "kernel.hostname") } ∷
+    record { name = codes "sysctl-network"; level = host; section = codes "runtime config-linux.md#sysctl"; platforms = every; place = if_so (asks the_document (codes "linux" ∷ codes "namespaces" ∷ []) false (has_item (codes "type") (codes "network" ∷ []) [] [])) (under (codes "linux") (under (codes "sysctl") (each_name here))); test = reserved (codes "net.") [] } ∷
+    record { name = codes "sysctl-network"; level = host; section = codes "runtime config-linux.md#sysctl"; platforms = every; place = if_so (asks the_document (codes "linux" ∷ codes "namespaces" ∷ []) false (has_item (codes "type") (codes "network" ∷ []) [] [])) (under (codes "linux") (under (codes "sysctl") (each_name here))); test = reserved (codes "net/") [] } ∷
+    record { name = codes "sysctl-ipc"; level = host; section = codes "runtime config-linux.md#sysctl"; platforms = every; place = if_so (asks the_document (codes "linux" ∷ codes "namespaces" ∷ []) false (has_item (codes "type") (codes "ipc" ∷ []) [] [])) (under (codes "linux") (under (codes "sysctl") (each_name here))); test = reserved (codes "fs.mqueue.") [] } ∷
+    record { name = codes "sysctl-ipc"; level = host; section = codes "runtime config-linux.md#sysctl"; platforms = every; place = if_so (asks the_document (codes "linux" ∷ codes "namespaces" ∷ []) false (has_item (codes "type") (codes "ipc" ∷ []) [] [])) (under (codes "linux") (under (codes "sysctl") (each_name here))); test = reserved (codes "fs/mqueue/") [] } ∷
+    record { name = codes "sysctl-ipc"; level = host; section = codes "runtime config-linux.md#sysctl"; platforms = every; place = if_so (asks the_document (codes "linux" ∷ codes "namespaces" ∷ []) false (has_item (codes "type") (codes "ipc" ∷ []) [] [])) (under (codes "linux") (under (codes "sysctl") (each_name here))); test = none_of ipc_sysctls } ∷
+    record { name = codes "sysctl-domainname"; level = host; section = codes "runtime config-linux.md#sysctl"; platforms = every; place = if_so (asks the_document (codes "linux" ∷ codes "namespaces" ∷ []) false (has_item (codes "type") (codes "uts" ∷ []) [] [])) (under (codes "linux") (under (codes "sysctl") (each_name here))); test = none_of (codes "kernel.domainname" ∷ codes "kernel/domainname" ∷ []) } ∷
+    record { name = codes "sysctl-hostname"; level = host; section = codes "runtime config-linux.md#sysctl"; platforms = every; place = under (codes "linux") (under (codes "sysctl") (each_name here)); test = none_of (codes "kernel.hostname" ∷ codes "kernel/hostname" ∷ []) } ∷
     []

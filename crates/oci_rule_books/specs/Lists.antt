@@ -124,6 +124,73 @@ subject_types =
     codes "application/vnd.docker.distribution.manifest.list.v2+json" ∷
     []
 
+-- image specification, "OCI Image Manifest Specification", and the types of its layers that are compressed otherwise
+abbrev pub image_layer_types : List (List ℕ)
+image_layer_types =
+    codes "application/vnd.oci.image.layer.v1.tar" ∷
+    codes "application/vnd.oci.image.layer.v1.tar+gzip" ∷
+    codes "application/vnd.oci.image.layer.v1.tar+zstd" ∷
+    codes "application/vnd.oci.image.layer.nondistributable.v1.tar" ∷
+    codes "application/vnd.oci.image.layer.nondistributable.v1.tar+gzip" ∷
+    codes "application/vnd.oci.image.layer.nondistributable.v1.tar+zstd" ∷
+    []
+
+-- image specification, "Platform Variants"; where a row of its table goes on, values of Go 1.24's GOARM64, GOPPC64, GORISCV64 and GOAMD64
+abbrev pub arm_variants : List (List ℕ)
+arm_variants =
+    codes "v6" ∷
+    codes "v7" ∷
+    codes "v8" ∷
+    []
+
+-- image specification, "Platform Variants"; where a row of its table goes on, values of Go 1.24's GOARM64, GOPPC64, GORISCV64 and GOAMD64
+abbrev pub arm64_variants : List (List ℕ)
+arm64_variants =
+    codes "v8" ∷
+    codes "v8.0" ∷
+    codes "v8.1" ∷
+    codes "v8.2" ∷
+    codes "v8.3" ∷
+    codes "v8.4" ∷
+    codes "v8.5" ∷
+    codes "v8.6" ∷
+    codes "v8.7" ∷
+    codes "v8.8" ∷
+    codes "v8.9" ∷
+    codes "v9" ∷
+    codes "v9.0" ∷
+    codes "v9.1" ∷
+    codes "v9.2" ∷
+    codes "v9.3" ∷
+    codes "v9.4" ∷
+    codes "v9.5" ∷
+    []
+
+-- image specification, "Platform Variants"; where a row of its table goes on, values of Go 1.24's GOARM64, GOPPC64, GORISCV64 and GOAMD64
+abbrev pub ppc64le_variants : List (List ℕ)
+ppc64le_variants =
+    codes "power8" ∷
+    codes "power9" ∷
+    codes "power10" ∷
+    []
+
+-- image specification, "Platform Variants"; where a row of its table goes on, values of Go 1.24's GOARM64, GOPPC64, GORISCV64 and GOAMD64
+abbrev pub riscv64_variants : List (List ℕ)
+riscv64_variants =
+    codes "rva20u64" ∷
+    codes "rva22u64" ∷
+    codes "rva23u64" ∷
+    []
+
+-- image specification, "Platform Variants"; where a row of its table goes on, values of Go 1.24's GOARM64, GOPPC64, GORISCV64 and GOAMD64
+abbrev pub amd64_variants : List (List ℕ)
+amd64_variants =
+    codes "v1" ∷
+    codes "v2" ∷
+    codes "v3" ∷
+    codes "v4" ∷
+    []
+
 -- POSIX, getrlimit
 abbrev pub posix_rlimits : List (List ℕ)
 posix_rlimits =
@@ -182,7 +249,7 @@ capabilities =
     codes "CAP_WAKE_ALARM" ∷
     []
 
--- ipc_namespaces(7)
+-- ipc_namespaces(7), with either separator of sysctl(8)
 abbrev pub ipc_sysctls : List (List ℕ)
 ipc_sysctls =
     codes "kernel.msgmax" ∷
@@ -193,9 +260,17 @@ ipc_sysctls =
     codes "kernel.shmmax" ∷
     codes "kernel.shmmni" ∷
     codes "kernel.shm_rmid_forced" ∷
+    codes "kernel/msgmax" ∷
+    codes "kernel/msgmnb" ∷
+    codes "kernel/msgmni" ∷
+    codes "kernel/sem" ∷
+    codes "kernel/shmall" ∷
+    codes "kernel/shmmax" ∷
+    codes "kernel/shmmni" ∷
+    codes "kernel/shm_rmid_forced" ∷
     []
 
--- runtime specification, "Features Structure", "Hooks"; "Linux mount options"; "Seccomp"
+-- runtime specification, "Features Structure", "Hooks"; "Seccomp"
 abbrev pub hook_kinds : List (List ℕ)
 hook_kinds =
     codes "prestart" ∷
@@ -206,76 +281,7 @@ hook_kinds =
     codes "poststop" ∷
     []
 
--- runtime specification, "Features Structure", "Hooks"; "Linux mount options"; "Seccomp"
-abbrev pub linux_mount_options : List (List ℕ)
-linux_mount_options =
-    codes "acl" ∷
-    codes "async" ∷
-    codes "atime" ∷
-    codes "bind" ∷
-    codes "defaults" ∷
-    codes "dev" ∷
-    codes "diratime" ∷
-    codes "dirsync" ∷
-    codes "exec" ∷
-    codes "idmap" ∷
-    codes "iversion" ∷
-    codes "lazytime" ∷
-    codes "loud" ∷
-    codes "mand" ∷
-    codes "noacl" ∷
-    codes "noatime" ∷
-    codes "nodev" ∷
-    codes "nodiratime" ∷
-    codes "noexec" ∷
-    codes "noiversion" ∷
-    codes "nolazytime" ∷
-    codes "nomand" ∷
-    codes "norelatime" ∷
-    codes "nostrictatime" ∷
-    codes "nosuid" ∷
-    codes "nosymfollow" ∷
-    codes "private" ∷
-    codes "ratime" ∷
-    codes "rbind" ∷
-    codes "rdev" ∷
-    codes "rdiratime" ∷
-    codes "relatime" ∷
-    codes "remount" ∷
-    codes "rexec" ∷
-    codes "ridmap" ∷
-    codes "rnoatime" ∷
-    codes "rnodev" ∷
-    codes "rnodiratime" ∷
-    codes "rnoexec" ∷
-    codes "rnorelatime" ∷
-    codes "rnostrictatime" ∷
-    codes "rnosuid" ∷
-    codes "rnosymfollow" ∷
-    codes "ro" ∷
-    codes "rprivate" ∷
-    codes "rrelatime" ∷
-    codes "rro" ∷
-    codes "rrw" ∷
-    codes "rshared" ∷
-    codes "rslave" ∷
-    codes "rstrictatime" ∷
-    codes "rsuid" ∷
-    codes "rsymfollow" ∷
-    codes "runbindable" ∷
-    codes "rw" ∷
-    codes "shared" ∷
-    codes "silent" ∷
-    codes "slave" ∷
-    codes "strictatime" ∷
-    codes "suid" ∷
-    codes "symfollow" ∷
-    codes "sync" ∷
-    codes "tmpcopyup" ∷
-    codes "unbindable" ∷
-    []
-
--- runtime specification, "Features Structure", "Hooks"; "Linux mount options"; "Seccomp"
+-- runtime specification, "Features Structure", "Hooks"; "Seccomp"
 abbrev pub seccomp_operators : List (List ℕ)
 seccomp_operators =
     codes "SCMP_CMP_NE" ∷
@@ -287,11 +293,110 @@ seccomp_operators =
     codes "SCMP_CMP_MASKED_EQ" ∷
     []
 
--- runtime specification, "Features Structure", "Hooks"; "Linux mount options"; "Seccomp"
+-- runtime specification, "Features Structure", "Hooks"; "Seccomp"
 abbrev pub seccomp_flags : List (List ℕ)
 seccomp_flags =
     codes "SECCOMP_FILTER_FLAG_TSYNC" ∷
     codes "SECCOMP_FILTER_FLAG_LOG" ∷
     codes "SECCOMP_FILTER_FLAG_SPEC_ALLOW" ∷
     codes "SECCOMP_FILTER_FLAG_WAIT_KILLABLE_RECV" ∷
+    []
+
+-- mount(8), "Filesystem-specific mount options", and the kernel's pages of them: tmpfs, devpts, proc and overlay
+abbrev pub filesystem_options : List (List ℕ)
+filesystem_options =
+    codes "size" ∷
+    codes "nr_blocks" ∷
+    codes "nr_inodes" ∷
+    codes "mode" ∷
+    codes "uid" ∷
+    codes "gid" ∷
+    codes "huge" ∷
+    codes "mpol" ∷
+    codes "inode32" ∷
+    codes "inode64" ∷
+    codes "newinstance" ∷
+    codes "ptmxmode" ∷
+    codes "max" ∷
+    codes "hidepid" ∷
+    codes "subset" ∷
+    codes "lowerdir" ∷
+    codes "upperdir" ∷
+    codes "workdir" ∷
+    codes "index" ∷
+    codes "metacopy" ∷
+    codes "redirect_dir" ∷
+    codes "nfs_export" ∷
+    codes "xino" ∷
+    codes "userxattr" ∷
+    codes "volatile" ∷
+    []
+
+-- runtime specification, "Features Structure": its releases up to 1.2.1, and the members that 1.2.1 defines
+abbrev pub release_versions : List (List ℕ)
+release_versions =
+    codes "1.0.0" ∷
+    codes "1.0.1" ∷
+    codes "1.0.2" ∷
+    codes "1.1.0" ∷
+    codes "1.2.0" ∷
+    codes "1.2.1" ∷
+    []
+
+-- runtime specification, "Features Structure": its releases up to 1.2.1, and the members that 1.2.1 defines
+abbrev pub features_members : List (List ℕ)
+features_members =
+    codes "ociVersionMin" ∷
+    codes "ociVersionMax" ∷
+    codes "hooks" ∷
+    codes "mountOptions" ∷
+    codes "linux" ∷
+    codes "annotations" ∷
+    codes "potentiallyUnsafeConfigAnnotations" ∷
+    []
+
+-- runtime specification, "Features Structure": its releases up to 1.2.1, and the members that 1.2.1 defines
+abbrev pub linux_features_members : List (List ℕ)
+linux_features_members =
+    codes "namespaces" ∷
+    codes "capabilities" ∷
+    codes "cgroup" ∷
+    codes "seccomp" ∷
+    codes "apparmor" ∷
+    codes "selinux" ∷
+    codes "intelRdt" ∷
+    codes "mountExtensions" ∷
+    []
+
+-- runtime specification, "Features Structure": its releases up to 1.2.1, and the members that 1.2.1 defines
+abbrev pub cgroup_features_members : List (List ℕ)
+cgroup_features_members =
+    codes "v1" ∷
+    codes "v2" ∷
+    codes "systemd" ∷
+    codes "systemdUser" ∷
+    codes "rdma" ∷
+    []
+
+-- runtime specification, "Features Structure": its releases up to 1.2.1, and the members that 1.2.1 defines
+abbrev pub seccomp_features_members : List (List ℕ)
+seccomp_features_members =
+    codes "enabled" ∷
+    codes "actions" ∷
+    codes "operators" ∷
+    codes "archs" ∷
+    codes "knownFlags" ∷
+    codes "supportedFlags" ∷
+    []
+
+-- runtime specification, "Linux Process"
+abbrev pub scheduler_flags : List (List ℕ)
+scheduler_flags =
+    codes "SCHED_FLAG_RESET_ON_FORK" ∷
+    codes "SCHED_FLAG_RECLAIM" ∷
+    codes "SCHED_FLAG_DL_OVERRUN" ∷
+    codes "SCHED_FLAG_KEEP_POLICY" ∷
+    codes "SCHED_FLAG_KEEP_PARAMS" ∷
+    codes "SCHED_FLAG_UTIL_CLAMP_MIN" ∷
+    codes "SCHED_FLAG_UTIL_CLAMP_MAX" ∷
     []

@@ -19,7 +19,7 @@ abbrev pub artifact_rules : List Rule
 artifact_rules =
     record { name = codes "artifact-media-type"; level = must; section = codes "image artifact.md#artifact-manifest-property-descriptions"; platforms = every; place = under (codes "mediaType") here; test = one_of (codes "application/vnd.oci.artifact.manifest.v1+json" ∷ []) } ∷
     record { name = codes "artifact-type"; level = must; section = codes "image artifact.md#artifact-manifest-property-descriptions"; platforms = every; place = under (codes "artifactType") here; test = text MediaType } ∷
-    record { name = codes "artifact-subject-type"; level = stated; section = codes "image artifact.md#artifact-manifest-property-descriptions"; platforms = every; place = under (codes "subject") (under (codes "mediaType") here); test = one_of subject_types } ∷
+    record { name = codes "artifact-subject-type"; level = host; section = codes "image artifact.md#artifact-manifest-property-descriptions"; platforms = every; place = under (codes "subject") (under (codes "mediaType") here); test = one_of subject_types } ∷
     record { name = codes "artifact-not-other"; level = host; section = codes "common practice"; platforms = every; place = here; test = absent (codes "layers") } ∷
     record { name = codes "artifact-not-other"; level = host; section = codes "common practice"; platforms = every; place = here; test = absent (codes "manifests") } ∷
     record { name = codes "artifact-not-other"; level = host; section = codes "common practice"; platforms = every; place = here; test = absent (codes "config") } ∷

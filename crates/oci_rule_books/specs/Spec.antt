@@ -15,21 +15,20 @@ spec_rules =
     record { name = codes "spec-version-supported"; level = host; section = codes "runtime config.md#specification-version"; platforms = every; place = under (codes "ociVersion") here; test = begins (codes "1.") } ∷
     record { name = codes "spec-process-there"; level = host; section = codes "runtime config.md#process"; platforms = every; place = here; test = there (codes "process") } ∷
     record { name = codes "spec-windows-there"; level = must; section = codes "runtime config.md#platform-specific-configuration"; platforms = windows ∷ []; place = here; test = there (codes "windows") } ∷
-    record { name = codes "spec-one-platform"; level = stated; section = codes "runtime config.md#platform-specific-configuration"; platforms = linux ∷ freebsd ∷ vm ∷ []; place = here; test = absent (codes "windows") } ∷
-    record { name = codes "spec-one-platform"; level = stated; section = codes "runtime config.md#platform-specific-configuration"; platforms = linux ∷ freebsd ∷ vm ∷ []; place = here; test = absent (codes "solaris") } ∷
-    record { name = codes "spec-one-platform"; level = stated; section = codes "runtime config.md#platform-specific-configuration"; platforms = linux ∷ freebsd ∷ vm ∷ []; place = here; test = absent (codes "zos") } ∷
-    record { name = codes "spec-one-platform"; level = stated; section = codes "runtime config.md#platform-specific-configuration"; platforms = windows ∷ []; place = here; test = absent (codes "linux") } ∷
-    record { name = codes "spec-one-platform"; level = stated; section = codes "runtime config.md#platform-specific-configuration"; platforms = windows ∷ []; place = here; test = absent (codes "solaris") } ∷
-    record { name = codes "spec-one-platform"; level = stated; section = codes "runtime config.md#platform-specific-configuration"; platforms = windows ∷ []; place = here; test = absent (codes "zos") } ∷
-    record { name = codes "spec-one-platform"; level = stated; section = codes "runtime config.md#platform-specific-configuration"; platforms = solaris ∷ []; place = here; test = absent (codes "linux") } ∷
-    record { name = codes "spec-one-platform"; level = stated; section = codes "runtime config.md#platform-specific-configuration"; platforms = solaris ∷ []; place = here; test = absent (codes "windows") } ∷
-    record { name = codes "spec-one-platform"; level = stated; section = codes "runtime config.md#platform-specific-configuration"; platforms = solaris ∷ []; place = here; test = absent (codes "zos") } ∷
-    record { name = codes "spec-one-platform"; level = stated; section = codes "runtime config.md#platform-specific-configuration"; platforms = zos ∷ []; place = here; test = absent (codes "linux") } ∷
-    record { name = codes "spec-one-platform"; level = stated; section = codes "runtime config.md#platform-specific-configuration"; platforms = zos ∷ []; place = here; test = absent (codes "windows") } ∷
-    record { name = codes "spec-one-platform"; level = stated; section = codes "runtime config.md#platform-specific-configuration"; platforms = zos ∷ []; place = here; test = absent (codes "solaris") } ∷
+    record { name = codes "spec-one-platform"; level = host; section = codes "runtime config.md#platform-specific-configuration"; platforms = linux ∷ windows ∷ []; place = here; test = absent (codes "solaris") } ∷
+    record { name = codes "spec-one-platform"; level = host; section = codes "runtime config.md#platform-specific-configuration"; platforms = linux ∷ windows ∷ []; place = here; test = absent (codes "zos") } ∷
+    record { name = codes "spec-one-platform"; level = host; section = codes "runtime config.md#platform-specific-configuration"; platforms = freebsd ∷ vm ∷ []; place = here; test = absent (codes "windows") } ∷
+    record { name = codes "spec-one-platform"; level = host; section = codes "runtime config.md#platform-specific-configuration"; platforms = freebsd ∷ vm ∷ []; place = here; test = absent (codes "solaris") } ∷
+    record { name = codes "spec-one-platform"; level = host; section = codes "runtime config.md#platform-specific-configuration"; platforms = freebsd ∷ vm ∷ []; place = here; test = absent (codes "zos") } ∷
+    record { name = codes "spec-one-platform"; level = host; section = codes "runtime config.md#platform-specific-configuration"; platforms = solaris ∷ []; place = here; test = absent (codes "linux") } ∷
+    record { name = codes "spec-one-platform"; level = host; section = codes "runtime config.md#platform-specific-configuration"; platforms = solaris ∷ []; place = here; test = absent (codes "windows") } ∷
+    record { name = codes "spec-one-platform"; level = host; section = codes "runtime config.md#platform-specific-configuration"; platforms = solaris ∷ []; place = here; test = absent (codes "zos") } ∷
+    record { name = codes "spec-one-platform"; level = host; section = codes "runtime config.md#platform-specific-configuration"; platforms = zos ∷ []; place = here; test = absent (codes "linux") } ∷
+    record { name = codes "spec-one-platform"; level = host; section = codes "runtime config.md#platform-specific-configuration"; platforms = zos ∷ []; place = here; test = absent (codes "windows") } ∷
+    record { name = codes "spec-one-platform"; level = host; section = codes "runtime config.md#platform-specific-configuration"; platforms = zos ∷ []; place = here; test = absent (codes "solaris") } ∷
     record { name = codes "root-there"; level = must; section = codes "runtime config.md#root"; platforms = posix; place = here; test = there (codes "root") } ∷
     record { name = codes "root-there"; level = must; section = codes "runtime config.md#root"; platforms = windows ∷ []; place = if_so (asks the_part (codes "windows" ∷ codes "hyperv" ∷ []) false is_there) here; test = there (codes "root") } ∷
-    record { name = codes "root-absent-hyperv"; level = must; section = codes "runtime config.md#root"; platforms = every; place = if_so (asks the_part (codes "windows" ∷ codes "hyperv" ∷ []) true is_there) here; test = absent (codes "root") } ∷
+    record { name = codes "root-absent-hyperv"; level = must; section = codes "runtime config.md#root"; platforms = windows ∷ []; place = if_so (asks the_part (codes "windows" ∷ codes "hyperv" ∷ []) true is_there) here; test = absent (codes "root") } ∷
     record { name = codes "root-path-there"; level = must; section = codes "runtime config.md#root"; platforms = every; place = under (codes "root") here; test = there (codes "path") } ∷
     record { name = codes "root-path-there"; level = must; section = codes "runtime config.md#root"; platforms = every; place = under (codes "root") (under (codes "path") here); test = not_empty } ∷
     record { name = codes "root-path-volume"; level = must; section = codes "runtime config.md#root"; platforms = windows ∷ []; place = under (codes "root") (under (codes "path") here); test = text VolumeGuidPath } ∷
@@ -97,9 +96,9 @@ spec_hooks_rules =
     record { name = codes "hook-args-some"; level = host; section = codes "execv(3)"; platforms = every; place = under (codes "hooks") (under (codes "poststart") (each_item (under (codes "args") here))); test = not_empty } ∷
     record { name = codes "hook-args-some"; level = host; section = codes "execv(3)"; platforms = every; place = under (codes "hooks") (under (codes "poststop") (each_item (under (codes "args") here))); test = not_empty } ∷
     record { name = codes "hook-prestart-deprecated"; level = should; section = codes "runtime config.md#posix-platform-hooks"; platforms = every; place = under (codes "hooks") here; test = absent (codes "prestart") } ∷
-    record { name = codes "hook-on-posix"; level = stated; section = codes "runtime config.md#posix-platform-hooks"; platforms = windows ∷ []; place = here; test = absent (codes "hooks") } ∷
-    record { name = codes "hostname-needs-uts"; level = host; section = codes "runtime config.md#hostname"; platforms = linux ∷ []; place = if_so (asks the_document (codes "linux" ∷ codes "namespaces" ∷ []) false (has_item (codes "type") (codes "uts" ∷ []) [] (codes "path" ∷ []))) here; test = absent (codes "hostname") } ∷
-    record { name = codes "domainname-needs-uts"; level = host; section = codes "runtime config.md#domainname"; platforms = linux ∷ []; place = if_so (asks the_document (codes "linux" ∷ codes "namespaces" ∷ []) false (has_item (codes "type") (codes "uts" ∷ []) [] (codes "path" ∷ []))) here; test = absent (codes "domainname") } ∷
+    record { name = codes "hook-on-posix"; level = host; section = codes "runtime config.md#posix-platform-hooks"; platforms = windows ∷ []; place = here; test = absent (codes "hooks") } ∷
+    record { name = codes "hostname-needs-uts"; level = host; section = codes "runtime config.md#hostname"; platforms = linux ∷ []; place = if_so (asks the_document (codes "linux" ∷ codes "namespaces" ∷ []) false (has_item (codes "type") (codes "uts" ∷ []) [] [])) here; test = absent (codes "hostname") } ∷
+    record { name = codes "domainname-needs-uts"; level = host; section = codes "runtime config.md#domainname"; platforms = linux ∷ []; place = if_so (asks the_document (codes "linux" ∷ codes "namespaces" ∷ []) false (has_item (codes "type") (codes "uts" ∷ []) [] [])) here; test = absent (codes "domainname") } ∷
     record { name = codes "hostname-length"; level = host; section = codes "sethostname(2)"; platforms = every; place = under (codes "hostname") here; test = length_at_most 64 } ∷
     record { name = codes "hostname-length"; level = host; section = codes "sethostname(2)"; platforms = every; place = under (codes "domainname") here; test = length_at_most 64 } ∷
     []

@@ -1,9 +1,14 @@
 -- Whether all that rules name stands in the shape of a document: each place, what a condition looks at, and the members that a test asks of.
 use Rattle.std.specs.Prelude.{ℕ, ◌&&◌, ◌||◌, Bool, true, false, bytes_eq, List, [], ◌∷◌, Option, Some, None, option_and_then, if◌then◌else◌}
-use Rattle.std.specs.List.{list_all}
+use Rattle.std.specs.List.{list_all, list_any}
 use Rattle.oci_model.specs.Shape as shape
 use Rattle.oci_model.specs.Shape.{Shape, Rows, no_rows, row}
 use Rattle.oci_rules.specs.Rules.{Origin, the_part, the_document, is_there, has_item, Condition, asks, members, Test, there, not_null, either, at_most, versions_in_order, sum_at_most, as_many, among, lists_item, apart, distinct, Place, here, under, each_item, each_member, each_name, if_so, Rule}
+use Rattle.oci_rule_books.specs.Beside.{unlisted}
+
+-- a member that the specifications have and the records do not
+abbrev pub is_unlisted : List ℕ → Bool
+is_unlisted name = list_any (bytes_eq name) unlisted
 
 abbrev pub is_second : List ℕ → Option (List ℕ) → Bool
 is_second name None = false
@@ -28,10 +33,11 @@ abbrev pub each_shape : Shape → Option Shape
 each_shape (shape.map s) = Some s
 each_shape _ = None
 
--- objects whose members have any name
+-- objects, whose members have names
 abbrev pub name_shape : Shape → Option Shape
 name_shape (shape.map s) = Some shape.text
 name_shape shape.key_set = Some shape.text
+name_shape (shape.rows rs) = Some shape.text
 name_shape _ = None
 
 -- the shape to which these names lead
@@ -76,7 +82,7 @@ test_stands test s = true
 
 abbrev pub place_stands : Place → Test → Shape → Shape → Bool
 place_stands here test root s = test_stands test s
-place_stands (under name p) test root s = of_some (place_stands p test root) (under_shape name s)
+place_stands (under name p) test root s = is_unlisted name || of_some (place_stands p test root) (under_shape name s)
 place_stands (each_item p) test root s = of_some (place_stands p test root) (item_shape s)
 place_stands (each_member p) test root s = of_some (place_stands p test root) (each_shape s)
 place_stands (each_name p) test root s = of_some (place_stands p test root) (name_shape s)

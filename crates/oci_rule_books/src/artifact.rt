@@ -16,7 +16,7 @@ static RULES_1: [Rule<'static>; 3] = [
     rule! { "artifact-type", Must, "image artifact.md#artifact-manifest-property-descriptions", "a media type (RFC 6838, section 4.2)", Platforms::Every,
         [Step::Member("artifactType")],
         Test::Text(Grammar::MediaType) },
-    rule! { "artifact-subject-type", Stated, "image artifact.md#artifact-manifest-property-descriptions", "the media type of a manifest or index", Platforms::Every,
+    rule! { "artifact-subject-type", Host, "image artifact.md#artifact-manifest-property-descriptions", "the media type of a manifest or index", Platforms::Every,
         [Step::Member("subject"), Step::Member("mediaType")],
         Test::OneOf(SUBJECT_TYPES) },
 ];

@@ -15,7 +15,7 @@ static RULES_1: [Rule<'static>; 3] = [
     rule! { "descriptor-artifact-type", Must, "image descriptor.md#properties", "a media type (RFC 6838, section 4.2)", Platforms::Every,
         [Step::Member("blobs"), Step::EachItem, Step::Member("artifactType")],
         Test::Text(Grammar::MediaType) },
-    rule! { "descriptor-size-limit", Must, "image descriptor.md#properties", "an integer from 0 to 9223372036854775807", Platforms::Every,
+    rule! { "descriptor-size-limit", Stated, "image descriptor.md#properties", "an integer from 0 to 9223372036854775807", Platforms::Every,
         [Step::Member("blobs"), Step::EachItem, Step::Member("size")],
         Test::Within(0, 9223372036854775807) },
 ];
@@ -33,7 +33,7 @@ static RULES_2: [Rule<'static>; 3] = [
 ];
 
 static RULES_3: [Rule<'static>; 3] = [
-    rule! { "descriptor-digest-algorithm", Should, "image descriptor.md#digests", "a digest by SHA-256", Platforms::Every,
+    rule! { "descriptor-digest-algorithm", Should, "image descriptor.md#registered-algorithms", "a digest by SHA-256", Platforms::Every,
         [Step::Member("blobs"), Step::EachItem, Step::Member("digest")],
         Test::Begins("sha256:") },
     rule! { "descriptor-empty", Stated, "image manifest.md#guidance-for-an-empty-descriptor", "the digest, size and data of {}", Platforms::Every,

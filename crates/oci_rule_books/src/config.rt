@@ -5,7 +5,9 @@ ghost use Rattle.std.specs.List.{flat_map};
 ghost use Rattle.oci_rules.specs.Tables.{rule_of};
 ghost use Rattle.oci_rule_books.specs.Config as defined;
 
-use crate::lists::{GOARCH, GOOS};
+use crate::lists::{
+    AMD64_VARIANTS, ARM_VARIANTS, ARM64_VARIANTS, GOARCH, GOOS, PPC64LE_VARIANTS, RISCV64_VARIANTS,
+};
 use oci_grammars::Grammar;
 use oci_rules::{Condition, Key, Level, Origin, Platforms, Predicate, Rule, Step, Test};
 
@@ -25,15 +27,27 @@ static RULES_2: [Rule<'static>; 3] = [
     rule! { "config-os-known", Should, "image config.md#properties", "a value of Go's GOOS", Platforms::Every,
         [Step::Member("os")],
         Test::OneOf(GOOS) },
-    rule! { "config-variant-known", Should, "image config.md#properties", "a variant that the specification lists for this processor", Platforms::Every,
+    rule! { "config-variant-known", Should, "image config.md#properties", "a variant of the specification's table for this processor; where its row goes on, one of Go's", Platforms::Every,
         [Step::When(Condition { origin: Origin::Part, way: &["architecture"], holds: true, check: Predicate::OneOf(&["arm"]) }), Step::Member("variant")],
-        Test::OneOf(&["v6", "v7", "v8"]) },
-    rule! { "config-variant-known", Should, "image config.md#properties", "a variant that the specification lists for this processor", Platforms::Every,
+        Test::OneOf(ARM_VARIANTS) },
+    rule! { "config-variant-known", Should, "image config.md#properties", "a variant of the specification's table for this processor; where its row goes on, one of Go's", Platforms::Every,
         [Step::When(Condition { origin: Origin::Part, way: &["architecture"], holds: true, check: Predicate::OneOf(&["arm64"]) }), Step::Member("variant")],
-        Test::OneOf(&["v8"]) },
+        Test::OneOf(ARM64_VARIANTS) },
 ];
 
 static RULES_3: [Rule<'static>; 3] = [
+    rule! { "config-variant-known", Should, "image config.md#properties", "a variant of the specification's table for this processor; where its row goes on, one of Go's", Platforms::Every,
+        [Step::When(Condition { origin: Origin::Part, way: &["architecture"], holds: true, check: Predicate::OneOf(&["ppc64le"]) }), Step::Member("variant")],
+        Test::OneOf(PPC64LE_VARIANTS) },
+    rule! { "config-variant-known", Should, "image config.md#properties", "a variant of the specification's table for this processor; where its row goes on, one of Go's", Platforms::Every,
+        [Step::When(Condition { origin: Origin::Part, way: &["architecture"], holds: true, check: Predicate::OneOf(&["riscv64"]) }), Step::Member("variant")],
+        Test::OneOf(RISCV64_VARIANTS) },
+    rule! { "config-variant-known", Should, "image config.md#properties", "a variant of the specification's table for this processor; where its row goes on, one of Go's", Platforms::Every,
+        [Step::When(Condition { origin: Origin::Part, way: &["architecture"], holds: true, check: Predicate::OneOf(&["amd64"]) }), Step::Member("variant")],
+        Test::OneOf(AMD64_VARIANTS) },
+];
+
+static RULES_4: [Rule<'static>; 3] = [
     rule! { "config-features-windows", Should, "image config.md#properties", "a feature that the specification lists for Windows", Platforms::Every,
         [Step::When(Condition { origin: Origin::Part, way: &["os"], holds: true, check: Predicate::OneOf(&["windows"]) }), Step::Member("os.features"), Step::EachItem],
         Test::OneOf(&["win32k"]) },
@@ -45,21 +59,21 @@ static RULES_3: [Rule<'static>; 3] = [
         Test::Text(Grammar::Digest) },
 ];
 
-static RULES_4: [Rule<'static>; 3] = [
+static RULES_5: [Rule<'static>; 3] = [
     rule! { "config-env", Stated, "image config.md#properties", "a name, =, and a value", Platforms::Every,
         [Step::Member("config"), Step::Member("Env"), Step::EachItem],
         Test::Text(Grammar::EnvironmentEntry) },
-    rule! { "config-port", Stated, "image config.md#properties", "a number from 1 to 65535, with /tcp, /udp or nothing behind it", Platforms::Every,
+    rule! { "config-port", Host, "image config.md#properties", "a port or a range of ports from 1 to 65535, with /tcp, /udp, /sctp or nothing behind it", Platforms::Every,
         [Step::Member("config"), Step::Member("ExposedPorts"), Step::EachName],
         Test::Text(Grammar::Port) },
-    rule! { "config-user", Stated, "image config.md#properties", "a user or ID, with :group behind it or nothing", Platforms::Every,
-        [Step::Member("config"), Step::Member("User"), Step::When(Condition { origin: Origin::Part, way: &[], holds: false, check: Predicate::OneOf(&[""]) })],
+    rule! { "config-user", Stated, "image config.md#properties", "a user or ID, with :group behind it or nothing, of an image for Linux", Platforms::Every,
+        [Step::When(Condition { origin: Origin::Part, way: &["os"], holds: true, check: Predicate::OneOf(&["linux"]) }), Step::Member("config"), Step::Member("User"), Step::When(Condition { origin: Origin::Part, way: &[], holds: false, check: Predicate::OneOf(&[""]) })],
         Test::Text(Grammar::User) },
 ];
 
-static RULES_5: [Rule<'static>; 3] = [
-    rule! { "config-stop-signal", Stated, "image config.md#properties", "a signal's name, as SIGKILL or SIGRTMIN+3, or its number from 1 to 64", Platforms::Every,
-        [Step::Member("config"), Step::Member("StopSignal")],
+static RULES_6: [Rule<'static>; 3] = [
+    rule! { "config-stop-signal", Host, "image config.md#properties", "a signal's name, as SIGKILL, KILL or SIGRTMIN+3, or its number from 1 to 64", Platforms::Every,
+        [Step::Member("config"), Step::Member("StopSignal"), Step::When(Condition { origin: Origin::Part, way: &[], holds: false, check: Predicate::OneOf(&[""]) })],
         Test::Text(Grammar::Signal) },
     rule! { "config-args-escaped", Should, "image config.md#properties", "no such member, which is deprecated", Platforms::Every,
         [Step::Member("config")],
@@ -69,7 +83,7 @@ static RULES_5: [Rule<'static>; 3] = [
         Test::Absent("Memory") },
 ];
 
-static RULES_6: [Rule<'static>; 3] = [
+static RULES_7: [Rule<'static>; 3] = [
     rule! { "config-reserved", Host, "image config.md#properties", "no such member from a builder; it is reserved for compatibility with Docker, and readers ignore it", Platforms::Every,
         [Step::Member("config")],
         Test::Absent("MemorySwap") },
@@ -81,12 +95,12 @@ static RULES_6: [Rule<'static>; 3] = [
         Test::Absent("Healthcheck") },
 ];
 
-static RULES_7: [Rule<'static>; 3] = [
+static RULES_8: [Rule<'static>; 3] = [
     rule! { "config-env-once", Host, "common practice", "each variable once", Platforms::Every,
         [Step::Member("config"), Step::Member("Env")],
         Test::Distinct(Key::EntryName) },
-    rule! { "config-volume-absolute", Host, "common practice", "an absolute path", Platforms::Every,
-        [Step::Member("config"), Step::Member("Volumes"), Step::EachName],
+    rule! { "config-volume-absolute", Host, "common practice", "an absolute path, of an image that is not for Windows", Platforms::Every,
+        [Step::When(Condition { origin: Origin::Part, way: &["os"], holds: false, check: Predicate::OneOf(&["windows"]) }), Step::Member("config"), Step::Member("Volumes"), Step::EachName],
         Test::Text(Grammar::AbsolutePath) },
     rule! { "config-working-dir-absolute", Host, "common practice", "an absolute path", Platforms::Every,
         [Step::When(Condition { origin: Origin::Part, way: &["os"], holds: false, check: Predicate::OneOf(&["windows"]) }), Step::Member("config"), Step::Member("WorkingDir"), Step::When(Condition { origin: Origin::Part, way: &[], holds: false, check: Predicate::OneOf(&[""]) })],
@@ -94,10 +108,10 @@ static RULES_7: [Rule<'static>; 3] = [
 ];
 
 /// Returns the book of config, a few rules in each slice.
-pub fn config_rules() -> [&'static [Rule<'static>]; 7]
+pub fn config_rules() -> [&'static [Rule<'static>]; 8]
     ensures { flat_map (λ b. map rule_of b.now) result ≡ defined.config_rules }
 {
     [
-        &RULES_1, &RULES_2, &RULES_3, &RULES_4, &RULES_5, &RULES_6, &RULES_7,
+        &RULES_1, &RULES_2, &RULES_3, &RULES_4, &RULES_5, &RULES_6, &RULES_7, &RULES_8,
     ]
 }

@@ -5,9 +5,13 @@ ghost use Rattle.std.specs.List.{flat_map};
 ghost use Rattle.oci_rules.specs.Tables.{rule_of};
 ghost use Rattle.oci_rule_books.specs.Features as defined;
 
-use crate::lists::{HOOK_KINDS, LINUX_MOUNT_OPTIONS, SECCOMP_FLAGS, SECCOMP_OPERATORS};
+use crate::lists::{
+    CAPABILITIES, CGROUP_FEATURES_MEMBERS, FEATURES_MEMBERS, FILESYSTEM_OPTIONS, HOOK_KINDS,
+    LINUX_FEATURES_MEMBERS, RELEASE_VERSIONS, SECCOMP_FEATURES_MEMBERS, SECCOMP_FLAGS,
+    SECCOMP_OPERATORS,
+};
 use oci_grammars::Grammar;
-use oci_rules::{Key, Level, Platforms, Rule, Step, Test};
+use oci_rules::{Condition, Key, Level, Origin, Platforms, Predicate, Rule, Step, Test};
 
 static RULES_1: [Rule<'static>; 3] = [
     rule! { "features-versions", Stated, "runtime features.md#specification-version", "a version (SemVer 2.0.0)", Platforms::Every,
@@ -16,24 +20,60 @@ static RULES_1: [Rule<'static>; 3] = [
     rule! { "features-versions", Stated, "runtime features.md#specification-version", "a version (SemVer 2.0.0)", Platforms::Every,
         [Step::Member("ociVersionMax")],
         Test::Text(Grammar::SemVer) },
+    rule! { "features-no-other-members", Must, "runtime features.md#specification-version", "a member that the specification of ociVersionMax defines", Platforms::Every,
+        [Step::When(Condition { origin: Origin::Part, way: &["ociVersionMax"], holds: true, check: Predicate::OneOf(RELEASE_VERSIONS) }), Step::EachName],
+        Test::OneOf(FEATURES_MEMBERS) },
+];
+
+static RULES_2: [Rule<'static>; 3] = [
+    rule! { "features-no-other-members", Must, "runtime features.md#specification-version", "a member that the specification of ociVersionMax defines", Platforms::Every,
+        [Step::When(Condition { origin: Origin::Part, way: &["ociVersionMax"], holds: true, check: Predicate::OneOf(RELEASE_VERSIONS) }), Step::Member("linux"), Step::EachName],
+        Test::OneOf(LINUX_FEATURES_MEMBERS) },
+    rule! { "features-no-other-members", Must, "runtime features.md#specification-version", "a member that the specification of ociVersionMax defines", Platforms::Every,
+        [Step::When(Condition { origin: Origin::Part, way: &["ociVersionMax"], holds: true, check: Predicate::OneOf(RELEASE_VERSIONS) }), Step::Member("linux"), Step::Member("cgroup"), Step::EachName],
+        Test::OneOf(CGROUP_FEATURES_MEMBERS) },
+    rule! { "features-no-other-members", Must, "runtime features.md#specification-version", "a member that the specification of ociVersionMax defines", Platforms::Every,
+        [Step::When(Condition { origin: Origin::Part, way: &["ociVersionMax"], holds: true, check: Predicate::OneOf(RELEASE_VERSIONS) }), Step::Member("linux"), Step::Member("seccomp"), Step::EachName],
+        Test::OneOf(SECCOMP_FEATURES_MEMBERS) },
+];
+
+static RULES_3: [Rule<'static>; 3] = [
+    rule! { "features-no-other-members", Must, "runtime features.md#specification-version", "a member that the specification of ociVersionMax defines", Platforms::Every,
+        [Step::When(Condition { origin: Origin::Part, way: &["ociVersionMax"], holds: true, check: Predicate::OneOf(RELEASE_VERSIONS) }), Step::Member("linux"), Step::Member("apparmor"), Step::EachName],
+        Test::OneOf(&["enabled"]) },
+    rule! { "features-no-other-members", Must, "runtime features.md#specification-version", "a member that the specification of ociVersionMax defines", Platforms::Every,
+        [Step::When(Condition { origin: Origin::Part, way: &["ociVersionMax"], holds: true, check: Predicate::OneOf(RELEASE_VERSIONS) }), Step::Member("linux"), Step::Member("selinux"), Step::EachName],
+        Test::OneOf(&["enabled"]) },
+    rule! { "features-no-other-members", Must, "runtime features.md#specification-version", "a member that the specification of ociVersionMax defines", Platforms::Every,
+        [Step::When(Condition { origin: Origin::Part, way: &["ociVersionMax"], holds: true, check: Predicate::OneOf(RELEASE_VERSIONS) }), Step::Member("linux"), Step::Member("intelRdt"), Step::EachName],
+        Test::OneOf(&["enabled"]) },
+];
+
+static RULES_4: [Rule<'static>; 3] = [
+    rule! { "features-no-other-members", Must, "runtime features.md#specification-version", "a member that the specification of ociVersionMax defines", Platforms::Every,
+        [Step::When(Condition { origin: Origin::Part, way: &["ociVersionMax"], holds: true, check: Predicate::OneOf(RELEASE_VERSIONS) }), Step::Member("linux"), Step::Member("mountExtensions"), Step::EachName],
+        Test::OneOf(&["idmap"]) },
+    rule! { "features-no-other-members", Must, "runtime features.md#specification-version", "a member that the specification of ociVersionMax defines", Platforms::Every,
+        [Step::When(Condition { origin: Origin::Part, way: &["ociVersionMax"], holds: true, check: Predicate::OneOf(RELEASE_VERSIONS) }), Step::Member("linux"), Step::Member("mountExtensions"), Step::Member("idmap"), Step::EachName],
+        Test::OneOf(&["enabled"]) },
     rule! { "features-hooks-known", Host, "runtime features.md#hooks", "a kind of hooks that the specification knows", Platforms::Every,
         [Step::Member("hooks"), Step::EachItem],
         Test::OneOf(HOOK_KINDS) },
 ];
 
-static RULES_2: [Rule<'static>; 3] = [
-    rule! { "features-capability", Stated, "runtime features-linux.md#capabilities", "CAP_ and capital letters", Platforms::Every,
+static RULES_5: [Rule<'static>; 3] = [
+    rule! { "features-capability", Stated, "runtime features-linux.md#capabilities", "the name of a capability, as CAP_CHOWN", Platforms::Every,
         [Step::Member("linux"), Step::Member("capabilities"), Step::EachItem],
-        Test::Text(Grammar::CapabilityName) },
-    rule! { "features-mount-option", Should, "runtime features.md#mount-options", "an option that belongs to no file system", Platforms::Every,
+        Test::OneOf(CAPABILITIES) },
+    rule! { "features-mount-option", Should, "runtime features.md#mount-options", "no option of one file system alone", Platforms::Every,
         [Step::Member("mountOptions"), Step::EachItem],
-        Test::OneOf(LINUX_MOUNT_OPTIONS) },
+        Test::NoneOf(FILESYSTEM_OPTIONS) },
     rule! { "features-flags-known", Stated, "runtime features-linux.md#seccomp", "a flag that is among the known ones", Platforms::Every,
         [Step::Member("linux"), Step::Member("seccomp")],
         Test::Among("supportedFlags", "knownFlags") },
 ];
 
-static RULES_3: [Rule<'static>; 3] = [
+static RULES_6: [Rule<'static>; 3] = [
     rule! { "features-operators-known", Host, "runtime features-linux.md#seccomp", "an operator or flag that the specification knows", Platforms::Every,
         [Step::Member("linux"), Step::Member("seccomp"), Step::Member("operators"), Step::EachItem],
         Test::OneOf(SECCOMP_OPERATORS) },
@@ -45,7 +85,7 @@ static RULES_3: [Rule<'static>; 3] = [
         Test::OneOf(SECCOMP_FLAGS) },
 ];
 
-static RULES_4: [Rule<'static>; 3] = [
+static RULES_7: [Rule<'static>; 3] = [
     rule! { "features-once", Host, "common practice", "each name once", Platforms::Every,
         [Step::Member("hooks")],
         Test::Distinct(Key::Itself) },
@@ -57,7 +97,7 @@ static RULES_4: [Rule<'static>; 3] = [
         Test::Distinct(Key::Itself) },
 ];
 
-static RULES_5: [Rule<'static>; 3] = [
+static RULES_8: [Rule<'static>; 3] = [
     rule! { "features-once", Host, "common practice", "each name once", Platforms::Every,
         [Step::Member("linux"), Step::Member("capabilities")],
         Test::Distinct(Key::Itself) },
@@ -69,7 +109,7 @@ static RULES_5: [Rule<'static>; 3] = [
         Test::Distinct(Key::Itself) },
 ];
 
-static RULES_6: [Rule<'static>; 3] = [
+static RULES_9: [Rule<'static>; 3] = [
     rule! { "features-once", Host, "common practice", "each name once", Platforms::Every,
         [Step::Member("linux"), Step::Member("seccomp"), Step::Member("archs")],
         Test::Distinct(Key::Itself) },
@@ -81,7 +121,7 @@ static RULES_6: [Rule<'static>; 3] = [
         Test::Distinct(Key::Itself) },
 ];
 
-static RULES_7: [Rule<'static>; 2] = [
+static RULES_10: [Rule<'static>; 2] = [
     rule! { "annotation-key-not-empty", Must, "runtime config.md#annotations", "a key that is not empty", Platforms::Every,
         [Step::Member("annotations"), Step::EachName],
         Test::NotEmpty },
@@ -91,10 +131,11 @@ static RULES_7: [Rule<'static>; 2] = [
 ];
 
 /// Returns the book of features, a few rules in each slice.
-pub fn features_rules() -> [&'static [Rule<'static>]; 7]
+pub fn features_rules() -> [&'static [Rule<'static>]; 10]
     ensures { flat_map (λ b. map rule_of b.now) result ≡ defined.features_rules }
 {
     [
-        &RULES_1, &RULES_2, &RULES_3, &RULES_4, &RULES_5, &RULES_6, &RULES_7,
+        &RULES_1, &RULES_2, &RULES_3, &RULES_4, &RULES_5, &RULES_6, &RULES_7, &RULES_8, &RULES_9,
+        &RULES_10,
     ]
 }

@@ -5,7 +5,10 @@ ghost use Rattle.std.specs.List.{flat_map};
 ghost use Rattle.oci_rules.specs.Tables.{rule_of};
 ghost use Rattle.oci_rule_books.specs.Index as defined;
 
-use crate::lists::{GOARCH, GOOS, MANIFEST_TYPES};
+use crate::lists::{
+    AMD64_VARIANTS, ARM_VARIANTS, ARM64_VARIANTS, GOARCH, GOOS, MANIFEST_TYPES, PPC64LE_VARIANTS,
+    RISCV64_VARIANTS,
+};
 use oci_grammars::Grammar;
 use oci_rules::{Condition, Key, Level, Origin, Platforms, Predicate, Rule, Step, Test};
 
@@ -28,8 +31,8 @@ static RULES_2: [Rule<'static>; 3] = [
     rule! { "index-manifest-type-known", Should, "image image-index.md#image-index-property-descriptions", "the media type of an image manifest or index", Platforms::Every,
         [Step::Member("manifests"), Step::EachItem, Step::Member("mediaType")],
         Test::OneOf(MANIFEST_TYPES) },
-    rule! { "descriptor-platform-there", Should, "image descriptor.md#properties", "a platform, where a manifest is described", Platforms::Every,
-        [Step::Member("manifests"), Step::EachItem, Step::When(Condition { origin: Origin::Part, way: &["mediaType"], holds: true, check: Predicate::OneOf(&["application/vnd.oci.image.manifest.v1+json"]) })],
+    rule! { "descriptor-platform-there", Should, "image descriptor.md#properties", "a platform, where a manifest is described that is not an artifact's", Platforms::Every,
+        [Step::Member("manifests"), Step::EachItem, Step::When(Condition { origin: Origin::Part, way: &["mediaType"], holds: true, check: Predicate::OneOf(&["application/vnd.oci.image.manifest.v1+json"]) }), Step::When(Condition { origin: Origin::Part, way: &["artifactType"], holds: false, check: Predicate::There })],
         Test::There("platform") },
 ];
 
@@ -40,15 +43,27 @@ static RULES_3: [Rule<'static>; 3] = [
     rule! { "platform-os-known", Should, "image image-index.md#image-index-property-descriptions", "a value of Go's GOOS", Platforms::Every,
         [Step::Member("manifests"), Step::EachItem, Step::Member("platform"), Step::Member("os")],
         Test::OneOf(GOOS) },
-    rule! { "platform-variant-known", Should, "image image-index.md#platform-variants", "a variant that the specification lists for this processor", Platforms::Every,
+    rule! { "platform-variant-known", Should, "image image-index.md#platform-variants", "a variant of the specification's table for this processor; where its row goes on, one of Go's", Platforms::Every,
         [Step::Member("manifests"), Step::EachItem, Step::Member("platform"), Step::When(Condition { origin: Origin::Part, way: &["architecture"], holds: true, check: Predicate::OneOf(&["arm"]) }), Step::Member("variant")],
-        Test::OneOf(&["v6", "v7", "v8"]) },
+        Test::OneOf(ARM_VARIANTS) },
 ];
 
 static RULES_4: [Rule<'static>; 3] = [
-    rule! { "platform-variant-known", Should, "image image-index.md#platform-variants", "a variant that the specification lists for this processor", Platforms::Every,
+    rule! { "platform-variant-known", Should, "image image-index.md#platform-variants", "a variant of the specification's table for this processor; where its row goes on, one of Go's", Platforms::Every,
         [Step::Member("manifests"), Step::EachItem, Step::Member("platform"), Step::When(Condition { origin: Origin::Part, way: &["architecture"], holds: true, check: Predicate::OneOf(&["arm64"]) }), Step::Member("variant")],
-        Test::OneOf(&["v8"]) },
+        Test::OneOf(ARM64_VARIANTS) },
+    rule! { "platform-variant-known", Should, "image image-index.md#platform-variants", "a variant of the specification's table for this processor; where its row goes on, one of Go's", Platforms::Every,
+        [Step::Member("manifests"), Step::EachItem, Step::Member("platform"), Step::When(Condition { origin: Origin::Part, way: &["architecture"], holds: true, check: Predicate::OneOf(&["ppc64le"]) }), Step::Member("variant")],
+        Test::OneOf(PPC64LE_VARIANTS) },
+    rule! { "platform-variant-known", Should, "image image-index.md#platform-variants", "a variant of the specification's table for this processor; where its row goes on, one of Go's", Platforms::Every,
+        [Step::Member("manifests"), Step::EachItem, Step::Member("platform"), Step::When(Condition { origin: Origin::Part, way: &["architecture"], holds: true, check: Predicate::OneOf(&["riscv64"]) }), Step::Member("variant")],
+        Test::OneOf(RISCV64_VARIANTS) },
+];
+
+static RULES_5: [Rule<'static>; 3] = [
+    rule! { "platform-variant-known", Should, "image image-index.md#platform-variants", "a variant of the specification's table for this processor; where its row goes on, one of Go's", Platforms::Every,
+        [Step::Member("manifests"), Step::EachItem, Step::Member("platform"), Step::When(Condition { origin: Origin::Part, way: &["architecture"], holds: true, check: Predicate::OneOf(&["amd64"]) }), Step::Member("variant")],
+        Test::OneOf(AMD64_VARIANTS) },
     rule! { "platform-features-windows", Should, "image image-index.md#image-index-property-descriptions", "a feature that the specification lists for Windows", Platforms::Every,
         [Step::Member("manifests"), Step::EachItem, Step::Member("platform"), Step::When(Condition { origin: Origin::Part, way: &["os"], holds: true, check: Predicate::OneOf(&["windows"]) }), Step::Member("os.features"), Step::EachItem],
         Test::OneOf(&["win32k"]) },
@@ -57,27 +72,29 @@ static RULES_4: [Rule<'static>; 3] = [
         Test::OneOf(&["win32k"]) },
 ];
 
-static RULES_5: [Rule<'static>; 3] = [
-    rule! { "platform-features-reserved", Stated, "image image-index.md#image-index-property-descriptions", "no such member, which is reserved", Platforms::Every,
+static RULES_6: [Rule<'static>; 3] = [
+    rule! { "platform-features-reserved", Host, "image image-index.md#image-index-property-descriptions", "no such member, which is reserved", Platforms::Every,
         [Step::Member("manifests"), Step::EachItem, Step::Member("platform")],
         Test::Absent("features") },
     rule! { "index-ref-name-once", Host, "image image-layout.md#indexjson-file", "each name of a reference once", Platforms::Every,
         [Step::Member("manifests")],
         Test::Distinct(Key::Members(&[&["annotations", "org.opencontainers.image.ref.name"]])) },
-    rule! { "manifest-not-index", Stated, "image manifest.md#image-manifest", "no member of another kind of manifest", Platforms::Every,
+    rule! { "manifest-not-index", Host, "image manifest.md#image-manifest", "no member of another kind of manifest", Platforms::Every,
         [],
         Test::Absent("config") },
 ];
 
-static RULES_6: [Rule<'static>; 1] = [
-    rule! { "manifest-not-index", Stated, "image manifest.md#image-manifest", "no member of another kind of manifest", Platforms::Every,
+static RULES_7: [Rule<'static>; 1] = [
+    rule! { "manifest-not-index", Host, "image manifest.md#image-manifest", "no member of another kind of manifest", Platforms::Every,
         [],
         Test::Absent("layers") },
 ];
 
 /// Returns the book of index, a few rules in each slice.
-pub fn index_rules() -> [&'static [Rule<'static>]; 6]
+pub fn index_rules() -> [&'static [Rule<'static>]; 7]
     ensures { flat_map (λ b. map rule_of b.now) result ≡ defined.index_rules }
 {
-    [&RULES_1, &RULES_2, &RULES_3, &RULES_4, &RULES_5, &RULES_6]
+    [
+        &RULES_1, &RULES_2, &RULES_3, &RULES_4, &RULES_5, &RULES_6, &RULES_7,
+    ]
 }

@@ -22,42 +22,45 @@ static RULES_1: [Rule<'static>; 3] = [
 ];
 
 static RULES_2: [Rule<'static>; 3] = [
+    rule! { "annotation-created-date", Stated, "image annotations.md#pre-defined-annotation-keys", "a date and time (RFC 3339)", Platforms::Every,
+        [Step::Member("annotations"), Step::Member("org.opencontainers.artifact.created"), Step::When(Condition { origin: Origin::Part, way: &[], holds: false, check: Predicate::OneOf(&[""]) })],
+        Test::Text(Grammar::DateTime) },
     rule! { "annotation-url", Stated, "image annotations.md#pre-defined-annotation-keys", "a URI with a scheme", Platforms::Every,
         [Step::Member("annotations"), Step::Member("org.opencontainers.image.url"), Step::When(Condition { origin: Origin::Part, way: &[], holds: false, check: Predicate::OneOf(&[""]) })],
         Test::Text(Grammar::Uri) },
     rule! { "annotation-url", Stated, "image annotations.md#pre-defined-annotation-keys", "a URI with a scheme", Platforms::Every,
         [Step::Member("annotations"), Step::Member("org.opencontainers.image.documentation"), Step::When(Condition { origin: Origin::Part, way: &[], holds: false, check: Predicate::OneOf(&[""]) })],
         Test::Text(Grammar::Uri) },
-    rule! { "annotation-url", Stated, "image annotations.md#pre-defined-annotation-keys", "a URI with a scheme", Platforms::Every,
-        [Step::Member("annotations"), Step::Member("org.opencontainers.image.source"), Step::When(Condition { origin: Origin::Part, way: &[], holds: false, check: Predicate::OneOf(&[""]) })],
-        Test::Text(Grammar::Uri) },
 ];
 
 static RULES_3: [Rule<'static>; 3] = [
+    rule! { "annotation-url", Stated, "image annotations.md#pre-defined-annotation-keys", "a URI with a scheme", Platforms::Every,
+        [Step::Member("annotations"), Step::Member("org.opencontainers.image.source"), Step::When(Condition { origin: Origin::Part, way: &[], holds: false, check: Predicate::OneOf(&[""]) })],
+        Test::Text(Grammar::Uri) },
     rule! { "annotation-licenses-spdx", Stated, "image annotations.md#pre-defined-annotation-keys", "an SPDX license expression", Platforms::Every,
         [Step::Member("annotations"), Step::Member("org.opencontainers.image.licenses"), Step::When(Condition { origin: Origin::Part, way: &[], holds: false, check: Predicate::OneOf(&[""]) })],
         Test::Text(Grammar::SpdxExpression) },
-    rule! { "annotation-ref-name", Must, "image annotations.md#pre-defined-annotation-keys", "a name of the grammar for references", Platforms::Every,
+    rule! { "annotation-ref-name", Stated, "image annotations.md#pre-defined-annotation-keys", "a name of the grammar for references", Platforms::Every,
         [Step::Member("annotations"), Step::Member("org.opencontainers.image.ref.name")],
         Test::Text(Grammar::RefName) },
-    rule! { "annotation-base-digest", Stated, "image annotations.md#pre-defined-annotation-keys", "a digest", Platforms::Every,
-        [Step::Member("annotations"), Step::Member("org.opencontainers.image.base.digest"), Step::When(Condition { origin: Origin::Part, way: &[], holds: false, check: Predicate::OneOf(&[""]) })],
-        Test::Text(Grammar::Digest) },
 ];
 
 static RULES_4: [Rule<'static>; 3] = [
+    rule! { "annotation-base-digest", Stated, "image annotations.md#pre-defined-annotation-keys", "a digest", Platforms::Every,
+        [Step::Member("annotations"), Step::Member("org.opencontainers.image.base.digest"), Step::When(Condition { origin: Origin::Part, way: &[], holds: false, check: Predicate::OneOf(&[""]) })],
+        Test::Text(Grammar::Digest) },
     rule! { "annotation-base-name", Should, "image annotations.md#pre-defined-annotation-keys", "an image reference", Platforms::Every,
         [Step::Member("annotations"), Step::Member("org.opencontainers.image.base.name"), Step::When(Condition { origin: Origin::Part, way: &[], holds: false, check: Predicate::OneOf(&[""]) })],
         Test::Text(Grammar::Reference) },
     rule! { "annotation-base-name-full", Should, "image annotations.md#pre-defined-annotation-keys", "an image reference that names its registry", Platforms::Every,
         [Step::Member("annotations"), Step::Member("org.opencontainers.image.base.name"), Step::When(Condition { origin: Origin::Part, way: &[], holds: false, check: Predicate::OneOf(&[""]) })],
         Test::Text(Grammar::FullReference) },
+];
+
+static RULES_5: [Rule<'static>; 3] = [
     rule! { "annotation-base-both", Should, "image annotations.md#pre-defined-annotation-keys", "the digest of the base image, where its name stands", Platforms::Every,
         [Step::Member("annotations"), Step::When(Condition { origin: Origin::Part, way: &["org.opencontainers.image.base.name"], holds: true, check: Predicate::There })],
         Test::There("org.opencontainers.image.base.digest") },
-];
-
-static RULES_5: [Rule<'static>; 2] = [
     rule! { "annotation-label-schema", Host, "image annotations.md#back-compatibility-with-label-schema", "the key below org.opencontainers.image that superseded this one", Platforms::Every,
         [Step::Member("annotations"), Step::EachName],
         Test::NoneOf(LABEL_SCHEMA_KEYS) },

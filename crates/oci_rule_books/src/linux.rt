@@ -13,71 +13,71 @@ static RULES_1: [Rule<'static>; 3] = [
         [Step::Member("linux"), Step::Member("namespaces")],
         Test::Distinct(Key::Members(&[&["type"]])) },
     rule! { "namespace-path-absolute", Must, "runtime config-linux.md#namespaces", "an absolute path", Platforms::Every,
-        [Step::Member("linux"), Step::Member("namespaces"), Step::EachItem, Step::Member("path")],
+        [Step::Member("linux"), Step::Member("namespaces"), Step::EachItem, Step::Member("path"), Step::When(Condition { origin: Origin::Part, way: &[], holds: false, check: Predicate::OneOf(&[""]) })],
         Test::Text(Grammar::AbsolutePath) },
-    rule! { "time-offset-clock", Stated, "runtime config-linux.md#offset-for-time-namespace", "monotonic or boottime", Platforms::Every,
-        [Step::Member("linux"), Step::Member("timeOffsets"), Step::EachName],
-        Test::OneOf(&["monotonic", "boottime"]) },
+    rule! { "namespace-path-some", Host, "runtime config-linux.md#namespaces", "a path that is not empty; runc makes a new namespace for an empty one, and crun fails", Platforms::Every,
+        [Step::Member("linux"), Step::Member("namespaces"), Step::EachItem, Step::Member("path")],
+        Test::NotEmpty },
 ];
 
 static RULES_2: [Rule<'static>; 3] = [
+    rule! { "time-offset-clock", Stated, "runtime config-linux.md#offset-for-time-namespace", "monotonic or boottime", Platforms::Every,
+        [Step::Member("linux"), Step::Member("timeOffsets"), Step::EachName],
+        Test::OneOf(&["monotonic", "boottime"]) },
     rule! { "time-offset-nanosecs", Host, "time_namespaces(7)", "an integer from 0 to 999999999", Platforms::Every,
         [Step::Member("linux"), Step::Member("timeOffsets"), Step::EachMember, Step::Member("nanosecs")],
         Test::Within(0, 999999999) },
-    rule! { "time-offset-needs-time", Stated, "runtime config-linux.md#offset-for-time-namespace", "no offsets without a time namespace of its own", Platforms::Every,
+    rule! { "time-offset-needs-time", Host, "time_namespaces(7)", "no offsets without a time namespace of its own", Platforms::Every,
         [Step::When(Condition { origin: Origin::Document, way: &["linux", "namespaces"], holds: false, check: Predicate::ListsItem("type", &["time"], &[], &["path"]) }), Step::Member("linux")],
         Test::Absent("timeOffsets") },
-    rule! { "device-type", Stated, "runtime config-linux.md#devices", "c, b, u or p", Platforms::Every,
-        [Step::Member("linux"), Step::Member("devices"), Step::EachItem, Step::Member("type")],
-        Test::OneOf(&["c", "b", "u", "p"]) },
 ];
 
 static RULES_3: [Rule<'static>; 3] = [
+    rule! { "device-type", Stated, "runtime config-linux.md#devices", "c, b, u or p", Platforms::Every,
+        [Step::Member("linux"), Step::Member("devices"), Step::EachItem, Step::Member("type")],
+        Test::OneOf(&["c", "b", "u", "p"]) },
     rule! { "device-path-there", Must, "runtime config-linux.md#devices", "a path that is not empty", Platforms::Every,
         [Step::Member("linux"), Step::Member("devices"), Step::EachItem],
         Test::There("path") },
     rule! { "device-path-there", Must, "runtime config-linux.md#devices", "a path that is not empty", Platforms::Every,
         [Step::Member("linux"), Step::Member("devices"), Step::EachItem, Step::Member("path")],
         Test::NotEmpty },
-    rule! { "device-path-absolute", Stated, "runtime config-linux.md#devices", "an absolute path", Platforms::Every,
-        [Step::Member("linux"), Step::Member("devices"), Step::EachItem, Step::Member("path")],
-        Test::Text(Grammar::AbsolutePath) },
 ];
 
 static RULES_4: [Rule<'static>; 3] = [
+    rule! { "device-path-absolute", Stated, "runtime config-linux.md#devices", "an absolute path", Platforms::Every,
+        [Step::Member("linux"), Step::Member("devices"), Step::EachItem, Step::Member("path")],
+        Test::Text(Grammar::AbsolutePath) },
     rule! { "device-numbers-there", Must, "runtime config-linux.md#devices", "a major and a minor number, but for type p", Platforms::Every,
         [Step::Member("linux"), Step::Member("devices"), Step::EachItem, Step::When(Condition { origin: Origin::Part, way: &["type"], holds: false, check: Predicate::OneOf(&["p"]) })],
         Test::There("major") },
     rule! { "device-numbers-there", Must, "runtime config-linux.md#devices", "a major and a minor number, but for type p", Platforms::Every,
         [Step::Member("linux"), Step::Member("devices"), Step::EachItem, Step::When(Condition { origin: Origin::Part, way: &["type"], holds: false, check: Predicate::OneOf(&["p"]) })],
         Test::There("minor") },
-    rule! { "device-numbers-range", Host, "mknod(2)", "a number that is not negative", Platforms::Every,
-        [Step::Member("linux"), Step::Member("devices"), Step::EachItem, Step::Member("major")],
-        Test::Within(0, 18446744073709551615) },
 ];
 
 static RULES_5: [Rule<'static>; 3] = [
-    rule! { "device-numbers-range", Host, "mknod(2)", "a number that is not negative", Platforms::Every,
+    rule! { "device-numbers-range", Host, "makedev(3)", "a number that is not negative", Platforms::Every,
+        [Step::Member("linux"), Step::Member("devices"), Step::EachItem, Step::Member("major")],
+        Test::Within(0, 18446744073709551615) },
+    rule! { "device-numbers-range", Host, "makedev(3)", "a number that is not negative", Platforms::Every,
         [Step::Member("linux"), Step::Member("devices"), Step::EachItem, Step::Member("minor")],
         Test::Within(0, 18446744073709551615) },
     rule! { "device-fifo-numbers", Host, "runtime config-linux.md#devices", "0 for type p", Platforms::Every,
         [Step::Member("linux"), Step::Member("devices"), Step::EachItem, Step::When(Condition { origin: Origin::Part, way: &["type"], holds: true, check: Predicate::OneOf(&["p"]) }), Step::Member("major")],
         Test::Within(0, 0) },
-    rule! { "device-fifo-numbers", Host, "runtime config-linux.md#devices", "0 for type p", Platforms::Every,
-        [Step::Member("linux"), Step::Member("devices"), Step::EachItem, Step::When(Condition { origin: Origin::Part, way: &["type"], holds: true, check: Predicate::OneOf(&["p"]) }), Step::Member("minor")],
-        Test::Within(0, 0) },
 ];
 
 static RULES_6: [Rule<'static>; 3] = [
+    rule! { "device-fifo-numbers", Host, "runtime config-linux.md#devices", "0 for type p", Platforms::Every,
+        [Step::Member("linux"), Step::Member("devices"), Step::EachItem, Step::When(Condition { origin: Origin::Part, way: &["type"], holds: true, check: Predicate::OneOf(&["p"]) }), Step::Member("minor")],
+        Test::Within(0, 0) },
     rule! { "device-once", Should, "runtime config-linux.md#devices", "each type with its major and minor number once", Platforms::Every,
         [Step::Member("linux"), Step::Member("devices")],
         Test::Distinct(Key::Members(&[&["type"], &["major"], &["minor"]])) },
     rule! { "device-path-once", Host, "common practice", "each path once", Platforms::Every,
         [Step::Member("linux"), Step::Member("devices")],
         Test::Distinct(Key::Members(&[&["path"]])) },
-    rule! { "device-file-mode", Host, "runtime config-linux.md#devices", "permission bits, from 0 to 4095", Platforms::Every,
-        [Step::Member("linux"), Step::Member("devices"), Step::EachItem, Step::Member("fileMode")],
-        Test::Within(0, 4095) },
 ];
 
 static RULES_7: [Rule<'static>; 3] = [
@@ -96,11 +96,11 @@ static RULES_8: [Rule<'static>; 3] = [
     rule! { "readonly-path-absolute", Must, "runtime config-linux.md#readonly-paths", "an absolute path", Platforms::Every,
         [Step::Member("linux"), Step::Member("readonlyPaths"), Step::EachItem],
         Test::Text(Grammar::AbsolutePath) },
-    rule! { "paths-need-mount", Host, "common practice", "no such paths without a mount namespace of its own", Platforms::Every,
-        [Step::When(Condition { origin: Origin::Document, way: &["linux", "namespaces"], holds: false, check: Predicate::ListsItem("type", &["mount"], &[], &["path"]) }), Step::Member("linux")],
+    rule! { "paths-need-mount", Host, "common practice", "no such paths without a mount namespace", Platforms::Every,
+        [Step::When(Condition { origin: Origin::Document, way: &["linux", "namespaces"], holds: false, check: Predicate::ListsItem("type", &["mount"], &[], &[]) }), Step::Member("linux")],
         Test::Absent("maskedPaths") },
-    rule! { "paths-need-mount", Host, "common practice", "no such paths without a mount namespace of its own", Platforms::Every,
-        [Step::When(Condition { origin: Origin::Document, way: &["linux", "namespaces"], holds: false, check: Predicate::ListsItem("type", &["mount"], &[], &["path"]) }), Step::Member("linux")],
+    rule! { "paths-need-mount", Host, "common practice", "no such paths without a mount namespace", Platforms::Every,
+        [Step::When(Condition { origin: Origin::Document, way: &["linux", "namespaces"], holds: false, check: Predicate::ListsItem("type", &["mount"], &[], &[]) }), Step::Member("linux")],
         Test::Absent("readonlyPaths") },
 ];
 
@@ -123,7 +123,7 @@ static RULES_10: [Rule<'static>; 3] = [
     rule! { "rdt-bandwidth-one-line", Must, "runtime config-linux.md#intelrdt", "a single line", Platforms::Every,
         [Step::Member("linux"), Step::Member("intelRdt"), Step::Member("memBwSchema")],
         Test::Text(Grammar::OneLine) },
-    rule! { "rdt-clos-id", Host, "common practice", "the name of one directory", Platforms::Every,
+    rule! { "rdt-clos-id", Stated, "runtime config-linux.md#intelrdt", "the name of one directory", Platforms::Every,
         [Step::Member("linux"), Step::Member("intelRdt"), Step::Member("closID")],
         Test::Text(Grammar::OneDirectory) },
 ];

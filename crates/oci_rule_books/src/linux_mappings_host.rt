@@ -95,10 +95,10 @@ static RULES_8: [Rule<'static>; 3] = [
     rule! { "user-namespace-mapped", Host, "runtime config-linux.md#user-namespace-mappings", "mappings, where a new user namespace is asked for", Platforms::Every,
         [Step::When(Condition { origin: Origin::Document, way: &["linux", "namespaces"], holds: true, check: Predicate::ListsItem("type", &["user"], &[], &["path"]) }), Step::Member("linux")],
         Test::There("gidMappings") },
-    rule! { "user-namespace-one-way", Host, "runtime config-linux.md#user-namespace-mappings", "no mappings, where a user namespace is joined", Platforms::Every,
+    rule! { "user-namespace-one-way", Host, "runtime config-linux.md#user-namespace-mappings", "no mappings where a user namespace is joined, which has its own", Platforms::Every,
         [Step::When(Condition { origin: Origin::Document, way: &["linux", "namespaces"], holds: true, check: Predicate::ListsItem("type", &["user"], &["path"], &[]) }), Step::Member("linux")],
         Test::Absent("uidMappings") },
-    rule! { "user-namespace-one-way", Host, "runtime config-linux.md#user-namespace-mappings", "no mappings, where a user namespace is joined", Platforms::Every,
+    rule! { "user-namespace-one-way", Host, "runtime config-linux.md#user-namespace-mappings", "no mappings where a user namespace is joined, which has its own", Platforms::Every,
         [Step::When(Condition { origin: Origin::Document, way: &["linux", "namespaces"], holds: true, check: Predicate::ListsItem("type", &["user"], &["path"], &[]) }), Step::Member("linux")],
         Test::Absent("gidMappings") },
 ];

@@ -57,48 +57,48 @@ static RULES_4: [Rule<'static>; 3] = [
 ];
 
 static RULES_5: [Rule<'static>; 3] = [
-    rule! { "memory-reservation-at-most-limit", Host, "cgroup v1 memory", "a soft limit that is at most the hard one", Platforms::Every,
-        [Step::Member("linux"), Step::Member("resources"), Step::Member("memory"), Step::When(Condition { origin: Origin::Part, way: &["limit"], holds: true, check: Predicate::Within(0, 9223372036854775807) })],
-        Test::AtMost("reservation", "limit") },
     rule! { "memory-swap-needs-limit", Host, "common practice", "a limit of memory, where one of swap stands", Platforms::Every,
         [Step::Member("linux"), Step::Member("resources"), Step::Member("memory"), Step::When(Condition { origin: Origin::Part, way: &["swap"], holds: true, check: Predicate::There })],
         Test::There("limit") },
     rule! { "cpu-burst-at-most-quota", Must, "runtime config-linux.md#cpu", "a burst that is at most the quota", Platforms::Every,
         [Step::Member("linux"), Step::Member("resources"), Step::Member("cpu"), Step::When(Condition { origin: Origin::Part, way: &["quota"], holds: true, check: Predicate::Within(1, 9223372036854775807) })],
         Test::AtMost("burst", "quota") },
-];
-
-static RULES_6: [Rule<'static>; 3] = [
     rule! { "cpu-lists", Stated, "runtime config-linux.md#cpu", "a list of numbers and ranges, as 0-3,7", Platforms::Every,
         [Step::Member("linux"), Step::Member("resources"), Step::Member("cpu"), Step::Member("cpus")],
         Test::Text(Grammar::CpuList) },
+];
+
+static RULES_6: [Rule<'static>; 3] = [
     rule! { "cpu-lists", Stated, "runtime config-linux.md#cpu", "a list of numbers and ranges, as 0-3,7", Platforms::Every,
         [Step::Member("linux"), Step::Member("resources"), Step::Member("cpu"), Step::Member("mems")],
         Test::Text(Grammar::CpuList) },
     rule! { "cpu-idle", Stated, "runtime config-linux.md#cpu", "0 or 1", Platforms::Every,
         [Step::Member("linux"), Step::Member("resources"), Step::Member("cpu"), Step::Member("idle")],
         Test::Within(0, 1) },
-];
-
-static RULES_7: [Rule<'static>; 3] = [
     rule! { "cpu-period-range", Host, "cgroup v1 cpu", "an integer from 1000 to 1000000", Platforms::Every,
         [Step::Member("linux"), Step::Member("resources"), Step::Member("cpu"), Step::Member("period")],
         Test::Within(1000, 1000000) },
+];
+
+static RULES_7: [Rule<'static>; 3] = [
     rule! { "cpu-realtime", Host, "cgroup v1 cpu", "a runtime that is at most its period", Platforms::Every,
         [Step::Member("linux"), Step::Member("resources"), Step::Member("cpu")],
         Test::AtMost("realtimeRuntime", "realtimePeriod") },
     rule! { "hugepage-there", Must, "runtime config-linux.md#huge-page-limits", "the size of the pages and a limit", Platforms::Every,
         [Step::Member("linux"), Step::Member("resources"), Step::Member("hugepageLimits"), Step::EachItem],
         Test::There("pageSize") },
-];
-
-static RULES_8: [Rule<'static>; 3] = [
     rule! { "hugepage-there", Must, "runtime config-linux.md#huge-page-limits", "the size of the pages and a limit", Platforms::Every,
         [Step::Member("linux"), Step::Member("resources"), Step::Member("hugepageLimits"), Step::EachItem],
         Test::There("limit") },
+];
+
+static RULES_8: [Rule<'static>; 3] = [
     rule! { "hugepage-size", Stated, "runtime config-linux.md#huge-page-limits", "a size of pages, as 64KB, 2MB or 1GB", Platforms::Every,
         [Step::Member("linux"), Step::Member("resources"), Step::Member("hugepageLimits"), Step::EachItem, Step::Member("pageSize")],
         Test::Text(Grammar::PageSize) },
+    rule! { "hugepage-limit", Stated, "runtime config-linux.md#huge-page-limits", "a number of bytes that is not negative", Platforms::Every,
+        [Step::Member("linux"), Step::Member("resources"), Step::Member("hugepageLimits"), Step::EachItem, Step::Member("limit")],
+        Test::Within(0, 18446744073709551615) },
     rule! { "hugepage-once", Host, "common practice", "each size of pages once", Platforms::Every,
         [Step::Member("linux"), Step::Member("resources"), Step::Member("hugepageLimits")],
         Test::Distinct(Key::Members(&[&["pageSize"]])) },
@@ -111,29 +111,35 @@ static RULES_9: [Rule<'static>; 3] = [
     rule! { "network-priority-there", Must, "runtime config-linux.md#network", "the name of an interface and its priority", Platforms::Every,
         [Step::Member("linux"), Step::Member("resources"), Step::Member("network"), Step::Member("priorities"), Step::EachItem],
         Test::There("priority") },
-    rule! { "network-priority-once", Host, "common practice", "each interface once", Platforms::Every,
-        [Step::Member("linux"), Step::Member("resources"), Step::Member("network"), Step::Member("priorities")],
-        Test::Distinct(Key::Members(&[&["name"]])) },
+    rule! { "network-name-some", Stated, "runtime config-linux.md#network", "the name of an interface, which is not empty", Platforms::Every,
+        [Step::Member("linux"), Step::Member("resources"), Step::Member("network"), Step::Member("priorities"), Step::EachItem, Step::Member("name")],
+        Test::NotEmpty },
 ];
 
 static RULES_10: [Rule<'static>; 3] = [
+    rule! { "network-priority-once", Host, "common practice", "each interface once", Platforms::Every,
+        [Step::Member("linux"), Step::Member("resources"), Step::Member("network"), Step::Member("priorities")],
+        Test::Distinct(Key::Members(&[&["name"]])) },
     rule! { "pids-limit-there", Must, "runtime config-linux.md#pids", "a limit", Platforms::Every,
         [Step::Member("linux"), Step::Member("resources"), Step::Member("pids")],
         Test::There("limit") },
     rule! { "rdma-some", Must, "runtime config-linux.md#rdma", "a limit of handles or of objects", Platforms::Every,
         [Step::Member("linux"), Step::Member("resources"), Step::Member("rdma"), Step::EachMember],
         Test::Either(&["hcaHandles", "hcaObjects"]) },
+];
+
+static RULES_11: [Rule<'static>; 1] = [
     rule! { "unified-key", Stated, "runtime config-linux.md#unified", "the name of a file of a cgroup", Platforms::Every,
         [Step::Member("linux"), Step::Member("resources"), Step::Member("unified"), Step::EachName],
         Test::Text(Grammar::CgroupFile) },
 ];
 
 /// Returns the book of linux resources, a few rules in each slice.
-pub fn linux_resources_rules() -> [&'static [Rule<'static>]; 10]
+pub fn linux_resources_rules() -> [&'static [Rule<'static>]; 11]
     ensures { flat_map (λ b. map rule_of b.now) result ≡ defined.linux_resources_rules }
 {
     [
         &RULES_1, &RULES_2, &RULES_3, &RULES_4, &RULES_5, &RULES_6, &RULES_7, &RULES_8, &RULES_9,
-        &RULES_10,
+        &RULES_10, &RULES_11,
     ]
 }

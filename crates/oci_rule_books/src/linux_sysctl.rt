@@ -9,32 +9,38 @@ use crate::lists::IPC_SYSCTLS;
 use oci_rules::{Condition, Level, Origin, Platforms, Predicate, Rule, Step, Test};
 
 static RULES_1: [Rule<'static>; 3] = [
-    rule! { "sysctl-network", Host, "runtime config-linux.md#sysctl", "no parameter of the network without a network namespace of its own", Platforms::Every,
-        [Step::When(Condition { origin: Origin::Document, way: &["linux", "namespaces"], holds: false, check: Predicate::ListsItem("type", &["network"], &[], &["path"]) }), Step::Member("linux"), Step::Member("sysctl"), Step::EachName],
+    rule! { "sysctl-network", Host, "runtime config-linux.md#sysctl", "no parameter of the network without a network namespace", Platforms::Every,
+        [Step::When(Condition { origin: Origin::Document, way: &["linux", "namespaces"], holds: false, check: Predicate::ListsItem("type", &["network"], &[], &[]) }), Step::Member("linux"), Step::Member("sysctl"), Step::EachName],
         Test::Reserved("net.", &[]) },
-    rule! { "sysctl-network", Host, "runtime config-linux.md#sysctl", "no parameter of the network without a network namespace of its own", Platforms::Every,
-        [Step::When(Condition { origin: Origin::Document, way: &["linux", "namespaces"], holds: false, check: Predicate::ListsItem("type", &["network"], &[], &["path"]) }), Step::Member("linux"), Step::Member("sysctl"), Step::EachName],
+    rule! { "sysctl-network", Host, "runtime config-linux.md#sysctl", "no parameter of the network without a network namespace", Platforms::Every,
+        [Step::When(Condition { origin: Origin::Document, way: &["linux", "namespaces"], holds: false, check: Predicate::ListsItem("type", &["network"], &[], &[]) }), Step::Member("linux"), Step::Member("sysctl"), Step::EachName],
         Test::Reserved("net/", &[]) },
-    rule! { "sysctl-ipc", Host, "runtime config-linux.md#sysctl", "no parameter of IPC without an IPC namespace of its own", Platforms::Every,
-        [Step::When(Condition { origin: Origin::Document, way: &["linux", "namespaces"], holds: false, check: Predicate::ListsItem("type", &["ipc"], &[], &["path"]) }), Step::Member("linux"), Step::Member("sysctl"), Step::EachName],
+    rule! { "sysctl-ipc", Host, "runtime config-linux.md#sysctl", "no parameter of IPC without an IPC namespace", Platforms::Every,
+        [Step::When(Condition { origin: Origin::Document, way: &["linux", "namespaces"], holds: false, check: Predicate::ListsItem("type", &["ipc"], &[], &[]) }), Step::Member("linux"), Step::Member("sysctl"), Step::EachName],
         Test::Reserved("fs.mqueue.", &[]) },
 ];
 
 static RULES_2: [Rule<'static>; 3] = [
-    rule! { "sysctl-ipc", Host, "runtime config-linux.md#sysctl", "no parameter of IPC without an IPC namespace of its own", Platforms::Every,
-        [Step::When(Condition { origin: Origin::Document, way: &["linux", "namespaces"], holds: false, check: Predicate::ListsItem("type", &["ipc"], &[], &["path"]) }), Step::Member("linux"), Step::Member("sysctl"), Step::EachName],
+    rule! { "sysctl-ipc", Host, "runtime config-linux.md#sysctl", "no parameter of IPC without an IPC namespace", Platforms::Every,
+        [Step::When(Condition { origin: Origin::Document, way: &["linux", "namespaces"], holds: false, check: Predicate::ListsItem("type", &["ipc"], &[], &[]) }), Step::Member("linux"), Step::Member("sysctl"), Step::EachName],
+        Test::Reserved("fs/mqueue/", &[]) },
+    rule! { "sysctl-ipc", Host, "runtime config-linux.md#sysctl", "no parameter of IPC without an IPC namespace", Platforms::Every,
+        [Step::When(Condition { origin: Origin::Document, way: &["linux", "namespaces"], holds: false, check: Predicate::ListsItem("type", &["ipc"], &[], &[]) }), Step::Member("linux"), Step::Member("sysctl"), Step::EachName],
         Test::NoneOf(IPC_SYSCTLS) },
-    rule! { "sysctl-domainname", Host, "runtime config-linux.md#sysctl", "no name of a domain without a UTS namespace of its own", Platforms::Every,
-        [Step::When(Condition { origin: Origin::Document, way: &["linux", "namespaces"], holds: false, check: Predicate::ListsItem("type", &["uts"], &[], &["path"]) }), Step::Member("linux"), Step::Member("sysctl")],
-        Test::Absent("kernel.domainname") },
+    rule! { "sysctl-domainname", Host, "runtime config-linux.md#sysctl", "no name of a domain without a UTS namespace", Platforms::Every,
+        [Step::When(Condition { origin: Origin::Document, way: &["linux", "namespaces"], holds: false, check: Predicate::ListsItem("type", &["uts"], &[], &[]) }), Step::Member("linux"), Step::Member("sysctl"), Step::EachName],
+        Test::NoneOf(&["kernel.domainname", "kernel/domainname"]) },
+];
+
+static RULES_3: [Rule<'static>; 1] = [
     rule! { "sysctl-hostname", Host, "runtime config-linux.md#sysctl", "the member hostname instead of this parameter", Platforms::Every,
-        [Step::Member("linux"), Step::Member("sysctl")],
-        Test::Absent("kernel.hostname") },
+        [Step::Member("linux"), Step::Member("sysctl"), Step::EachName],
+        Test::NoneOf(&["kernel.hostname", "kernel/hostname"]) },
 ];
 
 /// Returns the book of linux sysctl, a few rules in each slice.
-pub fn linux_sysctl_rules() -> [&'static [Rule<'static>]; 2]
+pub fn linux_sysctl_rules() -> [&'static [Rule<'static>]; 3]
     ensures { flat_map (λ b. map rule_of b.now) result ≡ defined.linux_sysctl_rules }
 {
-    [&RULES_1, &RULES_2]
+    [&RULES_1, &RULES_2, &RULES_3]
 }

@@ -108,6 +108,34 @@ pub(crate) const SUBJECT_TYPES: &[&str] = &[
     "application/vnd.docker.distribution.manifest.list.v2+json",
 ];
 
+/// image specification, "OCI Image Manifest Specification", and the types of its layers that are compressed otherwise
+pub(crate) const IMAGE_LAYER_TYPES: &[&str] = &[
+    "application/vnd.oci.image.layer.v1.tar",
+    "application/vnd.oci.image.layer.v1.tar+gzip",
+    "application/vnd.oci.image.layer.v1.tar+zstd",
+    "application/vnd.oci.image.layer.nondistributable.v1.tar",
+    "application/vnd.oci.image.layer.nondistributable.v1.tar+gzip",
+    "application/vnd.oci.image.layer.nondistributable.v1.tar+zstd",
+];
+
+/// image specification, "Platform Variants"; where a row of its table goes on, values of Go 1.24's GOARM64, GOPPC64, GORISCV64 and GOAMD64
+pub(crate) const ARM_VARIANTS: &[&str] = &["v6", "v7", "v8"];
+
+/// image specification, "Platform Variants"; where a row of its table goes on, values of Go 1.24's GOARM64, GOPPC64, GORISCV64 and GOAMD64
+pub(crate) const ARM64_VARIANTS: &[&str] = &[
+    "v8", "v8.0", "v8.1", "v8.2", "v8.3", "v8.4", "v8.5", "v8.6", "v8.7", "v8.8", "v8.9", "v9",
+    "v9.0", "v9.1", "v9.2", "v9.3", "v9.4", "v9.5",
+];
+
+/// image specification, "Platform Variants"; where a row of its table goes on, values of Go 1.24's GOARM64, GOPPC64, GORISCV64 and GOAMD64
+pub(crate) const PPC64LE_VARIANTS: &[&str] = &["power8", "power9", "power10"];
+
+/// image specification, "Platform Variants"; where a row of its table goes on, values of Go 1.24's GOARM64, GOPPC64, GORISCV64 and GOAMD64
+pub(crate) const RISCV64_VARIANTS: &[&str] = &["rva20u64", "rva22u64", "rva23u64"];
+
+/// image specification, "Platform Variants"; where a row of its table goes on, values of Go 1.24's GOARM64, GOPPC64, GORISCV64 and GOAMD64
+pub(crate) const AMD64_VARIANTS: &[&str] = &["v1", "v2", "v3", "v4"];
+
 /// POSIX, getrlimit
 pub(crate) const POSIX_RLIMITS: &[&str] = &[
     "RLIMIT_CORE",
@@ -164,7 +192,7 @@ pub(crate) const CAPABILITIES: &[&str] = &[
     "CAP_WAKE_ALARM",
 ];
 
-/// ipc_namespaces(7)
+/// ipc_namespaces(7), with either separator of sysctl(8)
 pub(crate) const IPC_SYSCTLS: &[&str] = &[
     "kernel.msgmax",
     "kernel.msgmnb",
@@ -174,9 +202,17 @@ pub(crate) const IPC_SYSCTLS: &[&str] = &[
     "kernel.shmmax",
     "kernel.shmmni",
     "kernel.shm_rmid_forced",
+    "kernel/msgmax",
+    "kernel/msgmnb",
+    "kernel/msgmni",
+    "kernel/sem",
+    "kernel/shmall",
+    "kernel/shmmax",
+    "kernel/shmmni",
+    "kernel/shm_rmid_forced",
 ];
 
-/// runtime specification, "Features Structure", "Hooks"; "Linux mount options"; "Seccomp"
+/// runtime specification, "Features Structure", "Hooks"; "Seccomp"
 pub(crate) const HOOK_KINDS: &[&str] = &[
     "prestart",
     "createRuntime",
@@ -186,75 +222,7 @@ pub(crate) const HOOK_KINDS: &[&str] = &[
     "poststop",
 ];
 
-/// runtime specification, "Features Structure", "Hooks"; "Linux mount options"; "Seccomp"
-pub(crate) const LINUX_MOUNT_OPTIONS: &[&str] = &[
-    "acl",
-    "async",
-    "atime",
-    "bind",
-    "defaults",
-    "dev",
-    "diratime",
-    "dirsync",
-    "exec",
-    "idmap",
-    "iversion",
-    "lazytime",
-    "loud",
-    "mand",
-    "noacl",
-    "noatime",
-    "nodev",
-    "nodiratime",
-    "noexec",
-    "noiversion",
-    "nolazytime",
-    "nomand",
-    "norelatime",
-    "nostrictatime",
-    "nosuid",
-    "nosymfollow",
-    "private",
-    "ratime",
-    "rbind",
-    "rdev",
-    "rdiratime",
-    "relatime",
-    "remount",
-    "rexec",
-    "ridmap",
-    "rnoatime",
-    "rnodev",
-    "rnodiratime",
-    "rnoexec",
-    "rnorelatime",
-    "rnostrictatime",
-    "rnosuid",
-    "rnosymfollow",
-    "ro",
-    "rprivate",
-    "rrelatime",
-    "rro",
-    "rrw",
-    "rshared",
-    "rslave",
-    "rstrictatime",
-    "rsuid",
-    "rsymfollow",
-    "runbindable",
-    "rw",
-    "shared",
-    "silent",
-    "slave",
-    "strictatime",
-    "suid",
-    "symfollow",
-    "sync",
-    "tmpcopyup",
-    "unbindable",
-];
-
-/// runtime specification, "Features Structure", "Hooks"; "Linux mount options"; "Seccomp"
+/// runtime specification, "Features Structure", "Hooks"; "Seccomp"
 pub(crate) const SECCOMP_OPERATORS: &[&str] = &[
     "SCMP_CMP_NE",
     "SCMP_CMP_LT",
@@ -265,10 +233,91 @@ pub(crate) const SECCOMP_OPERATORS: &[&str] = &[
     "SCMP_CMP_MASKED_EQ",
 ];
 
-/// runtime specification, "Features Structure", "Hooks"; "Linux mount options"; "Seccomp"
+/// runtime specification, "Features Structure", "Hooks"; "Seccomp"
 pub(crate) const SECCOMP_FLAGS: &[&str] = &[
     "SECCOMP_FILTER_FLAG_TSYNC",
     "SECCOMP_FILTER_FLAG_LOG",
     "SECCOMP_FILTER_FLAG_SPEC_ALLOW",
     "SECCOMP_FILTER_FLAG_WAIT_KILLABLE_RECV",
+];
+
+/// mount(8), "Filesystem-specific mount options", and the kernel's pages of them: tmpfs, devpts, proc and overlay
+pub(crate) const FILESYSTEM_OPTIONS: &[&str] = &[
+    "size",
+    "nr_blocks",
+    "nr_inodes",
+    "mode",
+    "uid",
+    "gid",
+    "huge",
+    "mpol",
+    "inode32",
+    "inode64",
+    "newinstance",
+    "ptmxmode",
+    "max",
+    "hidepid",
+    "subset",
+    "lowerdir",
+    "upperdir",
+    "workdir",
+    "index",
+    "metacopy",
+    "redirect_dir",
+    "nfs_export",
+    "xino",
+    "userxattr",
+    "volatile",
+];
+
+/// runtime specification, "Features Structure": its releases up to 1.2.1, and the members that 1.2.1 defines
+pub(crate) const RELEASE_VERSIONS: &[&str] = &[
+    "1.0.0", "1.0.1", "1.0.2", "1.1.0", "1.2.0", "1.2.1",
+];
+
+/// runtime specification, "Features Structure": its releases up to 1.2.1, and the members that 1.2.1 defines
+pub(crate) const FEATURES_MEMBERS: &[&str] = &[
+    "ociVersionMin",
+    "ociVersionMax",
+    "hooks",
+    "mountOptions",
+    "linux",
+    "annotations",
+    "potentiallyUnsafeConfigAnnotations",
+];
+
+/// runtime specification, "Features Structure": its releases up to 1.2.1, and the members that 1.2.1 defines
+pub(crate) const LINUX_FEATURES_MEMBERS: &[&str] = &[
+    "namespaces",
+    "capabilities",
+    "cgroup",
+    "seccomp",
+    "apparmor",
+    "selinux",
+    "intelRdt",
+    "mountExtensions",
+];
+
+/// runtime specification, "Features Structure": its releases up to 1.2.1, and the members that 1.2.1 defines
+pub(crate) const CGROUP_FEATURES_MEMBERS: &[&str] = &["v1", "v2", "systemd", "systemdUser", "rdma"];
+
+/// runtime specification, "Features Structure": its releases up to 1.2.1, and the members that 1.2.1 defines
+pub(crate) const SECCOMP_FEATURES_MEMBERS: &[&str] = &[
+    "enabled",
+    "actions",
+    "operators",
+    "archs",
+    "knownFlags",
+    "supportedFlags",
+];
+
+/// runtime specification, "Linux Process"
+pub(crate) const SCHEDULER_FLAGS: &[&str] = &[
+    "SCHED_FLAG_RESET_ON_FORK",
+    "SCHED_FLAG_RECLAIM",
+    "SCHED_FLAG_DL_OVERRUN",
+    "SCHED_FLAG_KEEP_POLICY",
+    "SCHED_FLAG_KEEP_PARAMS",
+    "SCHED_FLAG_UTIL_CLAMP_MIN",
+    "SCHED_FLAG_UTIL_CLAMP_MAX",
 ];

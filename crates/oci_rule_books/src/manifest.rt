@@ -5,7 +5,7 @@ ghost use Rattle.std.specs.List.{flat_map};
 ghost use Rattle.oci_rules.specs.Tables.{rule_of};
 ghost use Rattle.oci_rule_books.specs.Manifest as defined;
 
-use crate::lists::{LAYER_TYPES, NONDISTRIBUTABLE_TYPES, SUBJECT_TYPES};
+use crate::lists::{IMAGE_LAYER_TYPES, LAYER_TYPES, NONDISTRIBUTABLE_TYPES, SUBJECT_TYPES};
 use oci_grammars::Grammar;
 use oci_rules::{Condition, Level, Origin, Platforms, Predicate, Rule, Step, Test};
 
@@ -28,43 +28,43 @@ static RULES_2: [Rule<'static>; 3] = [
     rule! { "manifest-artifact-type-there", Must, "image manifest.md#image-manifest-property-descriptions", "the type of the artifact, where the configuration is empty", Platforms::Every,
         [Step::When(Condition { origin: Origin::Part, way: &["config", "mediaType"], holds: true, check: Predicate::OneOf(&["application/vnd.oci.empty.v1+json"]) })],
         Test::There("artifactType") },
-    rule! { "manifest-config-type-known", Should, "image manifest.md#image-manifest-property-descriptions", "application/vnd.oci.image.config.v1+json, where no type of artifact stands", Platforms::Every,
-        [Step::When(Condition { origin: Origin::Part, way: &["artifactType"], holds: false, check: Predicate::There }), Step::Member("config"), Step::Member("mediaType")],
+    rule! { "manifest-config-type-known", Should, "image manifest.md#image-manifest-property-descriptions", "application/vnd.oci.image.config.v1+json, beside layers of an image", Platforms::Every,
+        [Step::When(Condition { origin: Origin::Part, way: &["artifactType"], holds: false, check: Predicate::There }), Step::When(Condition { origin: Origin::Part, way: &["layers"], holds: true, check: Predicate::ListsItem("mediaType", IMAGE_LAYER_TYPES, &[], &[]) }), Step::Member("config"), Step::Member("mediaType")],
         Test::OneOf(&["application/vnd.oci.image.config.v1+json"]) },
 ];
 
 static RULES_3: [Rule<'static>; 3] = [
+    rule! { "manifest-artifact-config-type", Must, "image manifest.md#guidelines-for-artifact-usage", "a type of the artifact's own or the empty one, not that of an image's configuration", Platforms::Every,
+        [Step::When(Condition { origin: Origin::Part, way: &["artifactType"], holds: true, check: Predicate::There }), Step::Member("config"), Step::Member("mediaType")],
+        Test::NoneOf(&["application/vnd.oci.image.config.v1+json"]) },
     rule! { "manifest-layers-some", Should, "image manifest.md#image-manifest-property-descriptions", "at least one layer", Platforms::Every,
         [Step::Member("layers")],
         Test::NotEmpty },
     rule! { "manifest-layer-type-known", Should, "image manifest.md#image-manifest-property-descriptions", "a type of layer that every implementation supports", Platforms::Every,
         [Step::When(Condition { origin: Origin::Part, way: &["config", "mediaType"], holds: true, check: Predicate::OneOf(&["application/vnd.oci.image.config.v1+json"]) }), Step::Member("layers"), Step::EachItem, Step::Member("mediaType")],
         Test::OneOf(LAYER_TYPES) },
-    rule! { "manifest-layer-distributable", Should, "image layer.md#non-distributable-layers", "a type of layer that may be distributed", Platforms::Every,
-        [Step::Member("layers"), Step::EachItem, Step::Member("mediaType")],
-        Test::NoneOf(NONDISTRIBUTABLE_TYPES) },
 ];
 
 static RULES_4: [Rule<'static>; 3] = [
-    rule! { "manifest-artifact-layer-some", Should, "image manifest.md#guidelines-for-artifact-usage", "a layer of an artifact that is not empty", Platforms::Every,
-        [Step::When(Condition { origin: Origin::Part, way: &["config", "mediaType"], holds: true, check: Predicate::OneOf(&["application/vnd.oci.empty.v1+json"]) }), Step::Member("layers"), Step::EachItem, Step::Member("size")],
-        Test::Within(1, 18446744073709551615) },
-    rule! { "manifest-artifact-layer-some", Should, "image manifest.md#guidelines-for-artifact-usage", "a layer of an artifact that is not empty", Platforms::Every,
+    rule! { "manifest-layer-distributable", Should, "image layer.md#non-distributable-layers", "a type of layer that may be distributed", Platforms::Every,
+        [Step::Member("layers"), Step::EachItem, Step::Member("mediaType")],
+        Test::NoneOf(NONDISTRIBUTABLE_TYPES) },
+    rule! { "manifest-artifact-layer-some", Host, "image manifest.md#guidance-for-an-empty-descriptor", "a blob that is not empty, since some registries refuse those of size 0", Platforms::Every,
         [Step::When(Condition { origin: Origin::Part, way: &["artifactType"], holds: true, check: Predicate::There }), Step::Member("layers"), Step::EachItem, Step::Member("size")],
         Test::Within(1, 18446744073709551615) },
-    rule! { "manifest-subject-type", Stated, "image manifest.md#image-manifest-property-descriptions", "the media type of a manifest or index", Platforms::Every,
+    rule! { "manifest-subject-type", Host, "image manifest.md#image-manifest-property-descriptions", "the media type of a manifest or index", Platforms::Every,
         [Step::Member("subject"), Step::Member("mediaType")],
         Test::OneOf(SUBJECT_TYPES) },
 ];
 
 static RULES_5: [Rule<'static>; 3] = [
-    rule! { "manifest-not-index", Stated, "image manifest.md#image-manifest", "no member of another kind of manifest", Platforms::Every,
+    rule! { "manifest-not-index", Host, "image manifest.md#image-manifest", "no member of another kind of manifest", Platforms::Every,
         [],
         Test::Absent("manifests") },
-    rule! { "manifest-not-index", Stated, "image manifest.md#image-manifest", "no member of another kind of manifest", Platforms::Every,
+    rule! { "manifest-not-index", Host, "image manifest.md#image-manifest", "no member of another kind of manifest", Platforms::Every,
         [],
         Test::Absent("fsLayers") },
-    rule! { "manifest-not-index", Stated, "image manifest.md#image-manifest", "no member of another kind of manifest", Platforms::Every,
+    rule! { "manifest-not-index", Host, "image manifest.md#image-manifest", "no member of another kind of manifest", Platforms::Every,
         [],
         Test::Absent("history") },
 ];

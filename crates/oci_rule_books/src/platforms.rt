@@ -6,7 +6,9 @@ ghost use Rattle.oci_rules.specs.Tables.{rule_of};
 ghost use Rattle.oci_rule_books.specs.Platforms as defined;
 
 use oci_grammars::Grammar;
-use oci_rules::{Condition, Level, Origin, Platforms, Predicate, Rule, Step, Test};
+use oci_rules::{
+    Condition, Key, Level, Origin, Platforms, Predicate, Rule, RuntimePlatform, Step, Test,
+};
 
 static RULES_1: [Rule<'static>; 3] = [
     rule! { "windows-layers-there", Must, "runtime config-windows.md#layerfolders", "folders of layers", Platforms::Every,
@@ -24,63 +26,99 @@ static RULES_2: [Rule<'static>; 3] = [
     rule! { "windows-device-id", Stated, "runtime config-windows.md#devices", "a GUID", Platforms::Every,
         [Step::Member("windows"), Step::Member("devices"), Step::EachItem, Step::When(Condition { origin: Origin::Part, way: &["idType"], holds: true, check: Predicate::OneOf(&["class"]) }), Step::Member("id")],
         Test::Text(Grammar::Guid) },
-    rule! { "windows-cpu-one", Stated, "runtime config-windows.md#cpu", "one of count, shares and maximum", Platforms::Every,
+    rule! { "windows-cpu-one", Stated, "runtime config-windows.md#cpu", "one of count, shares, maximum and affinity", Platforms::Every,
         [Step::Member("windows"), Step::Member("resources"), Step::Member("cpu"), Step::When(Condition { origin: Origin::Part, way: &["count"], holds: true, check: Predicate::There })],
         Test::Absent("shares") },
-    rule! { "windows-cpu-one", Stated, "runtime config-windows.md#cpu", "one of count, shares and maximum", Platforms::Every,
+    rule! { "windows-cpu-one", Stated, "runtime config-windows.md#cpu", "one of count, shares, maximum and affinity", Platforms::Every,
         [Step::Member("windows"), Step::Member("resources"), Step::Member("cpu"), Step::When(Condition { origin: Origin::Part, way: &["count"], holds: true, check: Predicate::There })],
         Test::Absent("maximum") },
 ];
 
 static RULES_3: [Rule<'static>; 3] = [
-    rule! { "windows-cpu-one", Stated, "runtime config-windows.md#cpu", "one of count, shares and maximum", Platforms::Every,
+    rule! { "windows-cpu-one", Stated, "runtime config-windows.md#cpu", "one of count, shares, maximum and affinity", Platforms::Every,
         [Step::Member("windows"), Step::Member("resources"), Step::Member("cpu"), Step::When(Condition { origin: Origin::Part, way: &["shares"], holds: true, check: Predicate::There })],
         Test::Absent("maximum") },
+    rule! { "windows-cpu-one", Stated, "runtime config-windows.md#cpu", "one of count, shares, maximum and affinity", Platforms::Every,
+        [Step::Member("windows"), Step::Member("resources"), Step::Member("cpu"), Step::When(Condition { origin: Origin::Part, way: &["affinity"], holds: true, check: Predicate::There })],
+        Test::Absent("count") },
+    rule! { "windows-cpu-one", Stated, "runtime config-windows.md#cpu", "one of count, shares, maximum and affinity", Platforms::Every,
+        [Step::Member("windows"), Step::Member("resources"), Step::Member("cpu"), Step::When(Condition { origin: Origin::Part, way: &["affinity"], holds: true, check: Predicate::There })],
+        Test::Absent("shares") },
+];
+
+static RULES_4: [Rule<'static>; 3] = [
+    rule! { "windows-cpu-one", Stated, "runtime config-windows.md#cpu", "one of count, shares, maximum and affinity", Platforms::Every,
+        [Step::Member("windows"), Step::Member("resources"), Step::Member("cpu"), Step::When(Condition { origin: Origin::Part, way: &["affinity"], holds: true, check: Predicate::There })],
+        Test::Absent("maximum") },
+    rule! { "windows-cpu-affinity-there", Must, "runtime config-windows.md#cpu", "a mask and a group of processors", Platforms::Every,
+        [Step::Member("windows"), Step::Member("resources"), Step::Member("cpu"), Step::Member("affinity"), Step::EachItem],
+        Test::There("mask") },
+    rule! { "windows-cpu-affinity-there", Must, "runtime config-windows.md#cpu", "a mask and a group of processors", Platforms::Every,
+        [Step::Member("windows"), Step::Member("resources"), Step::Member("cpu"), Step::Member("affinity"), Step::EachItem],
+        Test::There("group") },
+];
+
+static RULES_5: [Rule<'static>; 3] = [
     rule! { "windows-cpu-shares", Stated, "runtime config-windows.md#cpu", "an integer from 0 to 10000", Platforms::Every,
         [Step::Member("windows"), Step::Member("resources"), Step::Member("cpu"), Step::Member("shares")],
         Test::Within(0, 10000) },
     rule! { "windows-cpu-maximum", Stated, "runtime config-windows.md#cpu", "an integer from 0 to 10000", Platforms::Every,
         [Step::Member("windows"), Step::Member("resources"), Step::Member("cpu"), Step::Member("maximum")],
         Test::Within(0, 10000) },
-];
-
-static RULES_4: [Rule<'static>; 3] = [
-    rule! { "windows-network-alone", Stated, "runtime config-windows.md#network", "no other member beside networkNamespace", Platforms::Every,
+    rule! { "windows-network-alone", Host, "runtime config-windows.md#network", "no other member beside networkNamespace", Platforms::Every,
         [Step::Member("windows"), Step::Member("network"), Step::When(Condition { origin: Origin::Part, way: &["networkNamespace"], holds: true, check: Predicate::There })],
         Test::Absent("endpointList") },
-    rule! { "windows-network-alone", Stated, "runtime config-windows.md#network", "no other member beside networkNamespace", Platforms::Every,
-        [Step::Member("windows"), Step::Member("network"), Step::When(Condition { origin: Origin::Part, way: &["networkNamespace"], holds: true, check: Predicate::There })],
-        Test::Absent("allowUnqualifiedDNSQuery") },
-    rule! { "windows-network-alone", Stated, "runtime config-windows.md#network", "no other member beside networkNamespace", Platforms::Every,
-        [Step::Member("windows"), Step::Member("network"), Step::When(Condition { origin: Origin::Part, way: &["networkNamespace"], holds: true, check: Predicate::There })],
-        Test::Absent("DNSSearchList") },
 ];
 
-static RULES_5: [Rule<'static>; 3] = [
-    rule! { "windows-network-alone", Stated, "runtime config-windows.md#network", "no other member beside networkNamespace", Platforms::Every,
+static RULES_6: [Rule<'static>; 3] = [
+    rule! { "windows-network-alone", Host, "runtime config-windows.md#network", "no other member beside networkNamespace", Platforms::Every,
+        [Step::Member("windows"), Step::Member("network"), Step::When(Condition { origin: Origin::Part, way: &["networkNamespace"], holds: true, check: Predicate::There })],
+        Test::Absent("allowUnqualifiedDNSQuery") },
+    rule! { "windows-network-alone", Host, "runtime config-windows.md#network", "no other member beside networkNamespace", Platforms::Every,
+        [Step::Member("windows"), Step::Member("network"), Step::When(Condition { origin: Origin::Part, way: &["networkNamespace"], holds: true, check: Predicate::There })],
+        Test::Absent("DNSSearchList") },
+    rule! { "windows-network-alone", Host, "runtime config-windows.md#network", "no other member beside networkNamespace", Platforms::Every,
         [Step::Member("windows"), Step::Member("network"), Step::When(Condition { origin: Origin::Part, way: &["networkNamespace"], holds: true, check: Predicate::There })],
         Test::Absent("networkSharedContainerName") },
+];
+
+static RULES_7: [Rule<'static>; 3] = [
     rule! { "vm-path-absolute", Must, "runtime config-vm.md#hypervisor-object", "an absolute path", Platforms::Every,
         [Step::Member("vm"), Step::Member("hypervisor"), Step::Member("path")],
         Test::Text(Grammar::AbsolutePath) },
     rule! { "vm-path-absolute", Must, "runtime config-vm.md#hypervisor-object", "an absolute path", Platforms::Every,
         [Step::Member("vm"), Step::Member("kernel"), Step::Member("path")],
         Test::Text(Grammar::AbsolutePath) },
-];
-
-static RULES_6: [Rule<'static>; 3] = [
     rule! { "vm-path-absolute", Must, "runtime config-vm.md#hypervisor-object", "an absolute path", Platforms::Every,
         [Step::Member("vm"), Step::Member("kernel"), Step::Member("initrd")],
         Test::Text(Grammar::AbsolutePath) },
+];
+
+static RULES_8: [Rule<'static>; 3] = [
     rule! { "vm-path-absolute", Must, "runtime config-vm.md#hypervisor-object", "an absolute path", Platforms::Every,
         [Step::Member("vm"), Step::Member("image"), Step::Member("path")],
         Test::Text(Grammar::AbsolutePath) },
-    rule! { "vm-image-format", Stated, "runtime config-vm.md#image-object", "raw, qcow2, vdi, vmdk or vhd", Platforms::Every,
+    rule! { "vm-image-format", Host, "runtime config-vm.md#image-object", "raw, qcow2, vdi, vmdk or vhd", Platforms::Every,
         [Step::Member("vm"), Step::Member("image"), Step::Member("format")],
         Test::OneOf(&["raw", "qcow2", "vdi", "vmdk", "vhd"]) },
+    rule! { "zos-namespace-once", Must, "runtime config-zos.md#namespaces", "each type of namespace once", Platforms::Every,
+        [Step::Member("zos"), Step::Member("namespaces")],
+        Test::Distinct(Key::Members(&[&["type"]])) },
 ];
 
-static RULES_7: [Rule<'static>; 3] = [
+static RULES_9: [Rule<'static>; 3] = [
+    rule! { "zos-namespace-path", Must, "runtime config-zos.md#namespaces", "an absolute path", Platforms::Every,
+        [Step::Member("zos"), Step::Member("namespaces"), Step::EachItem, Step::Member("path"), Step::When(Condition { origin: Origin::Part, way: &[], holds: false, check: Predicate::OneOf(&[""]) })],
+        Test::Text(Grammar::AbsolutePath) },
+    rule! { "zos-default-filesystems", Should, "runtime config-zos.md#zos-container-configuration", "a mount of /proc", Platforms::These(&[RuntimePlatform::Zos]),
+        [],
+        Test::There("mounts") },
+    rule! { "zos-default-filesystems", Should, "runtime config-zos.md#zos-container-configuration", "a mount of /proc", Platforms::These(&[RuntimePlatform::Zos]),
+        [Step::Member("mounts")],
+        Test::ListsItem("destination", "/proc") },
+];
+
+static RULES_10: [Rule<'static>; 3] = [
     rule! { "solaris-scaled", Stated, "runtime config-solaris.md#maxshmmemory", "a number, with K, M, G, T or nothing behind it", Platforms::Every,
         [Step::Member("solaris"), Step::Member("maxShmMemory")],
         Test::Text(Grammar::ScaledNumber) },
@@ -92,17 +130,18 @@ static RULES_7: [Rule<'static>; 3] = [
         Test::Text(Grammar::ScaledNumber) },
 ];
 
-static RULES_8: [Rule<'static>; 1] = [
+static RULES_11: [Rule<'static>; 1] = [
     rule! { "solaris-cpus", Stated, "runtime config-solaris.md#cappedcpu", "a number of processors, as 2, .75 or 1.25", Platforms::Every,
         [Step::Member("solaris"), Step::Member("cappedCPU"), Step::Member("ncpus")],
         Test::Text(Grammar::DecimalNumber) },
 ];
 
 /// Returns the book of platforms, a few rules in each slice.
-pub fn platforms_rules() -> [&'static [Rule<'static>]; 8]
+pub fn platforms_rules() -> [&'static [Rule<'static>]; 11]
     ensures { flat_map (λ b. map rule_of b.now) result ≡ defined.platforms_rules }
 {
     [
-        &RULES_1, &RULES_2, &RULES_3, &RULES_4, &RULES_5, &RULES_6, &RULES_7, &RULES_8,
+        &RULES_1, &RULES_2, &RULES_3, &RULES_4, &RULES_5, &RULES_6, &RULES_7, &RULES_8, &RULES_9,
+        &RULES_10, &RULES_11,
     ]
 }

@@ -54,13 +54,13 @@ static RULES_4: [Rule<'static>; 3] = [
     rule! { "console-size-terminal", Host, "runtime config.md#process", "no size without a terminal", Platforms::Every,
         [Step::Member("process"), Step::When(Condition { origin: Origin::Part, way: &["terminal"], holds: false, check: Predicate::Boolean(true) })],
         Test::Absent("consoleSize") },
-    rule! { "user-ids-there", Must, "runtime config.md#user", "the ID of a user and that of a group", Platforms::These(POSIX),
+    rule! { "user-ids-there", Must, "runtime config.md#posix-platform-user", "the ID of a user and that of a group", Platforms::These(POSIX),
         [Step::Member("process"), Step::Member("user")],
         Test::There("uid") },
 ];
 
 static RULES_5: [Rule<'static>; 3] = [
-    rule! { "user-ids-there", Must, "runtime config.md#user", "the ID of a user and that of a group", Platforms::These(POSIX),
+    rule! { "user-ids-there", Must, "runtime config.md#posix-platform-user", "the ID of a user and that of a group", Platforms::These(POSIX),
         [Step::Member("process"), Step::Member("user")],
         Test::There("gid") },
     rule! { "user-umask", Host, "umask(2)", "permission bits, from 0 to 511", Platforms::Every,
@@ -72,7 +72,7 @@ static RULES_5: [Rule<'static>; 3] = [
 ];
 
 static RULES_6: [Rule<'static>; 3] = [
-    rule! { "user-name-windows", Stated, "runtime config.md#user", "no name of a user but on Windows", Platforms::These(POSIX),
+    rule! { "user-name-windows", Host, "runtime config.md#windows-user", "no name of a user but on Windows", Platforms::These(POSIX),
         [Step::Member("process"), Step::Member("user")],
         Test::Absent("username") },
     rule! { "rlimit-limits-there", Must, "runtime config.md#posix-process", "a soft and a hard limit", Platforms::Every,
@@ -119,11 +119,21 @@ static RULES_9: [Rule<'static>; 3] = [
         Test::Text(Grammar::SelinuxLabel) },
 ];
 
+static RULES_10: [Rule<'static>; 2] = [
+    rule! { "exec-cpu-affinity", Stated, "runtime config.md#linux-process", "a list of numbers and ranges, as 0-3,7; of the final list also nothing", Platforms::Every,
+        [Step::Member("process"), Step::Member("execCPUAffinity"), Step::Member("initial")],
+        Test::Text(Grammar::CpuList) },
+    rule! { "exec-cpu-affinity", Stated, "runtime config.md#linux-process", "a list of numbers and ranges, as 0-3,7; of the final list also nothing", Platforms::Every,
+        [Step::Member("process"), Step::Member("execCPUAffinity"), Step::Member("final"), Step::When(Condition { origin: Origin::Part, way: &[], holds: false, check: Predicate::OneOf(&[""]) })],
+        Test::Text(Grammar::CpuList) },
+];
+
 /// Returns the book of process, a few rules in each slice.
-pub fn process_rules() -> [&'static [Rule<'static>]; 9]
+pub fn process_rules() -> [&'static [Rule<'static>]; 10]
     ensures { flat_map (λ b. map rule_of b.now) result ≡ defined.process_rules }
 {
     [
         &RULES_1, &RULES_2, &RULES_3, &RULES_4, &RULES_5, &RULES_6, &RULES_7, &RULES_8, &RULES_9,
+        &RULES_10,
     ]
 }

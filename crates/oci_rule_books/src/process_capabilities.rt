@@ -5,11 +5,11 @@ ghost use Rattle.std.specs.List.{flat_map};
 ghost use Rattle.oci_rules.specs.Tables.{rule_of};
 ghost use Rattle.oci_rule_books.specs.Process as defined;
 
-use crate::lists::CAPABILITIES;
+use crate::lists::{CAPABILITIES, SCHEDULER_FLAGS};
 use oci_rules::{Condition, Key, Level, Origin, Platforms, Predicate, Rule, Step, Test};
 
 static RULES_1: [Rule<'static>; 3] = [
-    rule! { "capability-effective-permitted", Host, "capabilities(7)", "a capability that is permitted", Platforms::Every,
+    rule! { "capability-effective-permitted", Host, "capset(2)", "a capability that is permitted", Platforms::Every,
         [Step::Member("process"), Step::Member("capabilities")],
         Test::Among("effective", "permitted") },
     rule! { "capability-ambient-permitted", Host, "capabilities(7)", "a capability that is permitted", Platforms::Every,
@@ -21,87 +21,87 @@ static RULES_1: [Rule<'static>; 3] = [
 ];
 
 static RULES_2: [Rule<'static>; 3] = [
-    rule! { "capability-bounding", Host, "capabilities(7)", "a capability that is in the bounding set", Platforms::Every,
-        [Step::Member("process"), Step::Member("capabilities")],
-        Test::Among("permitted", "bounding") },
-    rule! { "capability-bounding", Host, "capabilities(7)", "a capability that is in the bounding set", Platforms::Every,
+    rule! { "capability-bounding", Host, "capset(2)", "an inheritable capability that is in the bounding set", Platforms::Every,
         [Step::Member("process"), Step::Member("capabilities")],
         Test::Among("inheritable", "bounding") },
     rule! { "capability-spelling", Stated, "runtime config.md#linux-process", "the name of a capability, as CAP_CHOWN", Platforms::Every,
         [Step::Member("process"), Step::Member("capabilities"), Step::Member("bounding"), Step::EachItem],
         Test::OneOf(CAPABILITIES) },
-];
-
-static RULES_3: [Rule<'static>; 3] = [
     rule! { "capability-spelling", Stated, "runtime config.md#linux-process", "the name of a capability, as CAP_CHOWN", Platforms::Every,
         [Step::Member("process"), Step::Member("capabilities"), Step::Member("effective"), Step::EachItem],
         Test::OneOf(CAPABILITIES) },
+];
+
+static RULES_3: [Rule<'static>; 3] = [
     rule! { "capability-spelling", Stated, "runtime config.md#linux-process", "the name of a capability, as CAP_CHOWN", Platforms::Every,
         [Step::Member("process"), Step::Member("capabilities"), Step::Member("inheritable"), Step::EachItem],
         Test::OneOf(CAPABILITIES) },
     rule! { "capability-spelling", Stated, "runtime config.md#linux-process", "the name of a capability, as CAP_CHOWN", Platforms::Every,
         [Step::Member("process"), Step::Member("capabilities"), Step::Member("permitted"), Step::EachItem],
         Test::OneOf(CAPABILITIES) },
-];
-
-static RULES_4: [Rule<'static>; 3] = [
     rule! { "capability-spelling", Stated, "runtime config.md#linux-process", "the name of a capability, as CAP_CHOWN", Platforms::Every,
         [Step::Member("process"), Step::Member("capabilities"), Step::Member("ambient"), Step::EachItem],
         Test::OneOf(CAPABILITIES) },
+];
+
+static RULES_4: [Rule<'static>; 3] = [
     rule! { "capability-once", Host, "common practice", "each capability once", Platforms::Every,
         [Step::Member("process"), Step::Member("capabilities"), Step::Member("bounding")],
         Test::Distinct(Key::Itself) },
     rule! { "capability-once", Host, "common practice", "each capability once", Platforms::Every,
         [Step::Member("process"), Step::Member("capabilities"), Step::Member("effective")],
         Test::Distinct(Key::Itself) },
-];
-
-static RULES_5: [Rule<'static>; 3] = [
     rule! { "capability-once", Host, "common practice", "each capability once", Platforms::Every,
         [Step::Member("process"), Step::Member("capabilities"), Step::Member("inheritable")],
         Test::Distinct(Key::Itself) },
+];
+
+static RULES_5: [Rule<'static>; 3] = [
     rule! { "capability-once", Host, "common practice", "each capability once", Platforms::Every,
         [Step::Member("process"), Step::Member("capabilities"), Step::Member("permitted")],
         Test::Distinct(Key::Itself) },
     rule! { "capability-once", Host, "common practice", "each capability once", Platforms::Every,
         [Step::Member("process"), Step::Member("capabilities"), Step::Member("ambient")],
         Test::Distinct(Key::Itself) },
-];
-
-static RULES_6: [Rule<'static>; 3] = [
     rule! { "scheduler-nice-range", Host, "sched(7)", "an integer from -20 to 19", Platforms::Every,
         [Step::Member("process"), Step::Member("scheduler"), Step::Member("nice")],
         Test::Within(-20, 19) },
-    rule! { "scheduler-nice-policy", Host, "sched(7)", "0 but for SCHED_OTHER and SCHED_BATCH", Platforms::Every,
-        [Step::Member("process"), Step::Member("scheduler"), Step::When(Condition { origin: Origin::Part, way: &["policy"], holds: false, check: Predicate::OneOf(&["SCHED_OTHER", "SCHED_BATCH"]) }), Step::Member("nice")],
-        Test::Within(0, 0) },
-    rule! { "scheduler-priority-policy", Stated, "runtime config.md#linux-process", "0 but for SCHED_FIFO and SCHED_RR", Platforms::Every,
-        [Step::Member("process"), Step::Member("scheduler"), Step::When(Condition { origin: Origin::Part, way: &["policy"], holds: false, check: Predicate::OneOf(&["SCHED_FIFO", "SCHED_RR"]) }), Step::Member("priority")],
-        Test::Within(0, 0) },
 ];
 
-static RULES_7: [Rule<'static>; 3] = [
+static RULES_6: [Rule<'static>; 3] = [
+    rule! { "scheduler-nice-policy", Host, "sched_setattr(2)", "0 but for SCHED_OTHER and SCHED_BATCH", Platforms::Every,
+        [Step::Member("process"), Step::Member("scheduler"), Step::When(Condition { origin: Origin::Part, way: &["policy"], holds: false, check: Predicate::OneOf(&["SCHED_OTHER", "SCHED_BATCH"]) }), Step::Member("nice")],
+        Test::Within(0, 0) },
+    rule! { "scheduler-priority-policy", Host, "sched_setattr(2)", "0 but for SCHED_FIFO and SCHED_RR", Platforms::Every,
+        [Step::Member("process"), Step::Member("scheduler"), Step::When(Condition { origin: Origin::Part, way: &["policy"], holds: false, check: Predicate::OneOf(&["SCHED_FIFO", "SCHED_RR"]) }), Step::Member("priority")],
+        Test::Within(0, 0) },
     rule! { "scheduler-priority-range", Host, "sched(7)", "an integer from 1 to 99, for SCHED_FIFO and SCHED_RR", Platforms::Every,
         [Step::Member("process"), Step::Member("scheduler"), Step::When(Condition { origin: Origin::Part, way: &["policy"], holds: true, check: Predicate::OneOf(&["SCHED_FIFO", "SCHED_RR"]) }), Step::Member("priority")],
         Test::Within(1, 99) },
-    rule! { "scheduler-deadline-policy", Stated, "runtime config.md#linux-process", "0 but for SCHED_DEADLINE", Platforms::Every,
+];
+
+static RULES_7: [Rule<'static>; 3] = [
+    rule! { "scheduler-deadline-policy", Host, "sched_setattr(2)", "0 but for SCHED_DEADLINE", Platforms::Every,
         [Step::Member("process"), Step::Member("scheduler"), Step::When(Condition { origin: Origin::Part, way: &["policy"], holds: false, check: Predicate::OneOf(&["SCHED_DEADLINE"]) }), Step::Member("runtime")],
         Test::Within(0, 0) },
-    rule! { "scheduler-deadline-policy", Stated, "runtime config.md#linux-process", "0 but for SCHED_DEADLINE", Platforms::Every,
+    rule! { "scheduler-deadline-policy", Host, "sched_setattr(2)", "0 but for SCHED_DEADLINE", Platforms::Every,
         [Step::Member("process"), Step::Member("scheduler"), Step::When(Condition { origin: Origin::Part, way: &["policy"], holds: false, check: Predicate::OneOf(&["SCHED_DEADLINE"]) }), Step::Member("deadline")],
+        Test::Within(0, 0) },
+    rule! { "scheduler-deadline-policy", Host, "sched_setattr(2)", "0 but for SCHED_DEADLINE", Platforms::Every,
+        [Step::Member("process"), Step::Member("scheduler"), Step::When(Condition { origin: Origin::Part, way: &["policy"], holds: false, check: Predicate::OneOf(&["SCHED_DEADLINE"]) }), Step::Member("period")],
         Test::Within(0, 0) },
 ];
 
 static RULES_8: [Rule<'static>; 3] = [
-    rule! { "scheduler-deadline-policy", Stated, "runtime config.md#linux-process", "0 but for SCHED_DEADLINE", Platforms::Every,
-        [Step::Member("process"), Step::Member("scheduler"), Step::When(Condition { origin: Origin::Part, way: &["policy"], holds: false, check: Predicate::OneOf(&["SCHED_DEADLINE"]) }), Step::Member("period")],
-        Test::Within(0, 0) },
     rule! { "scheduler-deadline-order", Host, "sched_setattr(2)", "a runtime that is at most the deadline, and that at most the period", Platforms::Every,
         [Step::Member("process"), Step::Member("scheduler")],
         Test::AtMost("runtime", "deadline") },
     rule! { "scheduler-deadline-order", Host, "sched_setattr(2)", "a runtime that is at most the deadline, and that at most the period", Platforms::Every,
         [Step::Member("process"), Step::Member("scheduler"), Step::When(Condition { origin: Origin::Part, way: &["period"], holds: true, check: Predicate::Within(1, 18446744073709551615) })],
         Test::AtMost("deadline", "period") },
+    rule! { "scheduler-flags", Stated, "runtime config.md#linux-process", "a flag of the specification's list, as SCHED_FLAG_RESET_ON_FORK", Platforms::Every,
+        [Step::Member("process"), Step::Member("scheduler"), Step::Member("flags"), Step::EachItem],
+        Test::OneOf(SCHEDULER_FLAGS) },
 ];
 
 /// Returns the book of process capabilities, a few rules in each slice.

@@ -30,119 +30,113 @@ static RULES_2: [Rule<'static>; 3] = [
     rule! { "spec-windows-there", Must, "runtime config.md#platform-specific-configuration", "the configuration for Windows", Platforms::These(&[RuntimePlatform::Windows]),
         [],
         Test::There("windows") },
-    rule! { "spec-one-platform", Stated, "runtime config.md#platform-specific-configuration", "no configuration for another platform", Platforms::These(&[RuntimePlatform::Linux, RuntimePlatform::FreeBsd, RuntimePlatform::Vm]),
+    rule! { "spec-one-platform", Host, "runtime config.md#platform-specific-configuration", "no configuration for another platform, but one for Linux beside that for Windows", Platforms::These(&[RuntimePlatform::Linux, RuntimePlatform::Windows]),
         [],
-        Test::Absent("windows") },
+        Test::Absent("solaris") },
 ];
 
 static RULES_3: [Rule<'static>; 3] = [
-    rule! { "spec-one-platform", Stated, "runtime config.md#platform-specific-configuration", "no configuration for another platform", Platforms::These(&[RuntimePlatform::Linux, RuntimePlatform::FreeBsd, RuntimePlatform::Vm]),
-        [],
-        Test::Absent("solaris") },
-    rule! { "spec-one-platform", Stated, "runtime config.md#platform-specific-configuration", "no configuration for another platform", Platforms::These(&[RuntimePlatform::Linux, RuntimePlatform::FreeBsd, RuntimePlatform::Vm]),
+    rule! { "spec-one-platform", Host, "runtime config.md#platform-specific-configuration", "no configuration for another platform, but one for Linux beside that for Windows", Platforms::These(&[RuntimePlatform::Linux, RuntimePlatform::Windows]),
         [],
         Test::Absent("zos") },
-    rule! { "spec-one-platform", Stated, "runtime config.md#platform-specific-configuration", "no configuration for another platform", Platforms::These(&[RuntimePlatform::Windows]),
+    rule! { "spec-one-platform", Host, "runtime config.md#platform-specific-configuration", "no configuration for another platform, but one for Linux beside that for Windows", Platforms::These(&[RuntimePlatform::FreeBsd, RuntimePlatform::Vm]),
         [],
-        Test::Absent("linux") },
+        Test::Absent("windows") },
+    rule! { "spec-one-platform", Host, "runtime config.md#platform-specific-configuration", "no configuration for another platform, but one for Linux beside that for Windows", Platforms::These(&[RuntimePlatform::FreeBsd, RuntimePlatform::Vm]),
+        [],
+        Test::Absent("solaris") },
 ];
 
 static RULES_4: [Rule<'static>; 3] = [
-    rule! { "spec-one-platform", Stated, "runtime config.md#platform-specific-configuration", "no configuration for another platform", Platforms::These(&[RuntimePlatform::Windows]),
-        [],
-        Test::Absent("solaris") },
-    rule! { "spec-one-platform", Stated, "runtime config.md#platform-specific-configuration", "no configuration for another platform", Platforms::These(&[RuntimePlatform::Windows]),
+    rule! { "spec-one-platform", Host, "runtime config.md#platform-specific-configuration", "no configuration for another platform, but one for Linux beside that for Windows", Platforms::These(&[RuntimePlatform::FreeBsd, RuntimePlatform::Vm]),
         [],
         Test::Absent("zos") },
-    rule! { "spec-one-platform", Stated, "runtime config.md#platform-specific-configuration", "no configuration for another platform", Platforms::These(&[RuntimePlatform::Solaris]),
+    rule! { "spec-one-platform", Host, "runtime config.md#platform-specific-configuration", "no configuration for another platform, but one for Linux beside that for Windows", Platforms::These(&[RuntimePlatform::Solaris]),
         [],
         Test::Absent("linux") },
+    rule! { "spec-one-platform", Host, "runtime config.md#platform-specific-configuration", "no configuration for another platform, but one for Linux beside that for Windows", Platforms::These(&[RuntimePlatform::Solaris]),
+        [],
+        Test::Absent("windows") },
 ];
 
 static RULES_5: [Rule<'static>; 3] = [
-    rule! { "spec-one-platform", Stated, "runtime config.md#platform-specific-configuration", "no configuration for another platform", Platforms::These(&[RuntimePlatform::Solaris]),
-        [],
-        Test::Absent("windows") },
-    rule! { "spec-one-platform", Stated, "runtime config.md#platform-specific-configuration", "no configuration for another platform", Platforms::These(&[RuntimePlatform::Solaris]),
+    rule! { "spec-one-platform", Host, "runtime config.md#platform-specific-configuration", "no configuration for another platform, but one for Linux beside that for Windows", Platforms::These(&[RuntimePlatform::Solaris]),
         [],
         Test::Absent("zos") },
-    rule! { "spec-one-platform", Stated, "runtime config.md#platform-specific-configuration", "no configuration for another platform", Platforms::These(&[RuntimePlatform::Zos]),
+    rule! { "spec-one-platform", Host, "runtime config.md#platform-specific-configuration", "no configuration for another platform, but one for Linux beside that for Windows", Platforms::These(&[RuntimePlatform::Zos]),
         [],
         Test::Absent("linux") },
+    rule! { "spec-one-platform", Host, "runtime config.md#platform-specific-configuration", "no configuration for another platform, but one for Linux beside that for Windows", Platforms::These(&[RuntimePlatform::Zos]),
+        [],
+        Test::Absent("windows") },
 ];
 
 static RULES_6: [Rule<'static>; 3] = [
-    rule! { "spec-one-platform", Stated, "runtime config.md#platform-specific-configuration", "no configuration for another platform", Platforms::These(&[RuntimePlatform::Zos]),
-        [],
-        Test::Absent("windows") },
-    rule! { "spec-one-platform", Stated, "runtime config.md#platform-specific-configuration", "no configuration for another platform", Platforms::These(&[RuntimePlatform::Zos]),
+    rule! { "spec-one-platform", Host, "runtime config.md#platform-specific-configuration", "no configuration for another platform, but one for Linux beside that for Windows", Platforms::These(&[RuntimePlatform::Zos]),
         [],
         Test::Absent("solaris") },
     rule! { "root-there", Must, "runtime config.md#root", "a root file system", Platforms::These(POSIX),
         [],
         Test::There("root") },
-];
-
-static RULES_7: [Rule<'static>; 3] = [
     rule! { "root-there", Must, "runtime config.md#root", "a root file system", Platforms::These(&[RuntimePlatform::Windows]),
         [Step::When(Condition { origin: Origin::Part, way: &["windows", "hyperv"], holds: false, check: Predicate::There })],
         Test::There("root") },
-    rule! { "root-absent-hyperv", Must, "runtime config.md#root", "no root file system for a Hyper-V container", Platforms::Every,
+];
+
+static RULES_7: [Rule<'static>; 3] = [
+    rule! { "root-absent-hyperv", Must, "runtime config.md#root", "no root file system for a Hyper-V container", Platforms::These(&[RuntimePlatform::Windows]),
         [Step::When(Condition { origin: Origin::Part, way: &["windows", "hyperv"], holds: true, check: Predicate::There })],
         Test::Absent("root") },
     rule! { "root-path-there", Must, "runtime config.md#root", "a path that is not empty", Platforms::Every,
         [Step::Member("root")],
         Test::There("path") },
-];
-
-static RULES_8: [Rule<'static>; 3] = [
     rule! { "root-path-there", Must, "runtime config.md#root", "a path that is not empty", Platforms::Every,
         [Step::Member("root"), Step::Member("path")],
         Test::NotEmpty },
+];
+
+static RULES_8: [Rule<'static>; 3] = [
     rule! { "root-path-volume", Must, "runtime config.md#root", "a volume GUID path", Platforms::These(&[RuntimePlatform::Windows]),
         [Step::Member("root"), Step::Member("path")],
         Test::Text(Grammar::VolumeGuidPath) },
     rule! { "root-path-rootfs", Should, "runtime config.md#root", "a path that ends in rootfs", Platforms::These(POSIX),
         [Step::Member("root"), Step::Member("path")],
         Test::Text(Grammar::RootfsPath) },
-];
-
-static RULES_9: [Rule<'static>; 3] = [
     rule! { "root-readonly-windows", Must, "runtime config.md#root", "false, or no such member", Platforms::These(&[RuntimePlatform::Windows]),
         [Step::Member("root"), Step::Member("readonly")],
         Test::Boolean(false) },
+];
+
+static RULES_9: [Rule<'static>; 3] = [
     rule! { "annotation-key-not-empty", Must, "runtime config.md#annotations", "a key that is not empty", Platforms::Every,
         [Step::Member("annotations"), Step::EachName],
         Test::NotEmpty },
     rule! { "annotation-key-reverse-domain", Should, "runtime config.md#annotations", "a key in reverse domain notation, as com.example.myKey", Platforms::Every,
         [Step::Member("annotations"), Step::EachName],
         Test::Text(Grammar::ReverseDomain) },
-];
-
-static RULES_10: [Rule<'static>; 3] = [
     rule! { "annotation-key-reserved-runtime", Must, "runtime config.md#annotations", "below org.opencontainers a key that a specification defines", Platforms::Every,
         [Step::Member("annotations"), Step::EachName],
         Test::Reserved("org.opencontainers.", OPENCONTAINERS_KEYS) },
+];
+
+static RULES_10: [Rule<'static>; 3] = [
     rule! { "annotation-as-image", Must, "runtime config.md#annotations", "a date and time (RFC 3339), as in an image configuration", Platforms::Every,
         [Step::Member("annotations"), Step::Member("org.opencontainers.image.created"), Step::When(Condition { origin: Origin::Part, way: &[], holds: false, check: Predicate::OneOf(&[""]) })],
         Test::Text(Grammar::DateTime) },
     rule! { "annotation-stop-signal", Must, "runtime config.md#annotations", "a signal's name, as SIGKILL or SIGRTMIN+3, or its number from 1 to 64", Platforms::Every,
         [Step::Member("annotations"), Step::Member("org.opencontainers.image.stopSignal"), Step::When(Condition { origin: Origin::Part, way: &[], holds: false, check: Predicate::OneOf(&[""]) })],
         Test::Text(Grammar::Signal) },
-];
-
-static RULES_11: [Rule<'static>; 1] = [
     rule! { "annotation-label-schema", Host, "image annotations.md#back-compatibility-with-label-schema", "the key below org.opencontainers.image that superseded this one", Platforms::Every,
         [Step::Member("annotations"), Step::EachName],
         Test::NoneOf(LABEL_SCHEMA_KEYS) },
 ];
 
 /// Returns the book of spec, a few rules in each slice.
-pub fn spec_rules() -> [&'static [Rule<'static>]; 11]
+pub fn spec_rules() -> [&'static [Rule<'static>]; 10]
     ensures { flat_map (λ b. map rule_of b.now) result ≡ defined.spec_rules }
 {
     [
         &RULES_1, &RULES_2, &RULES_3, &RULES_4, &RULES_5, &RULES_6, &RULES_7, &RULES_8, &RULES_9,
-        &RULES_10, &RULES_11,
+        &RULES_10,
     ]
 }

@@ -111,17 +111,17 @@ static RULES_9: [Rule<'static>; 3] = [
     rule! { "hook-prestart-deprecated", Should, "runtime config.md#posix-platform-hooks", "no such member, which is deprecated", Platforms::Every,
         [Step::Member("hooks")],
         Test::Absent("prestart") },
-    rule! { "hook-on-posix", Stated, "runtime config.md#posix-platform-hooks", "no hooks on Windows", Platforms::These(&[RuntimePlatform::Windows]),
+    rule! { "hook-on-posix", Host, "runtime config.md#posix-platform-hooks", "no hooks on Windows", Platforms::These(&[RuntimePlatform::Windows]),
         [],
         Test::Absent("hooks") },
-    rule! { "hostname-needs-uts", Host, "runtime config.md#hostname", "no name of a host without a UTS namespace of its own", Platforms::These(&[RuntimePlatform::Linux]),
-        [Step::When(Condition { origin: Origin::Document, way: &["linux", "namespaces"], holds: false, check: Predicate::ListsItem("type", &["uts"], &[], &["path"]) })],
+    rule! { "hostname-needs-uts", Host, "runtime config.md#hostname", "no name of a host without a UTS namespace", Platforms::These(&[RuntimePlatform::Linux]),
+        [Step::When(Condition { origin: Origin::Document, way: &["linux", "namespaces"], holds: false, check: Predicate::ListsItem("type", &["uts"], &[], &[]) })],
         Test::Absent("hostname") },
 ];
 
 static RULES_10: [Rule<'static>; 3] = [
-    rule! { "domainname-needs-uts", Host, "runtime config.md#domainname", "no name of a domain without a UTS namespace of its own", Platforms::These(&[RuntimePlatform::Linux]),
-        [Step::When(Condition { origin: Origin::Document, way: &["linux", "namespaces"], holds: false, check: Predicate::ListsItem("type", &["uts"], &[], &["path"]) })],
+    rule! { "domainname-needs-uts", Host, "runtime config.md#domainname", "no name of a domain without a UTS namespace", Platforms::These(&[RuntimePlatform::Linux]),
+        [Step::When(Condition { origin: Origin::Document, way: &["linux", "namespaces"], holds: false, check: Predicate::ListsItem("type", &["uts"], &[], &[]) })],
         Test::Absent("domainname") },
     rule! { "hostname-length", Host, "sethostname(2)", "at most 64 bytes", Platforms::Every,
         [Step::Member("hostname")],

@@ -5,7 +5,7 @@ ghost use Rattle.std.specs.List.{flat_map};
 ghost use Rattle.oci_rules.specs.Tables.{rule_of};
 ghost use Rattle.oci_rule_books.specs.State as defined;
 
-use crate::lists::{LABEL_SCHEMA_KEYS, OPENCONTAINERS_KEYS};
+use crate::lists::{LABEL_SCHEMA_KEYS, OPENCONTAINERS_KEYS, POSIX};
 use oci_grammars::Grammar;
 use oci_rules::{
     Condition, Level, Origin, Platforms, Predicate, Rule, RuntimePlatform, Step, Test,
@@ -27,7 +27,7 @@ static RULES_2: [Rule<'static>; 3] = [
     rule! { "state-members-there", Must, "runtime runtime.md#state", "a version, an ID, a status and a bundle", Platforms::Every,
         [],
         Test::There("bundle") },
-    rule! { "state-version", Stated, "runtime runtime.md#state", "a version (SemVer 2.0.0)", Platforms::Every,
+    rule! { "state-version", Host, "runtime runtime.md#state", "a version (SemVer 2.0.0)", Platforms::Every,
         [Step::Member("ociVersion")],
         Test::Text(Grammar::SemVer) },
     rule! { "state-id-some", Stated, "runtime runtime.md#state", "an ID that is not empty", Platforms::Every,
@@ -48,30 +48,33 @@ static RULES_3: [Rule<'static>; 3] = [
 ];
 
 static RULES_4: [Rule<'static>; 3] = [
-    rule! { "state-bundle-absolute", Stated, "runtime runtime.md#state", "an absolute path", Platforms::Every,
+    rule! { "state-bundle-absolute", Stated, "runtime runtime.md#state", "an absolute path", Platforms::These(POSIX),
         [Step::Member("bundle")],
         Test::Text(Grammar::AbsolutePath) },
+    rule! { "state-bundle-absolute", Stated, "runtime runtime.md#state", "an absolute path", Platforms::These(&[RuntimePlatform::Windows]),
+        [Step::Member("bundle")],
+        Test::Text(Grammar::WindowsPath) },
     rule! { "annotation-key-not-empty", Must, "runtime config.md#annotations", "a key that is not empty", Platforms::Every,
         [Step::Member("annotations"), Step::EachName],
         Test::NotEmpty },
-    rule! { "annotation-key-reverse-domain", Should, "runtime config.md#annotations", "a key in reverse domain notation, as com.example.myKey", Platforms::Every,
-        [Step::Member("annotations"), Step::EachName],
-        Test::Text(Grammar::ReverseDomain) },
 ];
 
 static RULES_5: [Rule<'static>; 3] = [
+    rule! { "annotation-key-reverse-domain", Should, "runtime config.md#annotations", "a key in reverse domain notation, as com.example.myKey", Platforms::Every,
+        [Step::Member("annotations"), Step::EachName],
+        Test::Text(Grammar::ReverseDomain) },
     rule! { "annotation-key-reserved-runtime", Must, "runtime config.md#annotations", "below org.opencontainers a key that a specification defines", Platforms::Every,
         [Step::Member("annotations"), Step::EachName],
         Test::Reserved("org.opencontainers.", OPENCONTAINERS_KEYS) },
     rule! { "annotation-as-image", Must, "runtime config.md#annotations", "a date and time (RFC 3339), as in an image configuration", Platforms::Every,
         [Step::Member("annotations"), Step::Member("org.opencontainers.image.created"), Step::When(Condition { origin: Origin::Part, way: &[], holds: false, check: Predicate::OneOf(&[""]) })],
         Test::Text(Grammar::DateTime) },
+];
+
+static RULES_6: [Rule<'static>; 2] = [
     rule! { "annotation-stop-signal", Must, "runtime config.md#annotations", "a signal's name, as SIGKILL or SIGRTMIN+3, or its number from 1 to 64", Platforms::Every,
         [Step::Member("annotations"), Step::Member("org.opencontainers.image.stopSignal"), Step::When(Condition { origin: Origin::Part, way: &[], holds: false, check: Predicate::OneOf(&[""]) })],
         Test::Text(Grammar::Signal) },
-];
-
-static RULES_6: [Rule<'static>; 1] = [
     rule! { "annotation-label-schema", Host, "image annotations.md#back-compatibility-with-label-schema", "the key below org.opencontainers.image that superseded this one", Platforms::Every,
         [Step::Member("annotations"), Step::EachName],
         Test::NoneOf(LABEL_SCHEMA_KEYS) },

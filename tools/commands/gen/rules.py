@@ -1,7 +1,8 @@
 """Books of rules in crates/oci_rule_books and oci_rule_books, their golden rows and docs/RULES.md, from tools/rules/*.rules.
 
 It writes all files that are not up to date. With --check it prints each file that differs, is missing, or is no longer generated, each
-place that stands in no record, and each rule without its golden rows. With --rows NAME it prints the skeleton of a rule's golden rows.
+place that stands in no record, each rule without its golden rows, and each whose level is not that of its sentence in
+tools/rules/sources.rows. With --rows NAME it prints the skeleton of a rule's golden rows.
 
 A rule is one line of a file of tools/rules, with eight cells between ` | `:
 
@@ -36,6 +37,7 @@ Other lines:
   crate NAME                 the crate of the file's books
   list NAME = TEXT..         a list of texts; the remark above it is its description
   grammar NAME = VARIANT     a grammar by its variant in oci_grammars
+  beside NAME..              members that the specifications have and the records do not; any place below one stands
   set NAME                   a set of rules begins, which stands wherever a line `include PLACE NAME` has it
   book NAME                  a book begins: one constant of the code, of at most some 40 rules
   kind NAME = RECORD BOOK..  the books of a kind of documents
@@ -49,7 +51,7 @@ from generator import output
 from generator.records import Book
 from generator.text import marked
 from repository import TOP
-from rule_books import kinds, pages, rows, shapes, source, specs
+from rule_books import kinds, pages, rows, shapes, source, sources, specs
 from rule_books.model import Model
 
 RECORDS_BY_HAND = {"Reference": {"registry": "T", "mirror_registry": "T", "repository": "T", "tag": "T", "digest": "T"}}
@@ -58,6 +60,7 @@ RECORDS_BY_HAND = {"Reference": {"registry": "T", "mirror_registry": "T", "repos
 def misplaced(model):
     """What of the books stands in no record."""
     books = Book.of_folder(os.path.join(TOP, "tools/records"))
+    shapes.BESIDE.update(model.beside)
     records = shapes.of_books(books) | RECORDS_BY_HAND
     out = []
     for kind, (shape, _) in model.kinds.items():
@@ -76,7 +79,8 @@ def run(options):
     if options.rows:
         print(rows.skeleton(model, options.rows))
         return 0
-    wrong = misplaced(model)
+    found = sources.rows(TOP)
+    wrong = misplaced(model) + list(sources.differing(model.rules(), found)) + sources.orphans(model.rules(), found)
     files = {}
     for path, text in (specs.files(model) | source.files(model) | kinds.files(model)).items():
         files |= marked({path: text}, "rules", "tools/rules")

@@ -28,45 +28,32 @@ The status is 1 if anything is wrong; where levels and sections differ and nothi
 import os
 
 from comparisons import sentences
-from repository import at, rows as rows_of
+from repository import at
 from rule_books.model import Model
+from rule_books.sources import WORDS, differing, orphans, rows as rows_of
 
 CHECKS = False
-ROWS = "tools/rules/sources.rows"
 
 
-class Row:
-    """A sentence of a rule, or the reason that it has none."""
-
-    def __init__(self, line):
-        self.text = line
-        cells = [it.strip() for it in line.split(" | ")]
-        self.is_whole = len(cells) == 5
-        self.name, self.version, self.place, self.word, self.last = cells if self.is_whole else [cells[0], *"----"]
-
-    def level(self):
-        """The level that the row gives."""
-        return "host" if self.version == "-" else sentences.WORDS.get(self.word)
-
-    def wrong(self, top):
-        """What is wrong with the row; nothing where it is as it says."""
-        if not self.is_whole:
-            return "a row has five cells"
-        if self.version == "-":
-            return "" if self.place == self.word == "-" and self.last not in ("", "-") else "without a version there is a reason alone"
-        if self.word not in sentences.WORDS:
-            return f"no word {self.word}"
-        if not os.path.isdir(os.path.join(top, self.version)):
-            return f"no folder {self.version}"
-        found = sentences.under(os.path.join(top, self.version), self.place)
-        if found is None:
-            return f"{self.version} has no {self.place}"
-        sentence = next((it for it in found if sentences.checksum(it) == self.last), None)
-        if sentence is None:
-            return "no such sentence"
-        if not sentences.has_word(sentence, self.word):
-            return f"the word is not in its sentence: {sentence}" if self.word != "-" else f"its sentence has a word: {sentence}"
-        return ""
+def fault(row, top):
+    """What is wrong with a row; nothing where it is as it says."""
+    if not row.is_whole:
+        return "a row has five cells"
+    if row.is_reason():
+        return "" if row.place == row.word == "-" and row.last not in ("", "-") else "without a version there is a reason alone"
+    if row.word not in WORDS:
+        return f"no word {row.word}"
+    if not os.path.isdir(os.path.join(top, row.version)):
+        return f"no folder {row.version}"
+    found = sentences.under(os.path.join(top, row.version), row.place)
+    if found is None:
+        return f"{row.version} has no {row.place}"
+    sentence = next((it for it in found if sentences.checksum(it) == row.last), None)
+    if sentence is None:
+        return "no such sentence"
+    if not sentences.has_word(sentence, row.word):
+        return f"the word is not in its sentence: {sentence}" if row.word != "-" else f"its sentence has a word: {sentence}"
+    return ""
 
 
 def section(description):
@@ -78,26 +65,15 @@ def section(description):
 def wrongs(top, rules, rows):
     """What is wrong with rows and rules, a line each."""
     for row in rows:
-        wrong = row.wrong(top) or ("" if row.name in rules else "no such rule")
+        wrong = fault(row, top)
         if wrong:
             yield f"{row.text}: {wrong}"
-    named = {row.name for row in rows}
+    yield from orphans(rules, rows)
     for name, lines in rules.items():
-        if name not in named:
-            yield f"{name}: no row"
         for text, place in dict.fromkeys(filter(None, map(section, lines))):
             folders = sentences.folders(top, text)
             if folders and not any(sentences.under(it, place) for it in folders):
                 yield f"{name}: no {text} text has {place}"
-
-
-def levels(rules, rows, unread):
-    """The rules whose level is not that of their first row."""
-    first = {row.name: row for row in reversed(rows)}
-    for name, lines in rules.items():
-        row, level = first.get(name), lines[0].level
-        if row and row.level() != level and name not in unread:
-            yield f"{name}: {level}, and " + ("no sentence asks for it" if row.version == "-" else f"by its sentence {row.level()}")
 
 
 def sections(rules, rows):
@@ -138,11 +114,11 @@ def options_of(parser):
 def run(options):
     if options.print:
         return print_sentences(options.folder, options.print)
-    rules, rows = Model(at("tools/rules")).rules(), [Row(it) for it in rows_of(ROWS)]
+    rules, rows = Model(at("tools/rules")).rules(), rows_of(at("."))
     wrong, unread = list(wrongs(options.folder, rules, rows)), unread_rules(options.folder, rules)
     for line in wrong:
         print(line)
-    print_list("levels that differ from their sentence", list(levels(rules, rows, unread)))
+    print_list("levels that differ from their sentence", list(differing(rules, rows)))
     print_list("sections that differ from their sentence", list(sections(rules, rows)))
     print_list("rules whose text is not there", unread)
     print(f"{len(rows)} rows, {len(wrong)} wrong")
