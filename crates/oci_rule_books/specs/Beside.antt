@@ -4,7 +4,5 @@ use Rattle.std.specs.Prelude.{ℕ, List, [], ◌∷◌, codes}
 
 abbrev pub unlisted : List (List ℕ)
 unlisted =
-    codes "enableCMT" ∷
-    codes "enableMBM" ∷
     codes "affinity" ∷
     []

@@ -2,7 +2,7 @@
 -- Image configurations (image specification, "OCI Image Configuration").
 use Rattle.std.specs.Prelude.{List, [], ◌∷◌, map, codes, true, false}
 use Rattle.oci_grammars.specs.declared.grammar.Grammar.TheVariants.{AbsolutePath, DateTime, EnvironmentEntry, Port, User, Signal, Digest}
-use Rattle.oci_rules.specs.Rules.{Rule, must, stated, should, host, here, under, each_item, each_name, if_so, asks, the_part, is_text, text, one_of, absent, distinct, entry_name, beneath}
+use Rattle.oci_rules.specs.Rules.{Rule, must, stated, should, host, here, under, each_item, each_name, if_so, asks, the_part, is_text, text, one_of, absent, as_many, distinct, entry_name, beneath}
 use Rattle.oci_rules.specs.Platforms.{every}
 use Rattle.oci_rule_books.specs.Lists.{goos, goarch, arm_variants, arm64_variants, ppc64le_variants, riscv64_variants, amd64_variants}
 use Rattle.oci_rule_books.specs.Annotations.{image_annotations_elsewhere_rules}
@@ -22,6 +22,7 @@ config_rules =
     record { name = codes "config-features-windows"; level = should; section = codes "image config.md#properties"; platforms = every; place = if_so (asks the_part (codes "os" ∷ []) true (is_text (codes "windows" ∷ []))) (under (codes "os.features") (each_item here)); test = one_of (codes "win32k" ∷ []) } ∷
     record { name = codes "config-rootfs-type"; level = must; section = codes "image config.md#properties"; platforms = every; place = under (codes "rootfs") (under (codes "type") here); test = one_of (codes "layers" ∷ []) } ∷
     record { name = codes "config-diff-id"; level = stated; section = codes "image config.md#properties"; platforms = every; place = under (codes "rootfs") (under (codes "diff_ids") (each_item here)); test = text Digest } ∷
+    record { name = codes "config-history-count"; level = stated; section = codes "image config.md#properties"; platforms = every; place = here; test = as_many (codes "history" ∷ []) (codes "empty_layer") (codes "rootfs" ∷ codes "diff_ids" ∷ []) } ∷
     record { name = codes "config-env"; level = stated; section = codes "image config.md#properties"; platforms = every; place = under (codes "config") (under (codes "Env") (each_item here)); test = text EnvironmentEntry } ∷
     record { name = codes "config-port"; level = host; section = codes "image config.md#properties"; platforms = every; place = under (codes "config") (under (codes "ExposedPorts") (each_name here)); test = text Port } ∷
     record { name = codes "config-user"; level = stated; section = codes "image config.md#properties"; platforms = every; place = if_so (asks the_part (codes "os" ∷ []) true (is_text (codes "linux" ∷ []))) (under (codes "config") (under (codes "User") (if_so (asks the_part [] false (is_text (codes "" ∷ []))) here))); test = text User } ∷

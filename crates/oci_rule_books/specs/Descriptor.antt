@@ -2,13 +2,14 @@
 -- Descriptors (image specification, "OCI Content Descriptors"). The place of a set is the descriptor.
 use Rattle.std.specs.Prelude.{List, [], ◌∷◌, map, codes, pos, true}
 use Rattle.oci_grammars.specs.declared.grammar.Grammar.TheVariants.{MediaType, Uri, HttpUri, Base64}
-use Rattle.oci_rules.specs.Rules.{Rule, must, stated, should, here, under, each_item, if_so, asks, the_part, is_text, text, one_of, begins, within, beneath}
+use Rattle.oci_rules.specs.Rules.{Rule, must, stated, should, here, under, each_item, if_so, asks, the_part, is_text, text, one_of, begins, within, not_null, beneath}
 use Rattle.oci_rules.specs.Platforms.{every}
 use Rattle.oci_rule_books.specs.Annotations.{image_annotations_elsewhere_rules}
 
 -- the rules of bare descriptor
 abbrev pub bare_descriptor_rules : List Rule
 bare_descriptor_rules =
+    record { name = codes "annotations-not-null"; level = must; section = codes "image annotations.md#rules"; platforms = every; place = here; test = not_null (codes "annotations") } ∷
     record { name = codes "descriptor-media-type"; level = must; section = codes "image descriptor.md#properties"; platforms = every; place = under (codes "mediaType") here; test = text MediaType } ∷
     record { name = codes "descriptor-artifact-type"; level = must; section = codes "image descriptor.md#properties"; platforms = every; place = under (codes "artifactType") here; test = text MediaType } ∷
     record { name = codes "descriptor-size-limit"; level = stated; section = codes "image descriptor.md#properties"; platforms = every; place = under (codes "size") here; test = within (pos 0) (pos 9223372036854775807) } ∷

@@ -2,7 +2,7 @@
 -- Image indexes (image specification, "OCI Image Index Specification").
 use Rattle.std.specs.Prelude.{List, [], ◌∷◌, map, codes, pos, true, false}
 use Rattle.oci_grammars.specs.declared.grammar.Grammar.TheVariants.{MediaType}
-use Rattle.oci_rules.specs.Rules.{Rule, must, should, host, here, under, each_item, if_so, asks, the_part, is_there, is_text, text, one_of, within, there, absent, distinct, members, beneath}
+use Rattle.oci_rules.specs.Rules.{Rule, must, should, host, here, under, each_item, if_so, asks, the_part, is_there, is_text, text, one_of, within, there, absent, not_null, distinct, members, beneath}
 use Rattle.oci_rules.specs.Platforms.{every}
 use Rattle.oci_rule_books.specs.Lists.{goos, goarch, manifest_types, arm_variants, arm64_variants, ppc64le_variants, riscv64_variants, amd64_variants}
 use Rattle.oci_rule_books.specs.Annotations.{image_annotations_rules, image_annotations_elsewhere_rules}
@@ -11,6 +11,7 @@ use Rattle.oci_rule_books.specs.Descriptor.{bare_descriptor_rules}
 -- the book of index
 abbrev pub index_rules : List Rule
 index_rules =
+    record { name = codes "annotations-not-null"; level = must; section = codes "image annotations.md#rules"; platforms = every; place = here; test = not_null (codes "annotations") } ∷
     record { name = codes "index-schema-version"; level = must; section = codes "image image-index.md#image-index-property-descriptions"; platforms = every; place = under (codes "schemaVersion") here; test = within (pos 2) (pos 2) } ∷
     record { name = codes "index-media-type-there"; level = should; section = codes "image image-index.md#image-index-property-descriptions"; platforms = every; place = here; test = there (codes "mediaType") } ∷
     record { name = codes "index-media-type"; level = must; section = codes "image image-index.md#image-index-property-descriptions"; platforms = every; place = under (codes "mediaType") here; test = one_of (codes "application/vnd.oci.image.index.v1+json" ∷ []) } ∷

@@ -2,7 +2,7 @@
 -- The configuration of a container: its part for Linux (runtime specification, "Linux Container Configuration").
 use Rattle.std.specs.Prelude.{List, [], ◌∷◌, codes, pos, negsuc, true, false}
 use Rattle.oci_grammars.specs.declared.grammar.Grammar.TheVariants.{AbsolutePath, PageSize, NoParent, OneLine, OneDirectory, DeviceAccess, CpuList, CgroupFile}
-use Rattle.oci_rules.specs.Rules.{Rule, linux, must, stated, should, host, here, under, each_item, each_member, each_name, if_so, asks, the_part, the_document, is_there, is_text, is_within, has_item, text, one_of, none_of, begins, reserved, within, there, absent, either, not_empty, length_at_most, at_most, sum_at_most, distinct, itself, members}
+use Rattle.oci_rules.specs.Rules.{Rule, linux, must, stated, should, host, here, under, each_item, each_member, each_name, if_so, asks, the_part, the_document, is_there, is_text, is_within, has_item, text, one_of, none_of, begins, reserved, within, there, absent, boolean_member, either, not_empty, length_at_most, at_most, sum_at_most, distinct, itself, members}
 use Rattle.oci_rules.specs.Platforms.{every}
 use Rattle.oci_rule_books.specs.Lists.{ipc_sysctls}
 
@@ -39,6 +39,8 @@ linux_rules =
     record { name = codes "rdt-bandwidth-begins"; level = must; section = codes "runtime config-linux.md#intelrdt"; platforms = every; place = under (codes "linux") (under (codes "intelRdt") (under (codes "memBwSchema") here)); test = begins (codes "MB:") } ∷
     record { name = codes "rdt-bandwidth-one-line"; level = must; section = codes "runtime config-linux.md#intelrdt"; platforms = every; place = under (codes "linux") (under (codes "intelRdt") (under (codes "memBwSchema") here)); test = text OneLine } ∷
     record { name = codes "rdt-clos-id"; level = stated; section = codes "runtime config-linux.md#intelrdt"; platforms = every; place = under (codes "linux") (under (codes "intelRdt") (under (codes "closID") here)); test = text OneDirectory } ∷
+    record { name = codes "rdt-monitoring-type"; level = stated; section = codes "runtime config-linux.md#intelrdt"; platforms = every; place = under (codes "linux") (under (codes "intelRdt") here); test = boolean_member (codes "enableCMT") } ∷
+    record { name = codes "rdt-monitoring-type"; level = stated; section = codes "runtime config-linux.md#intelrdt"; platforms = every; place = under (codes "linux") (under (codes "intelRdt") here); test = boolean_member (codes "enableMBM") } ∷
     []
 
 -- the book of linux mappings

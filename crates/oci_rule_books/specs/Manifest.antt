@@ -2,7 +2,7 @@
 -- Image manifests (image specification, "OCI Image Manifest Specification").
 use Rattle.std.specs.Prelude.{List, [], ◌∷◌, map, codes, pos, true, false}
 use Rattle.oci_grammars.specs.declared.grammar.Grammar.TheVariants.{MediaType}
-use Rattle.oci_rules.specs.Rules.{Rule, must, should, host, here, under, each_item, if_so, asks, the_part, is_there, is_text, has_item, text, one_of, none_of, within, there, absent, not_empty, beneath}
+use Rattle.oci_rules.specs.Rules.{Rule, must, should, host, here, under, each_item, if_so, asks, the_part, is_there, is_text, has_item, text, one_of, none_of, within, there, absent, not_null, not_empty, beneath}
 use Rattle.oci_rules.specs.Platforms.{every}
 use Rattle.oci_rule_books.specs.Lists.{layer_types, nondistributable_types, subject_types, image_layer_types}
 use Rattle.oci_rule_books.specs.Annotations.{image_annotations_elsewhere_rules}
@@ -11,6 +11,7 @@ use Rattle.oci_rule_books.specs.Descriptor.{bare_descriptor_rules}
 -- the book of manifest
 abbrev pub manifest_rules : List Rule
 manifest_rules =
+    record { name = codes "annotations-not-null"; level = must; section = codes "image annotations.md#rules"; platforms = every; place = here; test = not_null (codes "annotations") } ∷
     record { name = codes "manifest-schema-version"; level = must; section = codes "image manifest.md#image-manifest-property-descriptions"; platforms = every; place = under (codes "schemaVersion") here; test = within (pos 2) (pos 2) } ∷
     record { name = codes "manifest-media-type-there"; level = should; section = codes "image manifest.md#image-manifest-property-descriptions"; platforms = every; place = here; test = there (codes "mediaType") } ∷
     record { name = codes "manifest-media-type"; level = must; section = codes "image manifest.md#image-manifest-property-descriptions"; platforms = every; place = under (codes "mediaType") here; test = one_of (codes "application/vnd.oci.image.manifest.v1+json" ∷ []) } ∷

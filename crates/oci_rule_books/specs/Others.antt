@@ -2,7 +2,7 @@
 -- Layouts, artifacts, lists, error replies and references (image specification, "OCI Image Layout Specification"; its 1.1.0-rc2, "OCI Artifact Manifest Specification"; distribution specification).
 use Rattle.std.specs.Prelude.{List, [], ◌∷◌, map, codes}
 use Rattle.oci_grammars.specs.declared.grammar.Grammar.TheVariants.{MediaType, Digest, Repository, Tag, Domain}
-use Rattle.oci_rules.specs.Rules.{Rule, must, stated, host, here, under, each_item, text, one_of, absent, either, not_empty, distinct, itself, beneath}
+use Rattle.oci_rules.specs.Rules.{Rule, must, stated, host, here, under, each_item, text, one_of, absent, not_null, either, not_empty, distinct, itself, beneath}
 use Rattle.oci_rules.specs.Platforms.{every}
 use Rattle.oci_rule_books.specs.Lists.{subject_types}
 use Rattle.oci_rule_books.specs.Annotations.{image_annotations_elsewhere_rules}
@@ -17,6 +17,7 @@ layout_rules =
 -- the book of artifact
 abbrev pub artifact_rules : List Rule
 artifact_rules =
+    record { name = codes "annotations-not-null"; level = must; section = codes "image annotations.md#rules"; platforms = every; place = here; test = not_null (codes "annotations") } ∷
     record { name = codes "artifact-media-type"; level = must; section = codes "image artifact.md#artifact-manifest-property-descriptions"; platforms = every; place = under (codes "mediaType") here; test = one_of (codes "application/vnd.oci.artifact.manifest.v1+json" ∷ []) } ∷
     record { name = codes "artifact-type"; level = must; section = codes "image artifact.md#artifact-manifest-property-descriptions"; platforms = every; place = under (codes "artifactType") here; test = text MediaType } ∷
     record { name = codes "artifact-subject-type"; level = host; section = codes "image artifact.md#artifact-manifest-property-descriptions"; platforms = every; place = under (codes "subject") (under (codes "mediaType") here); test = one_of subject_types } ∷

@@ -10,32 +10,38 @@ use oci_grammars::Grammar;
 use oci_rules::{Level, Platforms, Rule, Step, Test};
 
 static RULES_1: [Rule<'static>; 3] = [
+    rule! { "annotations-not-null", Must, "image annotations.md#rules", "annotations, or no such member", Platforms::Every,
+        [],
+        Test::NotNull("annotations") },
     rule! { "artifact-media-type", Must, "image artifact.md#artifact-manifest-property-descriptions", "application/vnd.oci.artifact.manifest.v1+json", Platforms::Every,
         [Step::Member("mediaType")],
         Test::OneOf(&["application/vnd.oci.artifact.manifest.v1+json"]) },
     rule! { "artifact-type", Must, "image artifact.md#artifact-manifest-property-descriptions", "a media type (RFC 6838, section 4.2)", Platforms::Every,
         [Step::Member("artifactType")],
         Test::Text(Grammar::MediaType) },
-    rule! { "artifact-subject-type", Host, "image artifact.md#artifact-manifest-property-descriptions", "the media type of a manifest or index", Platforms::Every,
-        [Step::Member("subject"), Step::Member("mediaType")],
-        Test::OneOf(SUBJECT_TYPES) },
 ];
 
 static RULES_2: [Rule<'static>; 3] = [
+    rule! { "artifact-subject-type", Host, "image artifact.md#artifact-manifest-property-descriptions", "the media type of a manifest or index", Platforms::Every,
+        [Step::Member("subject"), Step::Member("mediaType")],
+        Test::OneOf(SUBJECT_TYPES) },
     rule! { "artifact-not-other", Host, "common practice", "no member of another kind of manifest", Platforms::Every,
         [],
         Test::Absent("layers") },
     rule! { "artifact-not-other", Host, "common practice", "no member of another kind of manifest", Platforms::Every,
         [],
         Test::Absent("manifests") },
+];
+
+static RULES_3: [Rule<'static>; 1] = [
     rule! { "artifact-not-other", Host, "common practice", "no member of another kind of manifest", Platforms::Every,
         [],
         Test::Absent("config") },
 ];
 
 /// Returns the book of artifact, a few rules in each slice.
-pub fn artifact_rules() -> [&'static [Rule<'static>]; 2]
+pub fn artifact_rules() -> [&'static [Rule<'static>]; 3]
     ensures { flat_map (λ b. map rule_of b.now) result ≡ defined.artifact_rules }
 {
-    [&RULES_1, &RULES_2]
+    [&RULES_1, &RULES_2, &RULES_3]
 }

@@ -60,58 +60,64 @@ static RULES_4: [Rule<'static>; 3] = [
 ];
 
 static RULES_5: [Rule<'static>; 3] = [
+    rule! { "config-history-count", Stated, "image config.md#properties", "an entry for each layer, beside those of no layer", Platforms::Every,
+        [],
+        Test::AsMany(&["history"], "empty_layer", &["rootfs", "diff_ids"]) },
     rule! { "config-env", Stated, "image config.md#properties", "a name, =, and a value", Platforms::Every,
         [Step::Member("config"), Step::Member("Env"), Step::EachItem],
         Test::Text(Grammar::EnvironmentEntry) },
     rule! { "config-port", Host, "image config.md#properties", "a port or a range of ports from 1 to 65535, with /tcp, /udp, /sctp or nothing behind it", Platforms::Every,
         [Step::Member("config"), Step::Member("ExposedPorts"), Step::EachName],
         Test::Text(Grammar::Port) },
-    rule! { "config-user", Stated, "image config.md#properties", "a user or ID, with :group behind it or nothing, of an image for Linux", Platforms::Every,
-        [Step::When(Condition { origin: Origin::Part, way: &["os"], holds: true, check: Predicate::OneOf(&["linux"]) }), Step::Member("config"), Step::Member("User"), Step::When(Condition { origin: Origin::Part, way: &[], holds: false, check: Predicate::OneOf(&[""]) })],
-        Test::Text(Grammar::User) },
 ];
 
 static RULES_6: [Rule<'static>; 3] = [
+    rule! { "config-user", Stated, "image config.md#properties", "a user or ID, with :group behind it or nothing, of an image for Linux", Platforms::Every,
+        [Step::When(Condition { origin: Origin::Part, way: &["os"], holds: true, check: Predicate::OneOf(&["linux"]) }), Step::Member("config"), Step::Member("User"), Step::When(Condition { origin: Origin::Part, way: &[], holds: false, check: Predicate::OneOf(&[""]) })],
+        Test::Text(Grammar::User) },
     rule! { "config-stop-signal", Host, "image config.md#properties", "a signal's name, as SIGKILL, KILL or SIGRTMIN+3, or its number from 1 to 64", Platforms::Every,
         [Step::Member("config"), Step::Member("StopSignal"), Step::When(Condition { origin: Origin::Part, way: &[], holds: false, check: Predicate::OneOf(&[""]) })],
         Test::Text(Grammar::Signal) },
     rule! { "config-args-escaped", Should, "image config.md#properties", "no such member, which is deprecated", Platforms::Every,
         [Step::Member("config")],
         Test::Absent("ArgsEscaped") },
-    rule! { "config-reserved", Host, "image config.md#properties", "no such member from a builder; it is reserved for compatibility with Docker, and readers ignore it", Platforms::Every,
-        [Step::Member("config")],
-        Test::Absent("Memory") },
 ];
 
 static RULES_7: [Rule<'static>; 3] = [
+    rule! { "config-reserved", Host, "image config.md#properties", "no such member from a builder; it is reserved for compatibility with Docker, and readers ignore it", Platforms::Every,
+        [Step::Member("config")],
+        Test::Absent("Memory") },
     rule! { "config-reserved", Host, "image config.md#properties", "no such member from a builder; it is reserved for compatibility with Docker, and readers ignore it", Platforms::Every,
         [Step::Member("config")],
         Test::Absent("MemorySwap") },
     rule! { "config-reserved", Host, "image config.md#properties", "no such member from a builder; it is reserved for compatibility with Docker, and readers ignore it", Platforms::Every,
         [Step::Member("config")],
         Test::Absent("CpuShares") },
-    rule! { "config-reserved", Host, "image config.md#properties", "no such member from a builder; it is reserved for compatibility with Docker, and readers ignore it", Platforms::Every,
-        [Step::Member("config")],
-        Test::Absent("Healthcheck") },
 ];
 
 static RULES_8: [Rule<'static>; 3] = [
+    rule! { "config-reserved", Host, "image config.md#properties", "no such member from a builder; it is reserved for compatibility with Docker, and readers ignore it", Platforms::Every,
+        [Step::Member("config")],
+        Test::Absent("Healthcheck") },
     rule! { "config-env-once", Host, "common practice", "each variable once", Platforms::Every,
         [Step::Member("config"), Step::Member("Env")],
         Test::Distinct(Key::EntryName) },
     rule! { "config-volume-absolute", Host, "common practice", "an absolute path, of an image that is not for Windows", Platforms::Every,
         [Step::When(Condition { origin: Origin::Part, way: &["os"], holds: false, check: Predicate::OneOf(&["windows"]) }), Step::Member("config"), Step::Member("Volumes"), Step::EachName],
         Test::Text(Grammar::AbsolutePath) },
+];
+
+static RULES_9: [Rule<'static>; 1] = [
     rule! { "config-working-dir-absolute", Host, "common practice", "an absolute path", Platforms::Every,
         [Step::When(Condition { origin: Origin::Part, way: &["os"], holds: false, check: Predicate::OneOf(&["windows"]) }), Step::Member("config"), Step::Member("WorkingDir"), Step::When(Condition { origin: Origin::Part, way: &[], holds: false, check: Predicate::OneOf(&[""]) })],
         Test::Text(Grammar::AbsolutePath) },
 ];
 
 /// Returns the book of config, a few rules in each slice.
-pub fn config_rules() -> [&'static [Rule<'static>]; 8]
+pub fn config_rules() -> [&'static [Rule<'static>]; 9]
     ensures { flat_map (λ b. map rule_of b.now) result ≡ defined.config_rules }
 {
     [
-        &RULES_1, &RULES_2, &RULES_3, &RULES_4, &RULES_5, &RULES_6, &RULES_7, &RULES_8,
+        &RULES_1, &RULES_2, &RULES_3, &RULES_4, &RULES_5, &RULES_6, &RULES_7, &RULES_8, &RULES_9,
     ]
 }

@@ -13,78 +13,81 @@ use oci_grammars::Grammar;
 use oci_rules::{Condition, Key, Level, Origin, Platforms, Predicate, Rule, Step, Test};
 
 static RULES_1: [Rule<'static>; 3] = [
+    rule! { "annotations-not-null", Must, "image annotations.md#rules", "annotations, or no such member", Platforms::Every,
+        [],
+        Test::NotNull("annotations") },
     rule! { "index-schema-version", Must, "image image-index.md#image-index-property-descriptions", "2", Platforms::Every,
         [Step::Member("schemaVersion")],
         Test::Within(2, 2) },
     rule! { "index-media-type-there", Should, "image image-index.md#image-index-property-descriptions", "the media type of an image index", Platforms::Every,
         [],
         Test::There("mediaType") },
-    rule! { "index-media-type", Must, "image image-index.md#image-index-property-descriptions", "application/vnd.oci.image.index.v1+json", Platforms::Every,
-        [Step::Member("mediaType")],
-        Test::OneOf(&["application/vnd.oci.image.index.v1+json"]) },
 ];
 
 static RULES_2: [Rule<'static>; 3] = [
+    rule! { "index-media-type", Must, "image image-index.md#image-index-property-descriptions", "application/vnd.oci.image.index.v1+json", Platforms::Every,
+        [Step::Member("mediaType")],
+        Test::OneOf(&["application/vnd.oci.image.index.v1+json"]) },
     rule! { "index-artifact-type", Must, "image image-index.md#image-index-property-descriptions", "a media type (RFC 6838, section 4.2)", Platforms::Every,
         [Step::Member("artifactType")],
         Test::Text(Grammar::MediaType) },
     rule! { "index-manifest-type-known", Should, "image image-index.md#image-index-property-descriptions", "the media type of an image manifest or index", Platforms::Every,
         [Step::Member("manifests"), Step::EachItem, Step::Member("mediaType")],
         Test::OneOf(MANIFEST_TYPES) },
-    rule! { "descriptor-platform-there", Should, "image descriptor.md#properties", "a platform, where a manifest is described that is not an artifact's", Platforms::Every,
-        [Step::Member("manifests"), Step::EachItem, Step::When(Condition { origin: Origin::Part, way: &["mediaType"], holds: true, check: Predicate::OneOf(&["application/vnd.oci.image.manifest.v1+json"]) }), Step::When(Condition { origin: Origin::Part, way: &["artifactType"], holds: false, check: Predicate::There })],
-        Test::There("platform") },
 ];
 
 static RULES_3: [Rule<'static>; 3] = [
+    rule! { "descriptor-platform-there", Should, "image descriptor.md#properties", "a platform, where a manifest is described that is not an artifact's", Platforms::Every,
+        [Step::Member("manifests"), Step::EachItem, Step::When(Condition { origin: Origin::Part, way: &["mediaType"], holds: true, check: Predicate::OneOf(&["application/vnd.oci.image.manifest.v1+json"]) }), Step::When(Condition { origin: Origin::Part, way: &["artifactType"], holds: false, check: Predicate::There })],
+        Test::There("platform") },
     rule! { "platform-architecture-known", Should, "image image-index.md#image-index-property-descriptions", "a value of Go's GOARCH", Platforms::Every,
         [Step::Member("manifests"), Step::EachItem, Step::Member("platform"), Step::Member("architecture")],
         Test::OneOf(GOARCH) },
     rule! { "platform-os-known", Should, "image image-index.md#image-index-property-descriptions", "a value of Go's GOOS", Platforms::Every,
         [Step::Member("manifests"), Step::EachItem, Step::Member("platform"), Step::Member("os")],
         Test::OneOf(GOOS) },
-    rule! { "platform-variant-known", Should, "image image-index.md#platform-variants", "a variant of the specification's table for this processor; where its row goes on, one of Go's", Platforms::Every,
-        [Step::Member("manifests"), Step::EachItem, Step::Member("platform"), Step::When(Condition { origin: Origin::Part, way: &["architecture"], holds: true, check: Predicate::OneOf(&["arm"]) }), Step::Member("variant")],
-        Test::OneOf(ARM_VARIANTS) },
 ];
 
 static RULES_4: [Rule<'static>; 3] = [
+    rule! { "platform-variant-known", Should, "image image-index.md#platform-variants", "a variant of the specification's table for this processor; where its row goes on, one of Go's", Platforms::Every,
+        [Step::Member("manifests"), Step::EachItem, Step::Member("platform"), Step::When(Condition { origin: Origin::Part, way: &["architecture"], holds: true, check: Predicate::OneOf(&["arm"]) }), Step::Member("variant")],
+        Test::OneOf(ARM_VARIANTS) },
     rule! { "platform-variant-known", Should, "image image-index.md#platform-variants", "a variant of the specification's table for this processor; where its row goes on, one of Go's", Platforms::Every,
         [Step::Member("manifests"), Step::EachItem, Step::Member("platform"), Step::When(Condition { origin: Origin::Part, way: &["architecture"], holds: true, check: Predicate::OneOf(&["arm64"]) }), Step::Member("variant")],
         Test::OneOf(ARM64_VARIANTS) },
     rule! { "platform-variant-known", Should, "image image-index.md#platform-variants", "a variant of the specification's table for this processor; where its row goes on, one of Go's", Platforms::Every,
         [Step::Member("manifests"), Step::EachItem, Step::Member("platform"), Step::When(Condition { origin: Origin::Part, way: &["architecture"], holds: true, check: Predicate::OneOf(&["ppc64le"]) }), Step::Member("variant")],
         Test::OneOf(PPC64LE_VARIANTS) },
-    rule! { "platform-variant-known", Should, "image image-index.md#platform-variants", "a variant of the specification's table for this processor; where its row goes on, one of Go's", Platforms::Every,
-        [Step::Member("manifests"), Step::EachItem, Step::Member("platform"), Step::When(Condition { origin: Origin::Part, way: &["architecture"], holds: true, check: Predicate::OneOf(&["riscv64"]) }), Step::Member("variant")],
-        Test::OneOf(RISCV64_VARIANTS) },
 ];
 
 static RULES_5: [Rule<'static>; 3] = [
+    rule! { "platform-variant-known", Should, "image image-index.md#platform-variants", "a variant of the specification's table for this processor; where its row goes on, one of Go's", Platforms::Every,
+        [Step::Member("manifests"), Step::EachItem, Step::Member("platform"), Step::When(Condition { origin: Origin::Part, way: &["architecture"], holds: true, check: Predicate::OneOf(&["riscv64"]) }), Step::Member("variant")],
+        Test::OneOf(RISCV64_VARIANTS) },
     rule! { "platform-variant-known", Should, "image image-index.md#platform-variants", "a variant of the specification's table for this processor; where its row goes on, one of Go's", Platforms::Every,
         [Step::Member("manifests"), Step::EachItem, Step::Member("platform"), Step::When(Condition { origin: Origin::Part, way: &["architecture"], holds: true, check: Predicate::OneOf(&["amd64"]) }), Step::Member("variant")],
         Test::OneOf(AMD64_VARIANTS) },
     rule! { "platform-features-windows", Should, "image image-index.md#image-index-property-descriptions", "a feature that the specification lists for Windows", Platforms::Every,
         [Step::Member("manifests"), Step::EachItem, Step::Member("platform"), Step::When(Condition { origin: Origin::Part, way: &["os"], holds: true, check: Predicate::OneOf(&["windows"]) }), Step::Member("os.features"), Step::EachItem],
         Test::OneOf(&["win32k"]) },
-    rule! { "platform-features-windows", Should, "image image-index.md#image-index-property-descriptions", "a feature that the specification lists for Windows", Platforms::Every,
-        [Step::Member("manifests"), Step::EachItem, Step::Member("platform"), Step::When(Condition { origin: Origin::Part, way: &["os"], holds: true, check: Predicate::OneOf(&["windows"]) }), Step::Member("os_features"), Step::EachItem],
-        Test::OneOf(&["win32k"]) },
 ];
 
 static RULES_6: [Rule<'static>; 3] = [
+    rule! { "platform-features-windows", Should, "image image-index.md#image-index-property-descriptions", "a feature that the specification lists for Windows", Platforms::Every,
+        [Step::Member("manifests"), Step::EachItem, Step::Member("platform"), Step::When(Condition { origin: Origin::Part, way: &["os"], holds: true, check: Predicate::OneOf(&["windows"]) }), Step::Member("os_features"), Step::EachItem],
+        Test::OneOf(&["win32k"]) },
     rule! { "platform-features-reserved", Host, "image image-index.md#image-index-property-descriptions", "no such member, which is reserved", Platforms::Every,
         [Step::Member("manifests"), Step::EachItem, Step::Member("platform")],
         Test::Absent("features") },
     rule! { "index-ref-name-once", Host, "image image-layout.md#indexjson-file", "each name of a reference once", Platforms::Every,
         [Step::Member("manifests")],
         Test::Distinct(Key::Members(&[&["annotations", "org.opencontainers.image.ref.name"]])) },
+];
+
+static RULES_7: [Rule<'static>; 2] = [
     rule! { "manifest-not-index", Host, "image manifest.md#image-manifest", "no member of another kind of manifest", Platforms::Every,
         [],
         Test::Absent("config") },
-];
-
-static RULES_7: [Rule<'static>; 1] = [
     rule! { "manifest-not-index", Host, "image manifest.md#image-manifest", "no member of another kind of manifest", Platforms::Every,
         [],
         Test::Absent("layers") },

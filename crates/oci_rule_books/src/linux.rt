@@ -128,12 +128,21 @@ static RULES_10: [Rule<'static>; 3] = [
         Test::Text(Grammar::OneDirectory) },
 ];
 
+static RULES_11: [Rule<'static>; 2] = [
+    rule! { "rdt-monitoring-type", Stated, "runtime config-linux.md#intelrdt", "true or false", Platforms::Every,
+        [Step::Member("linux"), Step::Member("intelRdt")],
+        Test::BooleanMember("enableCMT") },
+    rule! { "rdt-monitoring-type", Stated, "runtime config-linux.md#intelrdt", "true or false", Platforms::Every,
+        [Step::Member("linux"), Step::Member("intelRdt")],
+        Test::BooleanMember("enableMBM") },
+];
+
 /// Returns the book of linux, a few rules in each slice.
-pub fn linux_rules() -> [&'static [Rule<'static>]; 10]
+pub fn linux_rules() -> [&'static [Rule<'static>]; 11]
     ensures { flat_map (λ b. map rule_of b.now) result ≡ defined.linux_rules }
 {
     [
         &RULES_1, &RULES_2, &RULES_3, &RULES_4, &RULES_5, &RULES_6, &RULES_7, &RULES_8, &RULES_9,
-        &RULES_10,
+        &RULES_10, &RULES_11,
     ]
 }

@@ -10,68 +10,74 @@ use oci_grammars::Grammar;
 use oci_rules::{Condition, Level, Origin, Platforms, Predicate, Rule, Step, Test};
 
 static RULES_1: [Rule<'static>; 3] = [
+    rule! { "annotations-not-null", Must, "image annotations.md#rules", "annotations, or no such member", Platforms::Every,
+        [],
+        Test::NotNull("annotations") },
     rule! { "manifest-schema-version", Must, "image manifest.md#image-manifest-property-descriptions", "2", Platforms::Every,
         [Step::Member("schemaVersion")],
         Test::Within(2, 2) },
     rule! { "manifest-media-type-there", Should, "image manifest.md#image-manifest-property-descriptions", "the media type of an image manifest", Platforms::Every,
         [],
         Test::There("mediaType") },
-    rule! { "manifest-media-type", Must, "image manifest.md#image-manifest-property-descriptions", "application/vnd.oci.image.manifest.v1+json", Platforms::Every,
-        [Step::Member("mediaType")],
-        Test::OneOf(&["application/vnd.oci.image.manifest.v1+json"]) },
 ];
 
 static RULES_2: [Rule<'static>; 3] = [
+    rule! { "manifest-media-type", Must, "image manifest.md#image-manifest-property-descriptions", "application/vnd.oci.image.manifest.v1+json", Platforms::Every,
+        [Step::Member("mediaType")],
+        Test::OneOf(&["application/vnd.oci.image.manifest.v1+json"]) },
     rule! { "manifest-artifact-type", Must, "image manifest.md#image-manifest-property-descriptions", "a media type (RFC 6838, section 4.2)", Platforms::Every,
         [Step::Member("artifactType")],
         Test::Text(Grammar::MediaType) },
     rule! { "manifest-artifact-type-there", Must, "image manifest.md#image-manifest-property-descriptions", "the type of the artifact, where the configuration is empty", Platforms::Every,
         [Step::When(Condition { origin: Origin::Part, way: &["config", "mediaType"], holds: true, check: Predicate::OneOf(&["application/vnd.oci.empty.v1+json"]) })],
         Test::There("artifactType") },
-    rule! { "manifest-config-type-known", Should, "image manifest.md#image-manifest-property-descriptions", "application/vnd.oci.image.config.v1+json, beside layers of an image", Platforms::Every,
-        [Step::When(Condition { origin: Origin::Part, way: &["artifactType"], holds: false, check: Predicate::There }), Step::When(Condition { origin: Origin::Part, way: &["layers"], holds: true, check: Predicate::ListsItem("mediaType", IMAGE_LAYER_TYPES, &[], &[]) }), Step::Member("config"), Step::Member("mediaType")],
-        Test::OneOf(&["application/vnd.oci.image.config.v1+json"]) },
 ];
 
 static RULES_3: [Rule<'static>; 3] = [
+    rule! { "manifest-config-type-known", Should, "image manifest.md#image-manifest-property-descriptions", "application/vnd.oci.image.config.v1+json, beside layers of an image", Platforms::Every,
+        [Step::When(Condition { origin: Origin::Part, way: &["artifactType"], holds: false, check: Predicate::There }), Step::When(Condition { origin: Origin::Part, way: &["layers"], holds: true, check: Predicate::ListsItem("mediaType", IMAGE_LAYER_TYPES, &[], &[]) }), Step::Member("config"), Step::Member("mediaType")],
+        Test::OneOf(&["application/vnd.oci.image.config.v1+json"]) },
     rule! { "manifest-artifact-config-type", Must, "image manifest.md#guidelines-for-artifact-usage", "a type of the artifact's own or the empty one, not that of an image's configuration", Platforms::Every,
         [Step::When(Condition { origin: Origin::Part, way: &["artifactType"], holds: true, check: Predicate::There }), Step::Member("config"), Step::Member("mediaType")],
         Test::NoneOf(&["application/vnd.oci.image.config.v1+json"]) },
     rule! { "manifest-layers-some", Should, "image manifest.md#image-manifest-property-descriptions", "at least one layer", Platforms::Every,
         [Step::Member("layers")],
         Test::NotEmpty },
-    rule! { "manifest-layer-type-known", Should, "image manifest.md#image-manifest-property-descriptions", "a type of layer that every implementation supports", Platforms::Every,
-        [Step::When(Condition { origin: Origin::Part, way: &["config", "mediaType"], holds: true, check: Predicate::OneOf(&["application/vnd.oci.image.config.v1+json"]) }), Step::Member("layers"), Step::EachItem, Step::Member("mediaType")],
-        Test::OneOf(LAYER_TYPES) },
 ];
 
 static RULES_4: [Rule<'static>; 3] = [
+    rule! { "manifest-layer-type-known", Should, "image manifest.md#image-manifest-property-descriptions", "a type of layer that every implementation supports", Platforms::Every,
+        [Step::When(Condition { origin: Origin::Part, way: &["config", "mediaType"], holds: true, check: Predicate::OneOf(&["application/vnd.oci.image.config.v1+json"]) }), Step::Member("layers"), Step::EachItem, Step::Member("mediaType")],
+        Test::OneOf(LAYER_TYPES) },
     rule! { "manifest-layer-distributable", Should, "image layer.md#non-distributable-layers", "a type of layer that may be distributed", Platforms::Every,
         [Step::Member("layers"), Step::EachItem, Step::Member("mediaType")],
         Test::NoneOf(NONDISTRIBUTABLE_TYPES) },
     rule! { "manifest-artifact-layer-some", Host, "image manifest.md#guidance-for-an-empty-descriptor", "a blob that is not empty, since some registries refuse those of size 0", Platforms::Every,
         [Step::When(Condition { origin: Origin::Part, way: &["artifactType"], holds: true, check: Predicate::There }), Step::Member("layers"), Step::EachItem, Step::Member("size")],
         Test::Within(1, 18446744073709551615) },
-    rule! { "manifest-subject-type", Host, "image manifest.md#image-manifest-property-descriptions", "the media type of a manifest or index", Platforms::Every,
-        [Step::Member("subject"), Step::Member("mediaType")],
-        Test::OneOf(SUBJECT_TYPES) },
 ];
 
 static RULES_5: [Rule<'static>; 3] = [
+    rule! { "manifest-subject-type", Host, "image manifest.md#image-manifest-property-descriptions", "the media type of a manifest or index", Platforms::Every,
+        [Step::Member("subject"), Step::Member("mediaType")],
+        Test::OneOf(SUBJECT_TYPES) },
     rule! { "manifest-not-index", Host, "image manifest.md#image-manifest", "no member of another kind of manifest", Platforms::Every,
         [],
         Test::Absent("manifests") },
     rule! { "manifest-not-index", Host, "image manifest.md#image-manifest", "no member of another kind of manifest", Platforms::Every,
         [],
         Test::Absent("fsLayers") },
+];
+
+static RULES_6: [Rule<'static>; 1] = [
     rule! { "manifest-not-index", Host, "image manifest.md#image-manifest", "no member of another kind of manifest", Platforms::Every,
         [],
         Test::Absent("history") },
 ];
 
 /// Returns the book of manifest, a few rules in each slice.
-pub fn manifest_rules() -> [&'static [Rule<'static>]; 5]
+pub fn manifest_rules() -> [&'static [Rule<'static>]; 6]
     ensures { flat_map (λ b. map rule_of b.now) result ≡ defined.manifest_rules }
 {
-    [&RULES_1, &RULES_2, &RULES_3, &RULES_4, &RULES_5]
+    [&RULES_1, &RULES_2, &RULES_3, &RULES_4, &RULES_5, &RULES_6]
 }

@@ -9,42 +9,45 @@ use oci_grammars::Grammar;
 use oci_rules::{Condition, Level, Origin, Platforms, Predicate, Rule, Step, Test};
 
 static RULES_1: [Rule<'static>; 3] = [
+    rule! { "annotations-not-null", Must, "image annotations.md#rules", "annotations, or no such member", Platforms::Every,
+        [Step::Member("config")],
+        Test::NotNull("annotations") },
     rule! { "descriptor-media-type", Must, "image descriptor.md#properties", "a media type (RFC 6838, section 4.2)", Platforms::Every,
         [Step::Member("config"), Step::Member("mediaType")],
         Test::Text(Grammar::MediaType) },
     rule! { "descriptor-artifact-type", Must, "image descriptor.md#properties", "a media type (RFC 6838, section 4.2)", Platforms::Every,
         [Step::Member("config"), Step::Member("artifactType")],
         Test::Text(Grammar::MediaType) },
-    rule! { "descriptor-size-limit", Stated, "image descriptor.md#properties", "an integer from 0 to 9223372036854775807", Platforms::Every,
-        [Step::Member("config"), Step::Member("size")],
-        Test::Within(0, 9223372036854775807) },
 ];
 
 static RULES_2: [Rule<'static>; 3] = [
+    rule! { "descriptor-size-limit", Stated, "image descriptor.md#properties", "an integer from 0 to 9223372036854775807", Platforms::Every,
+        [Step::Member("config"), Step::Member("size")],
+        Test::Within(0, 9223372036854775807) },
     rule! { "descriptor-url", Must, "image descriptor.md#properties", "a URI (RFC 3986)", Platforms::Every,
         [Step::Member("config"), Step::Member("urls"), Step::EachItem],
         Test::Text(Grammar::Uri) },
     rule! { "descriptor-url-scheme", Should, "image descriptor.md#properties", "a URI with the scheme http or https", Platforms::Every,
         [Step::Member("config"), Step::Member("urls"), Step::EachItem],
         Test::Text(Grammar::HttpUri) },
-    rule! { "descriptor-data-base64", Must, "image descriptor.md#properties", "base64 (RFC 4648, section 4)", Platforms::Every,
-        [Step::Member("config"), Step::Member("data")],
-        Test::Text(Grammar::Base64) },
 ];
 
 static RULES_3: [Rule<'static>; 3] = [
+    rule! { "descriptor-data-base64", Must, "image descriptor.md#properties", "base64 (RFC 4648, section 4)", Platforms::Every,
+        [Step::Member("config"), Step::Member("data")],
+        Test::Text(Grammar::Base64) },
     rule! { "descriptor-digest-algorithm", Should, "image descriptor.md#registered-algorithms", "a digest by SHA-256", Platforms::Every,
         [Step::Member("config"), Step::Member("digest")],
         Test::Begins("sha256:") },
     rule! { "descriptor-empty", Stated, "image manifest.md#guidance-for-an-empty-descriptor", "the digest, size and data of {}", Platforms::Every,
         [Step::Member("config"), Step::When(Condition { origin: Origin::Part, way: &["mediaType"], holds: true, check: Predicate::OneOf(&["application/vnd.oci.empty.v1+json"]) }), Step::Member("digest")],
         Test::OneOf(&["sha256:44136fa355b3678a1146ad16f7e8649e94fb4fc21fe77e8310c060f61caaff8a"]) },
+];
+
+static RULES_4: [Rule<'static>; 2] = [
     rule! { "descriptor-empty", Stated, "image manifest.md#guidance-for-an-empty-descriptor", "the digest, size and data of {}", Platforms::Every,
         [Step::Member("config"), Step::When(Condition { origin: Origin::Part, way: &["mediaType"], holds: true, check: Predicate::OneOf(&["application/vnd.oci.empty.v1+json"]) }), Step::Member("size")],
         Test::Within(2, 2) },
-];
-
-static RULES_4: [Rule<'static>; 1] = [
     rule! { "descriptor-empty", Stated, "image manifest.md#guidance-for-an-empty-descriptor", "the digest, size and data of {}", Platforms::Every,
         [Step::Member("config"), Step::When(Condition { origin: Origin::Part, way: &["mediaType"], holds: true, check: Predicate::OneOf(&["application/vnd.oci.empty.v1+json"]) }), Step::Member("data")],
         Test::OneOf(&["e30="]) },
