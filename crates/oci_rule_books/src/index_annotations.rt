@@ -46,32 +46,38 @@ static RULES_3: [Rule<'static>; 3] = [
 ];
 
 static RULES_4: [Rule<'static>; 3] = [
+    rule! { "annotation-ref-name-characters", Should, "image annotations.md#pre-defined-annotation-keys", "letters, digits and - . _ : @ / + alone", Platforms::Every,
+        [Step::Member("annotations"), Step::Member("org.opencontainers.image.ref.name")],
+        Test::Text(Grammar::RefNameCharacters) },
     rule! { "annotation-base-digest", Stated, "image annotations.md#pre-defined-annotation-keys", "a digest", Platforms::Every,
         [Step::Member("annotations"), Step::Member("org.opencontainers.image.base.digest"), Step::When(Condition { origin: Origin::Part, way: &[], holds: false, check: Predicate::OneOf(&[""]) })],
         Test::Text(Grammar::Digest) },
     rule! { "annotation-base-name", Should, "image annotations.md#pre-defined-annotation-keys", "an image reference", Platforms::Every,
         [Step::Member("annotations"), Step::Member("org.opencontainers.image.base.name"), Step::When(Condition { origin: Origin::Part, way: &[], holds: false, check: Predicate::OneOf(&[""]) })],
         Test::Text(Grammar::Reference) },
-    rule! { "annotation-base-name-full", Should, "image annotations.md#pre-defined-annotation-keys", "an image reference that names its registry", Platforms::Every,
-        [Step::Member("annotations"), Step::Member("org.opencontainers.image.base.name"), Step::When(Condition { origin: Origin::Part, way: &[], holds: false, check: Predicate::OneOf(&[""]) })],
-        Test::Text(Grammar::FullReference) },
 ];
 
 static RULES_5: [Rule<'static>; 3] = [
+    rule! { "annotation-base-name-full", Should, "image annotations.md#pre-defined-annotation-keys", "an image reference that names its registry", Platforms::Every,
+        [Step::Member("annotations"), Step::Member("org.opencontainers.image.base.name"), Step::When(Condition { origin: Origin::Part, way: &[], holds: false, check: Predicate::OneOf(&[""]) })],
+        Test::Text(Grammar::FullReference) },
     rule! { "annotation-base-both", Should, "image annotations.md#pre-defined-annotation-keys", "the digest of the base image, where its name stands", Platforms::Every,
         [Step::Member("annotations"), Step::When(Condition { origin: Origin::Part, way: &["org.opencontainers.image.base.name"], holds: true, check: Predicate::There })],
         Test::There("org.opencontainers.image.base.digest") },
     rule! { "annotation-label-schema", Host, "image annotations.md#back-compatibility-with-label-schema", "the key below org.opencontainers.image that superseded this one", Platforms::Every,
         [Step::Member("annotations"), Step::EachName],
         Test::NoneOf(LABEL_SCHEMA_KEYS) },
+];
+
+static RULES_6: [Rule<'static>; 1] = [
     rule! { "annotation-ref-name-place", Should, "image annotations.md#pre-defined-annotation-keys", "no such annotation but on descriptors of an index", Platforms::Every,
         [Step::Member("annotations")],
         Test::Absent("org.opencontainers.image.ref.name") },
 ];
 
 /// Returns the book of index annotations, a few rules in each slice.
-pub fn index_annotations_rules() -> [&'static [Rule<'static>]; 5]
+pub fn index_annotations_rules() -> [&'static [Rule<'static>]; 6]
     ensures { flat_map (λ b. map rule_of b.now) result ≡ defined.index_annotations_rules }
 {
-    [&RULES_1, &RULES_2, &RULES_3, &RULES_4, &RULES_5]
+    [&RULES_1, &RULES_2, &RULES_3, &RULES_4, &RULES_5, &RULES_6]
 }

@@ -46,18 +46,21 @@ static RULES_3: [Rule<'static>; 3] = [
 ];
 
 static RULES_4: [Rule<'static>; 3] = [
+    rule! { "annotation-ref-name-characters", Should, "image annotations.md#pre-defined-annotation-keys", "letters, digits and - . _ : @ / + alone", Platforms::Every,
+        [Step::Member("manifests"), Step::EachItem, Step::Member("annotations"), Step::Member("org.opencontainers.image.ref.name")],
+        Test::Text(Grammar::RefNameCharacters) },
     rule! { "annotation-base-digest", Stated, "image annotations.md#pre-defined-annotation-keys", "a digest", Platforms::Every,
         [Step::Member("manifests"), Step::EachItem, Step::Member("annotations"), Step::Member("org.opencontainers.image.base.digest"), Step::When(Condition { origin: Origin::Part, way: &[], holds: false, check: Predicate::OneOf(&[""]) })],
         Test::Text(Grammar::Digest) },
     rule! { "annotation-base-name", Should, "image annotations.md#pre-defined-annotation-keys", "an image reference", Platforms::Every,
         [Step::Member("manifests"), Step::EachItem, Step::Member("annotations"), Step::Member("org.opencontainers.image.base.name"), Step::When(Condition { origin: Origin::Part, way: &[], holds: false, check: Predicate::OneOf(&[""]) })],
         Test::Text(Grammar::Reference) },
+];
+
+static RULES_5: [Rule<'static>; 3] = [
     rule! { "annotation-base-name-full", Should, "image annotations.md#pre-defined-annotation-keys", "an image reference that names its registry", Platforms::Every,
         [Step::Member("manifests"), Step::EachItem, Step::Member("annotations"), Step::Member("org.opencontainers.image.base.name"), Step::When(Condition { origin: Origin::Part, way: &[], holds: false, check: Predicate::OneOf(&[""]) })],
         Test::Text(Grammar::FullReference) },
-];
-
-static RULES_5: [Rule<'static>; 2] = [
     rule! { "annotation-base-both", Should, "image annotations.md#pre-defined-annotation-keys", "the digest of the base image, where its name stands", Platforms::Every,
         [Step::Member("manifests"), Step::EachItem, Step::Member("annotations"), Step::When(Condition { origin: Origin::Part, way: &["org.opencontainers.image.base.name"], holds: true, check: Predicate::There })],
         Test::There("org.opencontainers.image.base.digest") },

@@ -72,74 +72,89 @@ static RULES_6: [Rule<'static>; 3] = [
     rule! { "cpu-lists", Stated, "runtime config-linux.md#cpu", "a list of numbers and ranges, as 0-3,7", Platforms::Every,
         [Step::Member("linux"), Step::Member("resources"), Step::Member("cpu"), Step::Member("mems")],
         Test::Text(Grammar::CpuList) },
-    rule! { "cpu-idle", Stated, "runtime config-linux.md#cpu", "0 or 1", Platforms::Every,
-        [Step::Member("linux"), Step::Member("resources"), Step::Member("cpu"), Step::Member("idle")],
-        Test::Within(0, 1) },
-    rule! { "cpu-period-range", Host, "cgroup v1 cpu", "an integer from 1000 to 1000000", Platforms::Every,
-        [Step::Member("linux"), Step::Member("resources"), Step::Member("cpu"), Step::Member("period")],
-        Test::Within(1000, 1000000) },
+    rule! { "cpu-list-order", Host, "cpuset(7)", "ranges that ascend, as 0-3", Platforms::Every,
+        [Step::Member("linux"), Step::Member("resources"), Step::Member("cpu"), Step::Member("cpus"), Step::When(Condition { origin: Origin::Part, way: &[], holds: false, check: Predicate::OneOf(&[""]) })],
+        Test::Text(Grammar::AscendingCpuList) },
+    rule! { "cpu-list-order", Host, "cpuset(7)", "ranges that ascend, as 0-3", Platforms::Every,
+        [Step::Member("linux"), Step::Member("resources"), Step::Member("cpu"), Step::Member("mems"), Step::When(Condition { origin: Origin::Part, way: &[], holds: false, check: Predicate::OneOf(&[""]) })],
+        Test::Text(Grammar::AscendingCpuList) },
 ];
 
 static RULES_7: [Rule<'static>; 3] = [
+    rule! { "cpu-list-order", Host, "cpuset(7)", "ranges that ascend, as 0-3", Platforms::Every,
+        [Step::Member("process"), Step::Member("execCPUAffinity"), Step::Member("initial"), Step::When(Condition { origin: Origin::Part, way: &[], holds: false, check: Predicate::OneOf(&[""]) })],
+        Test::Text(Grammar::AscendingCpuList) },
+    rule! { "cpu-list-order", Host, "cpuset(7)", "ranges that ascend, as 0-3", Platforms::Every,
+        [Step::Member("process"), Step::Member("execCPUAffinity"), Step::Member("final"), Step::When(Condition { origin: Origin::Part, way: &[], holds: false, check: Predicate::OneOf(&[""]) })],
+        Test::Text(Grammar::AscendingCpuList) },
+    rule! { "cpu-idle", Stated, "runtime config-linux.md#cpu", "0 or 1", Platforms::Every,
+        [Step::Member("linux"), Step::Member("resources"), Step::Member("cpu"), Step::Member("idle")],
+        Test::Within(0, 1) },
+];
+
+static RULES_8: [Rule<'static>; 3] = [
+    rule! { "cpu-period-range", Host, "cgroup v1 cpu", "an integer from 1000 to 1000000", Platforms::Every,
+        [Step::Member("linux"), Step::Member("resources"), Step::Member("cpu"), Step::Member("period")],
+        Test::Within(1000, 1000000) },
     rule! { "cpu-realtime", Host, "cgroup v1 cpu", "a runtime that is at most its period", Platforms::Every,
         [Step::Member("linux"), Step::Member("resources"), Step::Member("cpu")],
         Test::AtMost("realtimeRuntime", "realtimePeriod") },
     rule! { "hugepage-there", Must, "runtime config-linux.md#huge-page-limits", "the size of the pages and a limit", Platforms::Every,
         [Step::Member("linux"), Step::Member("resources"), Step::Member("hugepageLimits"), Step::EachItem],
         Test::There("pageSize") },
+];
+
+static RULES_9: [Rule<'static>; 3] = [
     rule! { "hugepage-there", Must, "runtime config-linux.md#huge-page-limits", "the size of the pages and a limit", Platforms::Every,
         [Step::Member("linux"), Step::Member("resources"), Step::Member("hugepageLimits"), Step::EachItem],
         Test::There("limit") },
-];
-
-static RULES_8: [Rule<'static>; 3] = [
     rule! { "hugepage-size", Stated, "runtime config-linux.md#huge-page-limits", "a size of pages, as 64KB, 2MB or 1GB", Platforms::Every,
         [Step::Member("linux"), Step::Member("resources"), Step::Member("hugepageLimits"), Step::EachItem, Step::Member("pageSize")],
         Test::Text(Grammar::PageSize) },
     rule! { "hugepage-limit", Stated, "runtime config-linux.md#huge-page-limits", "a number of bytes that is not negative", Platforms::Every,
         [Step::Member("linux"), Step::Member("resources"), Step::Member("hugepageLimits"), Step::EachItem, Step::Member("limit")],
         Test::Within(0, 18446744073709551615) },
+];
+
+static RULES_10: [Rule<'static>; 3] = [
     rule! { "hugepage-once", Host, "common practice", "each size of pages once", Platforms::Every,
         [Step::Member("linux"), Step::Member("resources"), Step::Member("hugepageLimits")],
         Test::Distinct(Key::Members(&[&["pageSize"]])) },
-];
-
-static RULES_9: [Rule<'static>; 3] = [
     rule! { "network-priority-there", Must, "runtime config-linux.md#network", "the name of an interface and its priority", Platforms::Every,
         [Step::Member("linux"), Step::Member("resources"), Step::Member("network"), Step::Member("priorities"), Step::EachItem],
         Test::There("name") },
     rule! { "network-priority-there", Must, "runtime config-linux.md#network", "the name of an interface and its priority", Platforms::Every,
         [Step::Member("linux"), Step::Member("resources"), Step::Member("network"), Step::Member("priorities"), Step::EachItem],
         Test::There("priority") },
+];
+
+static RULES_11: [Rule<'static>; 3] = [
     rule! { "network-name-some", Stated, "runtime config-linux.md#network", "the name of an interface, which is not empty", Platforms::Every,
         [Step::Member("linux"), Step::Member("resources"), Step::Member("network"), Step::Member("priorities"), Step::EachItem, Step::Member("name")],
         Test::NotEmpty },
-];
-
-static RULES_10: [Rule<'static>; 3] = [
     rule! { "network-priority-once", Host, "common practice", "each interface once", Platforms::Every,
         [Step::Member("linux"), Step::Member("resources"), Step::Member("network"), Step::Member("priorities")],
         Test::Distinct(Key::Members(&[&["name"]])) },
     rule! { "pids-limit-there", Must, "runtime config-linux.md#pids", "a limit", Platforms::Every,
         [Step::Member("linux"), Step::Member("resources"), Step::Member("pids")],
         Test::There("limit") },
+];
+
+static RULES_12: [Rule<'static>; 2] = [
     rule! { "rdma-some", Must, "runtime config-linux.md#rdma", "a limit of handles or of objects", Platforms::Every,
         [Step::Member("linux"), Step::Member("resources"), Step::Member("rdma"), Step::EachMember],
         Test::Either(&["hcaHandles", "hcaObjects"]) },
-];
-
-static RULES_11: [Rule<'static>; 1] = [
     rule! { "unified-key", Stated, "runtime config-linux.md#unified", "the name of a file of a cgroup", Platforms::Every,
         [Step::Member("linux"), Step::Member("resources"), Step::Member("unified"), Step::EachName],
         Test::Text(Grammar::CgroupFile) },
 ];
 
 /// Returns the book of linux resources, a few rules in each slice.
-pub fn linux_resources_rules() -> [&'static [Rule<'static>]; 11]
+pub fn linux_resources_rules() -> [&'static [Rule<'static>]; 12]
     ensures { flat_map (λ b. map rule_of b.now) result ≡ defined.linux_resources_rules }
 {
     [
         &RULES_1, &RULES_2, &RULES_3, &RULES_4, &RULES_5, &RULES_6, &RULES_7, &RULES_8, &RULES_9,
-        &RULES_10, &RULES_11,
+        &RULES_10, &RULES_11, &RULES_12,
     ]
 }

@@ -126,17 +126,23 @@ static RULES_10: [Rule<'static>; 3] = [
     rule! { "annotation-stop-signal", Must, "runtime config.md#annotations", "a signal's name, as SIGKILL or SIGRTMIN+3, or its number from 1 to 64", Platforms::Every,
         [Step::Member("annotations"), Step::Member("org.opencontainers.image.stopSignal"), Step::When(Condition { origin: Origin::Part, way: &[], holds: false, check: Predicate::OneOf(&[""]) })],
         Test::Text(Grammar::Signal) },
+    rule! { "annotation-exposed-ports", Host, "image conversion.md#configexposedports", "ports and ranges of ports with commas between them, as 80/tcp,53/udp", Platforms::Every,
+        [Step::Member("annotations"), Step::Member("org.opencontainers.image.exposedPorts"), Step::When(Condition { origin: Origin::Part, way: &[], holds: false, check: Predicate::OneOf(&[""]) })],
+        Test::Text(Grammar::ExposedPorts) },
+];
+
+static RULES_11: [Rule<'static>; 1] = [
     rule! { "annotation-label-schema", Host, "image annotations.md#back-compatibility-with-label-schema", "the key below org.opencontainers.image that superseded this one", Platforms::Every,
         [Step::Member("annotations"), Step::EachName],
         Test::NoneOf(LABEL_SCHEMA_KEYS) },
 ];
 
 /// Returns the book of spec, a few rules in each slice.
-pub fn spec_rules() -> [&'static [Rule<'static>]; 10]
+pub fn spec_rules() -> [&'static [Rule<'static>]; 11]
     ensures { flat_map (λ b. map rule_of b.now) result ≡ defined.spec_rules }
 {
     [
         &RULES_1, &RULES_2, &RULES_3, &RULES_4, &RULES_5, &RULES_6, &RULES_7, &RULES_8, &RULES_9,
-        &RULES_10,
+        &RULES_10, &RULES_11,
     ]
 }

@@ -71,10 +71,13 @@ static RULES_5: [Rule<'static>; 3] = [
         Test::Text(Grammar::DateTime) },
 ];
 
-static RULES_6: [Rule<'static>; 2] = [
+static RULES_6: [Rule<'static>; 3] = [
     rule! { "annotation-stop-signal", Must, "runtime config.md#annotations", "a signal's name, as SIGKILL or SIGRTMIN+3, or its number from 1 to 64", Platforms::Every,
         [Step::Member("annotations"), Step::Member("org.opencontainers.image.stopSignal"), Step::When(Condition { origin: Origin::Part, way: &[], holds: false, check: Predicate::OneOf(&[""]) })],
         Test::Text(Grammar::Signal) },
+    rule! { "annotation-exposed-ports", Host, "image conversion.md#configexposedports", "ports and ranges of ports with commas between them, as 80/tcp,53/udp", Platforms::Every,
+        [Step::Member("annotations"), Step::Member("org.opencontainers.image.exposedPorts"), Step::When(Condition { origin: Origin::Part, way: &[], holds: false, check: Predicate::OneOf(&[""]) })],
+        Test::Text(Grammar::ExposedPorts) },
     rule! { "annotation-label-schema", Host, "image annotations.md#back-compatibility-with-label-schema", "the key below org.opencontainers.image that superseded this one", Platforms::Every,
         [Step::Member("annotations"), Step::EachName],
         Test::NoneOf(LABEL_SCHEMA_KEYS) },
