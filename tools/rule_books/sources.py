@@ -25,7 +25,7 @@ class Row:
     def level(self):
         """The level that the row gives; nothing where the text is not at hand."""
         if self.is_reason():
-            return None if UNREAD in self.last else "host"
+            return None if UNREAD in self.last else "should" if self.last.startswith("should: ") else "host"
         return WORDS.get(self.word)
 
     def said(self):

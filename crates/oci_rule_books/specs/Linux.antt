@@ -175,10 +175,8 @@ abbrev pub linux_seccomp_rules : List Rule
 linux_seccomp_rules =
     record { name = codes "seccomp-default-errno"; level = must; section = codes "runtime config-linux.md#seccomp"; platforms = every; place = under (codes "linux") (under (codes "seccomp") (if_so (asks the_part (codes "defaultErrnoRet" ∷ []) true is_there) (under (codes "defaultAction") here))); test = one_of (codes "SCMP_ACT_ERRNO" ∷ codes "SCMP_ACT_TRACE" ∷ []) } ∷
     record { name = codes "seccomp-errno"; level = must; section = codes "runtime config-linux.md#seccomp"; platforms = every; place = under (codes "linux") (under (codes "seccomp") (under (codes "syscalls") (each_item (if_so (asks the_part (codes "errnoRet" ∷ []) true is_there) (under (codes "action") here))))); test = one_of (codes "SCMP_ACT_ERRNO" ∷ codes "SCMP_ACT_TRACE" ∷ []) } ∷
-    record { name = codes "seccomp-errno-range"; level = host; section = codes "seccomp(2)"; platforms = every; place = under (codes "linux") (under (codes "seccomp") (if_so (asks the_part (codes "defaultAction" ∷ []) true (is_text (codes "SCMP_ACT_ERRNO" ∷ []))) (under (codes "defaultErrnoRet") here))); test = within (pos 0) (pos 4095) } ∷
-    record { name = codes "seccomp-errno-range"; level = host; section = codes "seccomp(2)"; platforms = every; place = under (codes "linux") (under (codes "seccomp") (if_so (asks the_part (codes "defaultAction" ∷ []) true (is_text (codes "SCMP_ACT_TRACE" ∷ []))) (under (codes "defaultErrnoRet") here))); test = within (pos 0) (pos 65535) } ∷
-    record { name = codes "seccomp-errno-range"; level = host; section = codes "seccomp(2)"; platforms = every; place = under (codes "linux") (under (codes "seccomp") (under (codes "syscalls") (each_item (if_so (asks the_part (codes "action" ∷ []) true (is_text (codes "SCMP_ACT_ERRNO" ∷ []))) (under (codes "errnoRet") here))))); test = within (pos 0) (pos 4095) } ∷
-    record { name = codes "seccomp-errno-range"; level = host; section = codes "seccomp(2)"; platforms = every; place = under (codes "linux") (under (codes "seccomp") (under (codes "syscalls") (each_item (if_so (asks the_part (codes "action" ∷ []) true (is_text (codes "SCMP_ACT_TRACE" ∷ []))) (under (codes "errnoRet") here))))); test = within (pos 0) (pos 65535) } ∷
+    record { name = codes "seccomp-errno-range"; level = host; section = codes "seccomp_rule_add(3)"; platforms = every; place = under (codes "linux") (under (codes "seccomp") (if_so (asks the_part (codes "defaultAction" ∷ []) true (is_text (codes "SCMP_ACT_ERRNO" ∷ []))) (under (codes "defaultErrnoRet") here))); test = within (pos 0) (pos 4094) } ∷
+    record { name = codes "seccomp-errno-range"; level = host; section = codes "seccomp_rule_add(3)"; platforms = every; place = under (codes "linux") (under (codes "seccomp") (under (codes "syscalls") (each_item (if_so (asks the_part (codes "action" ∷ []) true (is_text (codes "SCMP_ACT_ERRNO" ∷ []))) (under (codes "errnoRet") here))))); test = within (pos 0) (pos 4094) } ∷
     record { name = codes "seccomp-names-some"; level = must; section = codes "runtime config-linux.md#seccomp"; platforms = every; place = under (codes "linux") (under (codes "seccomp") (under (codes "syscalls") (each_item (under (codes "names") here)))); test = not_empty } ∷
     record { name = codes "seccomp-name-some"; level = host; section = codes "common practice"; platforms = every; place = under (codes "linux") (under (codes "seccomp") (under (codes "syscalls") (each_item (under (codes "names") (each_item here))))); test = not_empty } ∷
     record { name = codes "seccomp-metadata-needs-path"; level = must; section = codes "runtime config-linux.md#seccomp"; platforms = every; place = under (codes "linux") (under (codes "seccomp") (if_so (asks the_part (codes "listenerMetadata" ∷ []) true is_there) here)); test = there (codes "listenerPath") } ∷

@@ -2,9 +2,9 @@
 -- Annotations of containers (runtime specification, "Configuration", "Annotations"). The place of a set is the object of the annotations.
 use Rattle.std.specs.Prelude.{List, [], ◌∷◌, ◌++◌, codes, false}
 use Rattle.oci_grammars.specs.declared.grammar.Grammar.TheVariants.{DateTime, ReverseDomain, ExposedPorts, Signal}
-use Rattle.oci_rules.specs.Rules.{Rule, must, should, host, here, under, each_name, if_so, asks, the_part, is_text, text, none_of, reserved, not_empty}
+use Rattle.oci_rules.specs.Rules.{Rule, must, should, host, here, under, each_name, if_so, asks, the_part, is_text, text, one_of, none_of, reserved, not_empty}
 use Rattle.oci_rules.specs.Platforms.{every}
-use Rattle.oci_rule_books.specs.Lists.{opencontainers_keys, label_schema_keys}
+use Rattle.oci_rule_books.specs.Lists.{goos, goarch, opencontainers_keys, label_schema_keys}
 
 -- the rules of features annotations
 abbrev pub features_annotations_rules : List Rule
@@ -21,6 +21,8 @@ runtime_annotations_rules =
     (record { name = codes "annotation-key-reserved-runtime"; level = must; section = codes "runtime config.md#annotations"; platforms = every; place = each_name here; test = reserved (codes "org.opencontainers.") opencontainers_keys } ∷
     record { name = codes "annotation-as-image"; level = must; section = codes "runtime config.md#annotations"; platforms = every; place = under (codes "org.opencontainers.image.created") (if_so (asks the_part [] false (is_text (codes "" ∷ []))) here); test = text DateTime } ∷
     record { name = codes "annotation-stop-signal"; level = must; section = codes "runtime config.md#annotations"; platforms = every; place = under (codes "org.opencontainers.image.stopSignal") (if_so (asks the_part [] false (is_text (codes "" ∷ []))) here); test = text Signal } ∷
+    record { name = codes "annotation-platform-known"; level = should; section = codes "runtime config.md#annotations"; platforms = every; place = under (codes "org.opencontainers.image.os") (if_so (asks the_part [] false (is_text (codes "" ∷ []))) here); test = one_of goos } ∷
+    record { name = codes "annotation-platform-known"; level = should; section = codes "runtime config.md#annotations"; platforms = every; place = under (codes "org.opencontainers.image.architecture") (if_so (asks the_part [] false (is_text (codes "" ∷ []))) here); test = one_of goarch } ∷
     record { name = codes "annotation-exposed-ports"; level = host; section = codes "image conversion.md#configexposedports"; platforms = every; place = under (codes "org.opencontainers.image.exposedPorts") (if_so (asks the_part [] false (is_text (codes "" ∷ []))) here); test = text ExposedPorts } ∷
     record { name = codes "annotation-label-schema"; level = host; section = codes "image annotations.md#back-compatibility-with-label-schema"; platforms = every; place = each_name here; test = none_of label_schema_keys } ∷
     [])

@@ -52,7 +52,7 @@ spec_mounts_rules =
     record { name = codes "mount-idmap-possible"; level = must; section = codes "runtime config.md#linux-mount-options"; platforms = every; place = if_so (asks the_document (codes "linux" ∷ codes "namespaces" ∷ []) false (has_item (codes "type") (codes "user" ∷ []) [] [])) (under (codes "mounts") (each_item (if_so (asks the_part (codes "options" ∷ []) true (has_text (codes "idmap" ∷ codes "ridmap" ∷ []))) here))); test = either (codes "uidMappings" ∷ codes "gidMappings" ∷ []) } ∷
     record { name = codes "mount-tmpcopyup"; level = stated; section = codes "runtime config.md#linux-mount-options"; platforms = every; place = under (codes "mounts") (each_item (if_so (asks the_part (codes "options" ∷ []) true (has_text (codes "tmpcopyup" ∷ []))) here)); test = there (codes "type") } ∷
     record { name = codes "mount-tmpcopyup"; level = stated; section = codes "runtime config.md#linux-mount-options"; platforms = every; place = under (codes "mounts") (each_item (if_so (asks the_part (codes "options" ∷ []) true (has_text (codes "tmpcopyup" ∷ []))) (under (codes "type") here))); test = one_of (codes "tmpfs" ∷ []) } ∷
-    record { name = codes "mount-type-there"; level = host; section = codes "mount(2)"; platforms = linux ∷ []; place = under (codes "mounts") (each_item (if_so (asks the_part (codes "options" ∷ []) false (has_text (codes "bind" ∷ codes "rbind" ∷ []))) here)); test = there (codes "type") } ∷
+    record { name = codes "mount-type-there"; level = host; section = codes "mount(2)"; platforms = linux ∷ []; place = under (codes "mounts") (each_item (if_so (asks the_part (codes "options" ∷ []) false (has_text (codes "bind" ∷ codes "rbind" ∷ codes "remount" ∷ []))) here)); test = there (codes "type") } ∷
     record { name = codes "mount-texts-no-nul"; level = host; section = codes "common practice"; platforms = every; place = under (codes "mounts") (each_item (under (codes "destination") here)); test = text NoNul } ∷
     record { name = codes "mount-texts-no-nul"; level = host; section = codes "common practice"; platforms = every; place = under (codes "mounts") (each_item (under (codes "source") here)); test = text NoNul } ∷
     record { name = codes "mount-texts-no-nul"; level = host; section = codes "common practice"; platforms = every; place = under (codes "mounts") (each_item (under (codes "type") here)); test = text NoNul } ∷

@@ -80,10 +80,10 @@ static RULES_6: [Rule<'static>; 3] = [
 ];
 
 static RULES_7: [Rule<'static>; 3] = [
-    rule! { "mapping-needs-user", Host, "runtime config-linux.md#user-namespace-mappings", "no mappings without a user namespace", Platforms::Every,
+    rule! { "mapping-needs-user", Host, "runtime config-linux.md#user-namespace-mappings", "no mappings without a user namespace, where they have no effect", Platforms::Every,
         [Step::When(Condition { origin: Origin::Document, way: &["linux", "namespaces"], holds: false, check: Predicate::ListsItem("type", &["user"], &[], &[]) }), Step::Member("linux")],
         Test::Absent("uidMappings") },
-    rule! { "mapping-needs-user", Host, "runtime config-linux.md#user-namespace-mappings", "no mappings without a user namespace", Platforms::Every,
+    rule! { "mapping-needs-user", Host, "runtime config-linux.md#user-namespace-mappings", "no mappings without a user namespace, where they have no effect", Platforms::Every,
         [Step::When(Condition { origin: Origin::Document, way: &["linux", "namespaces"], holds: false, check: Predicate::ListsItem("type", &["user"], &[], &[]) }), Step::Member("linux")],
         Test::Absent("gidMappings") },
     rule! { "user-namespace-mapped", Host, "runtime config-linux.md#user-namespace-mappings", "mappings, where a new user namespace is asked for", Platforms::Every,

@@ -15,72 +15,63 @@ static RULES_1: [Rule<'static>; 3] = [
     rule! { "seccomp-errno", Must, "runtime config-linux.md#seccomp", "SCMP_ACT_ERRNO or SCMP_ACT_TRACE, where an error number stands", Platforms::Every,
         [Step::Member("linux"), Step::Member("seccomp"), Step::Member("syscalls"), Step::EachItem, Step::When(Condition { origin: Origin::Part, way: &["errnoRet"], holds: true, check: Predicate::There }), Step::Member("action")],
         Test::OneOf(&["SCMP_ACT_ERRNO", "SCMP_ACT_TRACE"]) },
-    rule! { "seccomp-errno-range", Host, "seccomp(2)", "an integer from 0 to 4095, of SCMP_ACT_TRACE to 65535", Platforms::Every,
+    rule! { "seccomp-errno-range", Host, "seccomp_rule_add(3)", "an error number below 4095", Platforms::Every,
         [Step::Member("linux"), Step::Member("seccomp"), Step::When(Condition { origin: Origin::Part, way: &["defaultAction"], holds: true, check: Predicate::OneOf(&["SCMP_ACT_ERRNO"]) }), Step::Member("defaultErrnoRet")],
-        Test::Within(0, 4095) },
+        Test::Within(0, 4094) },
 ];
 
 static RULES_2: [Rule<'static>; 3] = [
-    rule! { "seccomp-errno-range", Host, "seccomp(2)", "an integer from 0 to 4095, of SCMP_ACT_TRACE to 65535", Platforms::Every,
-        [Step::Member("linux"), Step::Member("seccomp"), Step::When(Condition { origin: Origin::Part, way: &["defaultAction"], holds: true, check: Predicate::OneOf(&["SCMP_ACT_TRACE"]) }), Step::Member("defaultErrnoRet")],
-        Test::Within(0, 65535) },
-    rule! { "seccomp-errno-range", Host, "seccomp(2)", "an integer from 0 to 4095, of SCMP_ACT_TRACE to 65535", Platforms::Every,
+    rule! { "seccomp-errno-range", Host, "seccomp_rule_add(3)", "an error number below 4095", Platforms::Every,
         [Step::Member("linux"), Step::Member("seccomp"), Step::Member("syscalls"), Step::EachItem, Step::When(Condition { origin: Origin::Part, way: &["action"], holds: true, check: Predicate::OneOf(&["SCMP_ACT_ERRNO"]) }), Step::Member("errnoRet")],
-        Test::Within(0, 4095) },
-    rule! { "seccomp-errno-range", Host, "seccomp(2)", "an integer from 0 to 4095, of SCMP_ACT_TRACE to 65535", Platforms::Every,
-        [Step::Member("linux"), Step::Member("seccomp"), Step::Member("syscalls"), Step::EachItem, Step::When(Condition { origin: Origin::Part, way: &["action"], holds: true, check: Predicate::OneOf(&["SCMP_ACT_TRACE"]) }), Step::Member("errnoRet")],
-        Test::Within(0, 65535) },
-];
-
-static RULES_3: [Rule<'static>; 3] = [
+        Test::Within(0, 4094) },
     rule! { "seccomp-names-some", Must, "runtime config-linux.md#seccomp", "at least one name", Platforms::Every,
         [Step::Member("linux"), Step::Member("seccomp"), Step::Member("syscalls"), Step::EachItem, Step::Member("names")],
         Test::NotEmpty },
     rule! { "seccomp-name-some", Host, "common practice", "a name that is not empty", Platforms::Every,
         [Step::Member("linux"), Step::Member("seccomp"), Step::Member("syscalls"), Step::EachItem, Step::Member("names"), Step::EachItem],
         Test::NotEmpty },
+];
+
+static RULES_3: [Rule<'static>; 3] = [
     rule! { "seccomp-metadata-needs-path", Must, "runtime config-linux.md#seccomp", "the path of a listener, where metadata stands", Platforms::Every,
         [Step::Member("linux"), Step::Member("seccomp"), Step::When(Condition { origin: Origin::Part, way: &["listenerMetadata"], holds: true, check: Predicate::There })],
         Test::There("listenerPath") },
-];
-
-static RULES_4: [Rule<'static>; 3] = [
     rule! { "seccomp-notify-needs-path", Host, "runtime config-linux.md#seccomp", "the path of a listener, where SCMP_ACT_NOTIFY stands", Platforms::Every,
         [Step::Member("linux"), Step::Member("seccomp"), Step::When(Condition { origin: Origin::Part, way: &["syscalls"], holds: true, check: Predicate::ListsItem("action", &["SCMP_ACT_NOTIFY"], &[], &[]) })],
         Test::There("listenerPath") },
     rule! { "seccomp-notify-needs-path", Host, "runtime config-linux.md#seccomp", "the path of a listener, where SCMP_ACT_NOTIFY stands", Platforms::Every,
         [Step::Member("linux"), Step::Member("seccomp"), Step::When(Condition { origin: Origin::Part, way: &["defaultAction"], holds: true, check: Predicate::OneOf(&["SCMP_ACT_NOTIFY"]) })],
         Test::There("listenerPath") },
+];
+
+static RULES_4: [Rule<'static>; 3] = [
     rule! { "seccomp-listener-absolute", Host, "common practice", "an absolute path", Platforms::Every,
         [Step::Member("linux"), Step::Member("seccomp"), Step::Member("listenerPath")],
         Test::Text(Grammar::AbsolutePath) },
-];
-
-static RULES_5: [Rule<'static>; 3] = [
     rule! { "seccomp-notify-default", Host, "common practice", "another default action than SCMP_ACT_NOTIFY", Platforms::Every,
         [Step::Member("linux"), Step::Member("seccomp"), Step::Member("defaultAction")],
         Test::NoneOf(&["SCMP_ACT_NOTIFY"]) },
     rule! { "seccomp-notify-write", Host, "common practice", "another call than write, for SCMP_ACT_NOTIFY", Platforms::Every,
         [Step::Member("linux"), Step::Member("seccomp"), Step::Member("syscalls"), Step::EachItem, Step::When(Condition { origin: Origin::Part, way: &["action"], holds: true, check: Predicate::OneOf(&["SCMP_ACT_NOTIFY"]) }), Step::Member("names"), Step::EachItem],
         Test::NoneOf(&["write"]) },
+];
+
+static RULES_5: [Rule<'static>; 3] = [
     rule! { "seccomp-kill-useless", Host, "runtime config-linux.md#seccomp", "at least one rule, where the default action kills", Platforms::Every,
         [Step::Member("linux"), Step::Member("seccomp"), Step::When(Condition { origin: Origin::Part, way: &["defaultAction"], holds: true, check: Predicate::OneOf(&["SCMP_ACT_KILL", "SCMP_ACT_KILL_THREAD", "SCMP_ACT_KILL_PROCESS"]) })],
         Test::There("syscalls") },
-];
-
-static RULES_6: [Rule<'static>; 3] = [
     rule! { "seccomp-kill-useless", Host, "runtime config-linux.md#seccomp", "at least one rule, where the default action kills", Platforms::Every,
         [Step::Member("linux"), Step::Member("seccomp"), Step::When(Condition { origin: Origin::Part, way: &["defaultAction"], holds: true, check: Predicate::OneOf(&["SCMP_ACT_KILL", "SCMP_ACT_KILL_THREAD", "SCMP_ACT_KILL_PROCESS"]) }), Step::Member("syscalls")],
         Test::NotEmpty },
     rule! { "seccomp-argument-index", Host, "seccomp(2)", "an integer from 0 to 5", Platforms::Every,
         [Step::Member("linux"), Step::Member("seccomp"), Step::Member("syscalls"), Step::EachItem, Step::Member("args"), Step::EachItem, Step::Member("index")],
         Test::Within(0, 5) },
+];
+
+static RULES_6: [Rule<'static>; 3] = [
     rule! { "seccomp-second-value", Host, "seccomp_rule_add(3)", "SCMP_CMP_MASKED_EQ, where a second value stands", Platforms::Every,
         [Step::Member("linux"), Step::Member("seccomp"), Step::Member("syscalls"), Step::EachItem, Step::Member("args"), Step::EachItem, Step::When(Condition { origin: Origin::Part, way: &["valueTwo"], holds: true, check: Predicate::There }), Step::Member("op")],
         Test::OneOf(&["SCMP_CMP_MASKED_EQ"]) },
-];
-
-static RULES_7: [Rule<'static>; 2] = [
     rule! { "seccomp-architecture-once", Host, "common practice", "each once", Platforms::Every,
         [Step::Member("linux"), Step::Member("seccomp"), Step::Member("architectures")],
         Test::Distinct(Key::Itself) },
@@ -90,10 +81,8 @@ static RULES_7: [Rule<'static>; 2] = [
 ];
 
 /// Returns the book of linux seccomp, a few rules in each slice.
-pub fn linux_seccomp_rules() -> [&'static [Rule<'static>]; 7]
+pub fn linux_seccomp_rules() -> [&'static [Rule<'static>]; 6]
     ensures { flat_map (λ b. map rule_of b.now) result ≡ defined.linux_seccomp_rules }
 {
-    [
-        &RULES_1, &RULES_2, &RULES_3, &RULES_4, &RULES_5, &RULES_6, &RULES_7,
-    ]
+    [&RULES_1, &RULES_2, &RULES_3, &RULES_4, &RULES_5, &RULES_6]
 }

@@ -5,7 +5,7 @@ ghost use Rattle.std.specs.List.{flat_map};
 ghost use Rattle.oci_rules.specs.Tables.{rule_of};
 ghost use Rattle.oci_rule_books.specs.State as defined;
 
-use crate::lists::{LABEL_SCHEMA_KEYS, OPENCONTAINERS_KEYS, POSIX};
+use crate::lists::{GOARCH, GOOS, LABEL_SCHEMA_KEYS, OPENCONTAINERS_KEYS, POSIX};
 use oci_grammars::Grammar;
 use oci_rules::{
     Condition, Key, Level, Origin, Platforms, Predicate, Rule, RuntimePlatform, Step, Test,
@@ -102,12 +102,18 @@ static RULES_8: [Rule<'static>; 3] = [
     rule! { "annotation-stop-signal", Must, "runtime config.md#annotations", "a signal's name, as SIGKILL or SIGRTMIN+3, or its number from 1 to 64", Platforms::Every,
         [Step::Member("state"), Step::Member("annotations"), Step::Member("org.opencontainers.image.stopSignal"), Step::When(Condition { origin: Origin::Part, way: &[], holds: false, check: Predicate::OneOf(&[""]) })],
         Test::Text(Grammar::Signal) },
+    rule! { "annotation-platform-known", Should, "runtime config.md#annotations", "a value of Go's GOOS or GOARCH, as in an image configuration", Platforms::Every,
+        [Step::Member("state"), Step::Member("annotations"), Step::Member("org.opencontainers.image.os"), Step::When(Condition { origin: Origin::Part, way: &[], holds: false, check: Predicate::OneOf(&[""]) })],
+        Test::OneOf(GOOS) },
+];
+
+static RULES_9: [Rule<'static>; 3] = [
+    rule! { "annotation-platform-known", Should, "runtime config.md#annotations", "a value of Go's GOOS or GOARCH, as in an image configuration", Platforms::Every,
+        [Step::Member("state"), Step::Member("annotations"), Step::Member("org.opencontainers.image.architecture"), Step::When(Condition { origin: Origin::Part, way: &[], holds: false, check: Predicate::OneOf(&[""]) })],
+        Test::OneOf(GOARCH) },
     rule! { "annotation-exposed-ports", Host, "image conversion.md#configexposedports", "ports and ranges of ports with commas between them, as 80/tcp,53/udp", Platforms::Every,
         [Step::Member("state"), Step::Member("annotations"), Step::Member("org.opencontainers.image.exposedPorts"), Step::When(Condition { origin: Origin::Part, way: &[], holds: false, check: Predicate::OneOf(&[""]) })],
         Test::Text(Grammar::ExposedPorts) },
-];
-
-static RULES_9: [Rule<'static>; 1] = [
     rule! { "annotation-label-schema", Host, "image annotations.md#back-compatibility-with-label-schema", "the key below org.opencontainers.image that superseded this one", Platforms::Every,
         [Step::Member("state"), Step::Member("annotations"), Step::EachName],
         Test::NoneOf(LABEL_SCHEMA_KEYS) },

@@ -53,8 +53,8 @@ static RULES_4: [Rule<'static>; 3] = [
     rule! { "mount-tmpcopyup", Stated, "runtime config.md#linux-mount-options", "the type tmpfs, where the option tmpcopyup stands", Platforms::Every,
         [Step::Member("mounts"), Step::EachItem, Step::When(Condition { origin: Origin::Part, way: &["options"], holds: true, check: Predicate::Lists(&["tmpcopyup"]) }), Step::Member("type")],
         Test::OneOf(&["tmpfs"]) },
-    rule! { "mount-type-there", Host, "mount(2)", "a type, where no bind mount is asked for", Platforms::These(&[RuntimePlatform::Linux]),
-        [Step::Member("mounts"), Step::EachItem, Step::When(Condition { origin: Origin::Part, way: &["options"], holds: false, check: Predicate::Lists(&["bind", "rbind"]) })],
+    rule! { "mount-type-there", Host, "mount(2)", "a type, where no bind mount and no change of a mount is asked for", Platforms::These(&[RuntimePlatform::Linux]),
+        [Step::Member("mounts"), Step::EachItem, Step::When(Condition { origin: Origin::Part, way: &["options"], holds: false, check: Predicate::Lists(&["bind", "rbind", "remount"]) })],
         Test::There("type") },
 ];
 

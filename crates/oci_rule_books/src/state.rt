@@ -5,7 +5,7 @@ ghost use Rattle.std.specs.List.{flat_map};
 ghost use Rattle.oci_rules.specs.Tables.{rule_of};
 ghost use Rattle.oci_rule_books.specs.State as defined;
 
-use crate::lists::{LABEL_SCHEMA_KEYS, OPENCONTAINERS_KEYS, POSIX};
+use crate::lists::{GOARCH, GOOS, LABEL_SCHEMA_KEYS, OPENCONTAINERS_KEYS, POSIX};
 use oci_grammars::Grammar;
 use oci_rules::{
     Condition, Level, Origin, Platforms, Predicate, Rule, RuntimePlatform, Step, Test,
@@ -75,6 +75,15 @@ static RULES_6: [Rule<'static>; 3] = [
     rule! { "annotation-stop-signal", Must, "runtime config.md#annotations", "a signal's name, as SIGKILL or SIGRTMIN+3, or its number from 1 to 64", Platforms::Every,
         [Step::Member("annotations"), Step::Member("org.opencontainers.image.stopSignal"), Step::When(Condition { origin: Origin::Part, way: &[], holds: false, check: Predicate::OneOf(&[""]) })],
         Test::Text(Grammar::Signal) },
+    rule! { "annotation-platform-known", Should, "runtime config.md#annotations", "a value of Go's GOOS or GOARCH, as in an image configuration", Platforms::Every,
+        [Step::Member("annotations"), Step::Member("org.opencontainers.image.os"), Step::When(Condition { origin: Origin::Part, way: &[], holds: false, check: Predicate::OneOf(&[""]) })],
+        Test::OneOf(GOOS) },
+    rule! { "annotation-platform-known", Should, "runtime config.md#annotations", "a value of Go's GOOS or GOARCH, as in an image configuration", Platforms::Every,
+        [Step::Member("annotations"), Step::Member("org.opencontainers.image.architecture"), Step::When(Condition { origin: Origin::Part, way: &[], holds: false, check: Predicate::OneOf(&[""]) })],
+        Test::OneOf(GOARCH) },
+];
+
+static RULES_7: [Rule<'static>; 2] = [
     rule! { "annotation-exposed-ports", Host, "image conversion.md#configexposedports", "ports and ranges of ports with commas between them, as 80/tcp,53/udp", Platforms::Every,
         [Step::Member("annotations"), Step::Member("org.opencontainers.image.exposedPorts"), Step::When(Condition { origin: Origin::Part, way: &[], holds: false, check: Predicate::OneOf(&[""]) })],
         Test::Text(Grammar::ExposedPorts) },
@@ -84,8 +93,10 @@ static RULES_6: [Rule<'static>; 3] = [
 ];
 
 /// Returns the book of state, a few rules in each slice.
-pub fn state_rules() -> [&'static [Rule<'static>]; 6]
+pub fn state_rules() -> [&'static [Rule<'static>]; 7]
     ensures { flat_map (λ b. map rule_of b.now) result ≡ defined.state_rules }
 {
-    [&RULES_1, &RULES_2, &RULES_3, &RULES_4, &RULES_5, &RULES_6]
+    [
+        &RULES_1, &RULES_2, &RULES_3, &RULES_4, &RULES_5, &RULES_6, &RULES_7,
+    ]
 }

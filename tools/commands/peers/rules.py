@@ -7,8 +7,9 @@
   runtime  runtime-tools' validation cases: each that rules decide breaks its rule; each that is to pass keeps every rule of level must,
            once what its check does not look at was added
   written  documents that umoci, skopeo, buildah, podman, runc and crun write, made anew with many options: none breaks its schema or a
-           rule of level must or stated, by `ciderglen check --rules`. A line says which document does, and which command wrote it;
-           the words in brackets are those of commands before it. What else is found is counted. The configurations of podman and
+           rule of level must or stated, by `ciderglen check --rules`, but where a line `wrong TOOL KIND RULE REASON` of
+           tools/rules/peers.rows says why the tool is wrong. A line says which document does, and which command wrote it; the words
+           in brackets are those of commands before it. What else is found is counted. The configurations of podman and
            buildah are those that they give a runtime, which is a script, so that they are written also where no container can run.
            TOOL-docker is an image in Docker's format. --keep leaves the documents in FOLDER, and `rows` with a row for each: the
            file, the tool with its version, the kind, and the command
@@ -146,9 +147,15 @@ def made():
         return written.documents(os.path.join(room, "written"))
 
 
+def wrong_tools(rows):
+    """Why a tool is wrong: the reason by the tool, the kind and the rule."""
+    split = [row.split(" ", 3) for row in rows["wrong"]]
+    return {tuple(words[:3]): words[3] for words in split}
+
+
 def of_tools(options, rows):
     """What tools write."""
-    count, seen = Count("written"), collections.Counter()
+    count, seen, known = Count("written"), collections.Counter(), wrong_tools(rows)
     if not os.path.exists(options.ciderglen):
         raise SystemExit(f"{options.ciderglen} is not there: `rt run` makes it")
     documents = made()
@@ -161,13 +168,15 @@ def of_tools(options, rows):
             file.writelines(f"{number}.json | {it.row()}\n" for number, it in enumerate(documents))
     for number, (document, findings) in enumerate(zip(documents, answers)):
         count.counted[f"of {document.tool} {document.version}"] += 1
+        tool = "docker" if document.tool.endswith("-docker") else document.tool
         for it in findings:
             level = it.get("requirement", it["level"])
-            seen[(level, document.tool, document.kind, it["rule"])] += 1
-            if it["level"] == "error":
+            reason = known.get((tool, document.kind, it["rule"]), "")
+            seen[(level, document.tool, document.kind, it["rule"], reason)] += 1
+            if it["level"] == "error" and not reason:
                 count.fault(f"{it['rule']} ({level}) at {it['pointer']}: {it['message']} | {number}.json | {document.row()}")
-    for (level, tool, kind, rule), number in sorted(seen.items()):
-        print(f"written: {number} times in {tool}'s {kind}: {rule} ({level})")
+    for (level, tool, kind, rule, reason), number in sorted(seen.items()):
+        print(f"written: {number} times in {tool}'s {kind}: {rule} ({level})" + (f": {reason}" if reason else ""))
     yield count.end()
 
 

@@ -15,7 +15,8 @@ is a sentence of a rule of tools/rules/*.rules, by its place and checksum, or th
                 recommended, not recommended, deprecated (should), may (host); `-` for a sentence without MUST and SHOULD that says what a
                 document has (stated)
   CHECKSUM      the first 16 hexadecimal digits of the sentence's SHA-256
-  REASON        a manual page with its section, what in the kernel or a runtime refuses the document, or `hint:` and why (host)
+  REASON        a manual page with its section, what in the kernel or a runtime refuses the document, or `hint:` and why (host); `should:`
+                and why, of a list that grows (should); that the text is not at hand (any level)
 
 A sentence: what is under a heading is cut at empty lines, list items, rows of tables (lines with ` | ` in them), headings and code blocks,
 which are left out. The lines of a paragraph or item are joined, without the mark in front, and runs of white space are one blank. Then a
