@@ -7,7 +7,8 @@ json`; the last one also with `--kind KIND` of the row, which has to say the sam
 
 It prints what is said of each document, a line a rule: its level, how often it is broken, and where first. Errors and warnings of `check
 --rules` are those of the default level; what else the third run warns of has the level host, or is an unknown member. The last line counts
-the documents with errors and with warnings at the default level. The status is 1 if there is such an error, if another kind was found or
+the documents with errors and with warnings at the default level. The status is 1 if there is such an error without a line `document FILE
+RULE REASON` of tools/rules/peers.rows, which says why the document is wrong, or such a line without its error; if another kind was found or
 none, if the runs disagree, or if ORIGINS.md and the files do. The program is crates/ciderglen/out/ciderglen if none is named: `rt run`
 makes it.
 """
@@ -16,7 +17,7 @@ import json
 import os
 import subprocess
 
-from repository import at, program_of, read
+from repository import at, program_of, read, rows as rows_of
 
 CHECKS = False
 FOLDER = "tests/documents"
@@ -49,6 +50,12 @@ def disagreements(rows):
     yield from (f"{it}: in more than one row" for it in sorted(set(named)) if named.count(it) > 1)
     yield from (f"{it}: no such file" for it in named if it not in files)
     yield from (f"{it}: no row of ORIGINS.md" for it in sorted(files - set(named)))
+
+
+def known():
+    """Why documents are wrong: the reason by the file and the rule."""
+    found = [line.split(" ", 3) for line in rows_of("tools/rules/peers.rows") if line.startswith("document ")]
+    return {(file, rule): reason for _, file, rule, reason in found}
 
 
 def has_errors(found):
@@ -91,10 +98,15 @@ class Answer:
     def of_default(self, level):
         return [it for it in self.found if it["level"] == level and is_of_default(it)]
 
-    def is_wrong(self):
-        return bool(self.of_default("error")) or not self.is_right_kind or not self.agree
+    def errors(self):
+        """The rules of its errors."""
+        return {it["rule"] for it in self.of_default("error")}
 
-    def lines(self):
+    def is_wrong(self, reasons):
+        """Whether it has errors without a reason, or something is wrong with kind and runs."""
+        return any((self.row.file, it) not in reasons for it in self.errors()) or not self.is_right_kind or not self.agree
+
+    def lines(self, reasons):
         """A line for what is wrong with kind and runs, and for each rule at each level, errors first."""
         if not self.is_right_kind:
             yield f"error: the kind is {self.row.kind}, and " + ("another one was found" if self.has_kind else "none was found")
@@ -106,11 +118,12 @@ class Answer:
         for (level, rule, requirement), each in groups.items():
             name = f"{rule} ({requirement})" if requirement else rule
             often = f", {len(each)} times" if len(each) > 1 else ""
-            yield f"{level}: {name}{often}: {each[0]['pointer'] or 'the whole'}: {each[0]['message']}"
+            reason = reasons.get((self.row.file, rule)) if level == "error" else None
+            yield f"{level}: {name}{often}: {each[0]['pointer'] or 'the whole'}: {each[0]['message']}" + (f" ({reason})" if reason else "")
 
 
-def print_answer(answer):
-    lines = list(answer.lines())
+def print_answer(answer, reasons):
+    lines = list(answer.lines(reasons))
     print(f"{answer.row.file} ({answer.row.kind}; {answer.row.producer})" + ("" if lines else ": nothing"))
     for line in lines:
         print(f"  {line}")
@@ -127,8 +140,12 @@ def run(options):
         print("\n".join(wrong))
         return 1
     answers = [Answer(os.path.abspath(options.program), it) for it in rows]
+    reasons = known()
     for answer in answers:
-        print_answer(answer)
+        print_answer(answer, reasons)
+    idle = sorted(set(reasons) - {(it.row.file, rule) for it in answers for rule in it.errors()})
+    for file, rule in idle:
+        print(f"{file}: a reason for {rule}, and no such error")
     errors, warnings = (sum(bool(it.of_default(level)) for it in answers) for level in ("error", "warning"))
     print(f"{len(answers)} documents, {errors} with errors, {warnings} with warnings")
-    return int(any(it.is_wrong() for it in answers))
+    return int(bool(idle) or any(it.is_wrong(reasons) for it in answers))
