@@ -2,9 +2,9 @@
 -- Annotations of images (image specification, "Annotations"). The place of a set is the object of the annotations.
 use Rattle.std.specs.Prelude.{List, [], ◌∷◌, ◌++◌, codes, true, false}
 use Rattle.oci_grammars.specs.declared.grammar.Grammar.TheVariants.{DateTime, Uri, ReverseDomain, RefName, RefNameCharacters, SpdxExpression, Digest, Reference, FullReference}
-use Rattle.oci_rules.specs.Rules.{Rule, must, stated, should, host, here, under, each_name, if_so, asks, the_part, is_there, is_text, text, none_of, reserved, there, absent}
+use Rattle.oci_rules.specs.Rules.{Rule, must, stated, should, host, here, under, each_name, if_so, asks, the_part, is_there, is_text, text, spdx_identifiers, none_of, reserved, there, absent}
 use Rattle.oci_rules.specs.Platforms.{every}
-use Rattle.oci_rule_books.specs.Lists.{opencontainers_keys, label_schema_keys}
+use Rattle.oci_rule_books.specs.Lists.{opencontainers_keys, label_schema_keys, spdx_licenses, spdx_exceptions}
 
 -- the rules of image annotations
 abbrev pub image_annotations_rules : List Rule
@@ -17,6 +17,7 @@ image_annotations_rules =
     record { name = codes "annotation-url"; level = stated; section = codes "image annotations.md#pre-defined-annotation-keys"; platforms = every; place = under (codes "org.opencontainers.image.documentation") (if_so (asks the_part [] false (is_text (codes "" ∷ []))) here); test = text Uri } ∷
     record { name = codes "annotation-url"; level = stated; section = codes "image annotations.md#pre-defined-annotation-keys"; platforms = every; place = under (codes "org.opencontainers.image.source") (if_so (asks the_part [] false (is_text (codes "" ∷ []))) here); test = text Uri } ∷
     record { name = codes "annotation-licenses-spdx"; level = stated; section = codes "image annotations.md#pre-defined-annotation-keys"; platforms = every; place = under (codes "org.opencontainers.image.licenses") (if_so (asks the_part [] false (is_text (codes "" ∷ []))) here); test = text SpdxExpression } ∷
+    record { name = codes "annotation-licenses-listed"; level = should; section = codes "image annotations.md#pre-defined-annotation-keys"; platforms = every; place = under (codes "org.opencontainers.image.licenses") (if_so (asks the_part [] false (is_text (codes "" ∷ []))) here); test = spdx_identifiers spdx_licenses spdx_exceptions } ∷
     record { name = codes "annotation-ref-name"; level = stated; section = codes "image annotations.md#pre-defined-annotation-keys"; platforms = every; place = under (codes "org.opencontainers.image.ref.name") here; test = text RefName } ∷
     record { name = codes "annotation-ref-name-characters"; level = should; section = codes "image annotations.md#pre-defined-annotation-keys"; platforms = every; place = under (codes "org.opencontainers.image.ref.name") here; test = text RefNameCharacters } ∷
     record { name = codes "annotation-base-digest"; level = stated; section = codes "image annotations.md#pre-defined-annotation-keys"; platforms = every; place = under (codes "org.opencontainers.image.base.digest") (if_so (asks the_part [] false (is_text (codes "" ∷ []))) here); test = text Digest } ∷

@@ -2,7 +2,7 @@
 -- Features of a runtime (runtime specification, "Features Structure").
 use Rattle.std.specs.Prelude.{List, [], ◌∷◌, ◌++◌, map, codes, true}
 use Rattle.oci_grammars.specs.declared.grammar.Grammar.TheVariants.{SemVer}
-use Rattle.oci_rules.specs.Rules.{Rule, must, stated, should, host, here, under, each_item, each_name, if_so, asks, the_part, is_text, text, one_of, none_of, distinct, among, itself, beneath}
+use Rattle.oci_rules.specs.Rules.{Rule, must, stated, should, host, here, under, each_item, each_name, if_so, asks, the_part, is_text, text, one_of, none_of, versions_in_order, distinct, among, itself, beneath}
 use Rattle.oci_rules.specs.Platforms.{every}
 use Rattle.oci_rule_books.specs.Lists.{capabilities, hook_kinds, seccomp_operators, seccomp_flags, filesystem_options, release_versions, features_members, linux_features_members, cgroup_features_members, seccomp_features_members}
 use Rattle.oci_rule_books.specs.RuntimeAnnotations.{features_annotations_rules}
@@ -12,6 +12,7 @@ abbrev pub features_rules : List Rule
 features_rules =
     (record { name = codes "features-versions"; level = stated; section = codes "runtime features.md#specification-version"; platforms = every; place = under (codes "ociVersionMin") here; test = text SemVer } ∷
     record { name = codes "features-versions"; level = stated; section = codes "runtime features.md#specification-version"; platforms = every; place = under (codes "ociVersionMax") here; test = text SemVer } ∷
+    record { name = codes "features-version-order"; level = must; section = codes "runtime features.md#specification-version"; platforms = every; place = here; test = versions_in_order (codes "ociVersionMin") (codes "ociVersionMax") } ∷
     record { name = codes "features-no-other-members"; level = must; section = codes "runtime features.md#specification-version"; platforms = every; place = if_so (asks the_part (codes "ociVersionMax" ∷ []) true (is_text release_versions)) (each_name here); test = one_of features_members } ∷
     record { name = codes "features-no-other-members"; level = must; section = codes "runtime features.md#specification-version"; platforms = every; place = if_so (asks the_part (codes "ociVersionMax" ∷ []) true (is_text release_versions)) (under (codes "linux") (each_name here)); test = one_of linux_features_members } ∷
     record { name = codes "features-no-other-members"; level = must; section = codes "runtime features.md#specification-version"; platforms = every; place = if_so (asks the_part (codes "ociVersionMax" ∷ []) true (is_text release_versions)) (under (codes "linux") (under (codes "cgroup") (each_name here))); test = one_of cgroup_features_members } ∷

@@ -20,108 +20,111 @@ static RULES_1: [Rule<'static>; 3] = [
     rule! { "features-versions", Stated, "runtime features.md#specification-version", "a version (SemVer 2.0.0)", Platforms::Every,
         [Step::Member("ociVersionMax")],
         Test::Text(Grammar::SemVer) },
-    rule! { "features-no-other-members", Must, "runtime features.md#specification-version", "a member that the specification of ociVersionMax defines", Platforms::Every,
-        [Step::When(Condition { origin: Origin::Part, way: &["ociVersionMax"], holds: true, check: Predicate::OneOf(RELEASE_VERSIONS) }), Step::EachName],
-        Test::OneOf(FEATURES_MEMBERS) },
+    rule! { "features-version-order", Must, "runtime features.md#specification-version", "a lowest version that is not above the highest one", Platforms::Every,
+        [],
+        Test::VersionsInOrder("ociVersionMin", "ociVersionMax") },
 ];
 
 static RULES_2: [Rule<'static>; 3] = [
+    rule! { "features-no-other-members", Must, "runtime features.md#specification-version", "a member that the specification of ociVersionMax defines", Platforms::Every,
+        [Step::When(Condition { origin: Origin::Part, way: &["ociVersionMax"], holds: true, check: Predicate::OneOf(RELEASE_VERSIONS) }), Step::EachName],
+        Test::OneOf(FEATURES_MEMBERS) },
     rule! { "features-no-other-members", Must, "runtime features.md#specification-version", "a member that the specification of ociVersionMax defines", Platforms::Every,
         [Step::When(Condition { origin: Origin::Part, way: &["ociVersionMax"], holds: true, check: Predicate::OneOf(RELEASE_VERSIONS) }), Step::Member("linux"), Step::EachName],
         Test::OneOf(LINUX_FEATURES_MEMBERS) },
     rule! { "features-no-other-members", Must, "runtime features.md#specification-version", "a member that the specification of ociVersionMax defines", Platforms::Every,
         [Step::When(Condition { origin: Origin::Part, way: &["ociVersionMax"], holds: true, check: Predicate::OneOf(RELEASE_VERSIONS) }), Step::Member("linux"), Step::Member("cgroup"), Step::EachName],
         Test::OneOf(CGROUP_FEATURES_MEMBERS) },
-    rule! { "features-no-other-members", Must, "runtime features.md#specification-version", "a member that the specification of ociVersionMax defines", Platforms::Every,
-        [Step::When(Condition { origin: Origin::Part, way: &["ociVersionMax"], holds: true, check: Predicate::OneOf(RELEASE_VERSIONS) }), Step::Member("linux"), Step::Member("seccomp"), Step::EachName],
-        Test::OneOf(SECCOMP_FEATURES_MEMBERS) },
 ];
 
 static RULES_3: [Rule<'static>; 3] = [
+    rule! { "features-no-other-members", Must, "runtime features.md#specification-version", "a member that the specification of ociVersionMax defines", Platforms::Every,
+        [Step::When(Condition { origin: Origin::Part, way: &["ociVersionMax"], holds: true, check: Predicate::OneOf(RELEASE_VERSIONS) }), Step::Member("linux"), Step::Member("seccomp"), Step::EachName],
+        Test::OneOf(SECCOMP_FEATURES_MEMBERS) },
     rule! { "features-no-other-members", Must, "runtime features.md#specification-version", "a member that the specification of ociVersionMax defines", Platforms::Every,
         [Step::When(Condition { origin: Origin::Part, way: &["ociVersionMax"], holds: true, check: Predicate::OneOf(RELEASE_VERSIONS) }), Step::Member("linux"), Step::Member("apparmor"), Step::EachName],
         Test::OneOf(&["enabled"]) },
     rule! { "features-no-other-members", Must, "runtime features.md#specification-version", "a member that the specification of ociVersionMax defines", Platforms::Every,
         [Step::When(Condition { origin: Origin::Part, way: &["ociVersionMax"], holds: true, check: Predicate::OneOf(RELEASE_VERSIONS) }), Step::Member("linux"), Step::Member("selinux"), Step::EachName],
         Test::OneOf(&["enabled"]) },
-    rule! { "features-no-other-members", Must, "runtime features.md#specification-version", "a member that the specification of ociVersionMax defines", Platforms::Every,
-        [Step::When(Condition { origin: Origin::Part, way: &["ociVersionMax"], holds: true, check: Predicate::OneOf(RELEASE_VERSIONS) }), Step::Member("linux"), Step::Member("intelRdt"), Step::EachName],
-        Test::OneOf(&["enabled"]) },
 ];
 
 static RULES_4: [Rule<'static>; 3] = [
+    rule! { "features-no-other-members", Must, "runtime features.md#specification-version", "a member that the specification of ociVersionMax defines", Platforms::Every,
+        [Step::When(Condition { origin: Origin::Part, way: &["ociVersionMax"], holds: true, check: Predicate::OneOf(RELEASE_VERSIONS) }), Step::Member("linux"), Step::Member("intelRdt"), Step::EachName],
+        Test::OneOf(&["enabled"]) },
     rule! { "features-no-other-members", Must, "runtime features.md#specification-version", "a member that the specification of ociVersionMax defines", Platforms::Every,
         [Step::When(Condition { origin: Origin::Part, way: &["ociVersionMax"], holds: true, check: Predicate::OneOf(RELEASE_VERSIONS) }), Step::Member("linux"), Step::Member("mountExtensions"), Step::EachName],
         Test::OneOf(&["idmap"]) },
     rule! { "features-no-other-members", Must, "runtime features.md#specification-version", "a member that the specification of ociVersionMax defines", Platforms::Every,
         [Step::When(Condition { origin: Origin::Part, way: &["ociVersionMax"], holds: true, check: Predicate::OneOf(RELEASE_VERSIONS) }), Step::Member("linux"), Step::Member("mountExtensions"), Step::Member("idmap"), Step::EachName],
         Test::OneOf(&["enabled"]) },
-    rule! { "features-hooks-known", Host, "runtime features.md#hooks", "a kind of hooks that the specification knows", Platforms::Every,
-        [Step::Member("hooks"), Step::EachItem],
-        Test::OneOf(HOOK_KINDS) },
 ];
 
 static RULES_5: [Rule<'static>; 3] = [
+    rule! { "features-hooks-known", Host, "runtime features.md#hooks", "a kind of hooks that the specification knows", Platforms::Every,
+        [Step::Member("hooks"), Step::EachItem],
+        Test::OneOf(HOOK_KINDS) },
     rule! { "features-capability", Stated, "runtime features-linux.md#capabilities", "the name of a capability, as CAP_CHOWN", Platforms::Every,
         [Step::Member("linux"), Step::Member("capabilities"), Step::EachItem],
         Test::OneOf(CAPABILITIES) },
     rule! { "features-mount-option", Should, "runtime features.md#mount-options", "no option of one file system alone", Platforms::Every,
         [Step::Member("mountOptions"), Step::EachItem],
         Test::NoneOf(FILESYSTEM_OPTIONS) },
-    rule! { "features-flags-known", Stated, "runtime features-linux.md#seccomp", "a flag that is among the known ones", Platforms::Every,
-        [Step::Member("linux"), Step::Member("seccomp")],
-        Test::Among("supportedFlags", "knownFlags") },
 ];
 
 static RULES_6: [Rule<'static>; 3] = [
+    rule! { "features-flags-known", Stated, "runtime features-linux.md#seccomp", "a flag that is among the known ones", Platforms::Every,
+        [Step::Member("linux"), Step::Member("seccomp")],
+        Test::Among("supportedFlags", "knownFlags") },
     rule! { "features-operators-known", Host, "runtime features-linux.md#seccomp", "an operator or flag that the specification knows", Platforms::Every,
         [Step::Member("linux"), Step::Member("seccomp"), Step::Member("operators"), Step::EachItem],
         Test::OneOf(SECCOMP_OPERATORS) },
     rule! { "features-operators-known", Host, "runtime features-linux.md#seccomp", "an operator or flag that the specification knows", Platforms::Every,
         [Step::Member("linux"), Step::Member("seccomp"), Step::Member("knownFlags"), Step::EachItem],
         Test::OneOf(SECCOMP_FLAGS) },
-    rule! { "features-operators-known", Host, "runtime features-linux.md#seccomp", "an operator or flag that the specification knows", Platforms::Every,
-        [Step::Member("linux"), Step::Member("seccomp"), Step::Member("supportedFlags"), Step::EachItem],
-        Test::OneOf(SECCOMP_FLAGS) },
 ];
 
 static RULES_7: [Rule<'static>; 3] = [
+    rule! { "features-operators-known", Host, "runtime features-linux.md#seccomp", "an operator or flag that the specification knows", Platforms::Every,
+        [Step::Member("linux"), Step::Member("seccomp"), Step::Member("supportedFlags"), Step::EachItem],
+        Test::OneOf(SECCOMP_FLAGS) },
     rule! { "features-once", Host, "common practice", "each name once", Platforms::Every,
         [Step::Member("hooks")],
         Test::Distinct(Key::Itself) },
     rule! { "features-once", Host, "common practice", "each name once", Platforms::Every,
         [Step::Member("mountOptions")],
         Test::Distinct(Key::Itself) },
-    rule! { "features-once", Host, "common practice", "each name once", Platforms::Every,
-        [Step::Member("linux"), Step::Member("namespaces")],
-        Test::Distinct(Key::Itself) },
 ];
 
 static RULES_8: [Rule<'static>; 3] = [
+    rule! { "features-once", Host, "common practice", "each name once", Platforms::Every,
+        [Step::Member("linux"), Step::Member("namespaces")],
+        Test::Distinct(Key::Itself) },
     rule! { "features-once", Host, "common practice", "each name once", Platforms::Every,
         [Step::Member("linux"), Step::Member("capabilities")],
         Test::Distinct(Key::Itself) },
     rule! { "features-once", Host, "common practice", "each name once", Platforms::Every,
         [Step::Member("linux"), Step::Member("seccomp"), Step::Member("actions")],
         Test::Distinct(Key::Itself) },
-    rule! { "features-once", Host, "common practice", "each name once", Platforms::Every,
-        [Step::Member("linux"), Step::Member("seccomp"), Step::Member("operators")],
-        Test::Distinct(Key::Itself) },
 ];
 
 static RULES_9: [Rule<'static>; 3] = [
+    rule! { "features-once", Host, "common practice", "each name once", Platforms::Every,
+        [Step::Member("linux"), Step::Member("seccomp"), Step::Member("operators")],
+        Test::Distinct(Key::Itself) },
     rule! { "features-once", Host, "common practice", "each name once", Platforms::Every,
         [Step::Member("linux"), Step::Member("seccomp"), Step::Member("archs")],
         Test::Distinct(Key::Itself) },
     rule! { "features-once", Host, "common practice", "each name once", Platforms::Every,
         [Step::Member("linux"), Step::Member("seccomp"), Step::Member("knownFlags")],
         Test::Distinct(Key::Itself) },
+];
+
+static RULES_10: [Rule<'static>; 3] = [
     rule! { "features-once", Host, "common practice", "each name once", Platforms::Every,
         [Step::Member("linux"), Step::Member("seccomp"), Step::Member("supportedFlags")],
         Test::Distinct(Key::Itself) },
-];
-
-static RULES_10: [Rule<'static>; 2] = [
     rule! { "annotation-key-not-empty", Must, "runtime config.md#annotations", "a key that is not empty", Platforms::Every,
         [Step::Member("annotations"), Step::EachName],
         Test::NotEmpty },

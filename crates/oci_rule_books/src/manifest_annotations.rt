@@ -5,7 +5,7 @@ ghost use Rattle.std.specs.List.{flat_map};
 ghost use Rattle.oci_rules.specs.Tables.{rule_of};
 ghost use Rattle.oci_rule_books.specs.Manifest as defined;
 
-use crate::lists::{LABEL_SCHEMA_KEYS, OPENCONTAINERS_KEYS};
+use crate::lists::{LABEL_SCHEMA_KEYS, OPENCONTAINERS_KEYS, SPDX_EXCEPTIONS, SPDX_LICENSES};
 use oci_grammars::Grammar;
 use oci_rules::{Condition, Level, Origin, Platforms, Predicate, Rule, Step, Test};
 
@@ -40,36 +40,39 @@ static RULES_3: [Rule<'static>; 3] = [
     rule! { "annotation-licenses-spdx", Stated, "image annotations.md#pre-defined-annotation-keys", "an SPDX license expression", Platforms::Every,
         [Step::Member("annotations"), Step::Member("org.opencontainers.image.licenses"), Step::When(Condition { origin: Origin::Part, way: &[], holds: false, check: Predicate::OneOf(&[""]) })],
         Test::Text(Grammar::SpdxExpression) },
-    rule! { "annotation-ref-name", Stated, "image annotations.md#pre-defined-annotation-keys", "a name of the grammar for references", Platforms::Every,
-        [Step::Member("annotations"), Step::Member("org.opencontainers.image.ref.name")],
-        Test::Text(Grammar::RefName) },
+    rule! { "annotation-licenses-listed", Should, "image annotations.md#pre-defined-annotation-keys", "identifiers of SPDX's lists 3.19, or those that begin with LicenseRef-", Platforms::Every,
+        [Step::Member("annotations"), Step::Member("org.opencontainers.image.licenses"), Step::When(Condition { origin: Origin::Part, way: &[], holds: false, check: Predicate::OneOf(&[""]) })],
+        Test::SpdxIdentifiers(SPDX_LICENSES, SPDX_EXCEPTIONS) },
 ];
 
 static RULES_4: [Rule<'static>; 3] = [
+    rule! { "annotation-ref-name", Stated, "image annotations.md#pre-defined-annotation-keys", "a name of the grammar for references", Platforms::Every,
+        [Step::Member("annotations"), Step::Member("org.opencontainers.image.ref.name")],
+        Test::Text(Grammar::RefName) },
     rule! { "annotation-ref-name-characters", Should, "image annotations.md#pre-defined-annotation-keys", "letters, digits and - . _ : @ / + alone", Platforms::Every,
         [Step::Member("annotations"), Step::Member("org.opencontainers.image.ref.name")],
         Test::Text(Grammar::RefNameCharacters) },
     rule! { "annotation-base-digest", Stated, "image annotations.md#pre-defined-annotation-keys", "a digest", Platforms::Every,
         [Step::Member("annotations"), Step::Member("org.opencontainers.image.base.digest"), Step::When(Condition { origin: Origin::Part, way: &[], holds: false, check: Predicate::OneOf(&[""]) })],
         Test::Text(Grammar::Digest) },
-    rule! { "annotation-base-name", Should, "image annotations.md#pre-defined-annotation-keys", "an image reference", Platforms::Every,
-        [Step::Member("annotations"), Step::Member("org.opencontainers.image.base.name"), Step::When(Condition { origin: Origin::Part, way: &[], holds: false, check: Predicate::OneOf(&[""]) })],
-        Test::Text(Grammar::Reference) },
 ];
 
 static RULES_5: [Rule<'static>; 3] = [
+    rule! { "annotation-base-name", Should, "image annotations.md#pre-defined-annotation-keys", "an image reference", Platforms::Every,
+        [Step::Member("annotations"), Step::Member("org.opencontainers.image.base.name"), Step::When(Condition { origin: Origin::Part, way: &[], holds: false, check: Predicate::OneOf(&[""]) })],
+        Test::Text(Grammar::Reference) },
     rule! { "annotation-base-name-full", Should, "image annotations.md#pre-defined-annotation-keys", "an image reference that names its registry", Platforms::Every,
         [Step::Member("annotations"), Step::Member("org.opencontainers.image.base.name"), Step::When(Condition { origin: Origin::Part, way: &[], holds: false, check: Predicate::OneOf(&[""]) })],
         Test::Text(Grammar::FullReference) },
     rule! { "annotation-base-both", Should, "image annotations.md#pre-defined-annotation-keys", "the digest of the base image, where its name stands", Platforms::Every,
         [Step::Member("annotations"), Step::When(Condition { origin: Origin::Part, way: &["org.opencontainers.image.base.name"], holds: true, check: Predicate::There })],
         Test::There("org.opencontainers.image.base.digest") },
+];
+
+static RULES_6: [Rule<'static>; 2] = [
     rule! { "annotation-label-schema", Host, "image annotations.md#back-compatibility-with-label-schema", "the key below org.opencontainers.image that superseded this one", Platforms::Every,
         [Step::Member("annotations"), Step::EachName],
         Test::NoneOf(LABEL_SCHEMA_KEYS) },
-];
-
-static RULES_6: [Rule<'static>; 1] = [
     rule! { "annotation-ref-name-place", Should, "image annotations.md#pre-defined-annotation-keys", "no such annotation but on descriptors of an index", Platforms::Every,
         [Step::Member("annotations")],
         Test::Absent("org.opencontainers.image.ref.name") },
