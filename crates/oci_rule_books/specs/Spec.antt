@@ -2,7 +2,7 @@
 -- The configuration of a container: document, root, mounts, hooks (runtime specification, "Configuration").
 use Rattle.std.specs.Prelude.{List, [], ◌∷◌, ◌++◌, map, codes, pos, true, false}
 use Rattle.oci_grammars.specs.declared.grammar.Grammar.TheVariants.{AbsolutePath, WindowsPath, VolumeGuidPath, LocalDirectory, EnvironmentEntry, SemVer, RootfsPath, NoNul}
-use Rattle.oci_rules.specs.Rules.{Rule, linux, windows, solaris, vm, zos, freebsd, must, stated, should, host, here, under, each_item, if_so, asks, the_part, the_document, is_there, has_text, has_item, text, one_of, none_of, begins, within, truth, there, absent, either, not_empty, length_at_most, lists, lists_item, beneath}
+use Rattle.oci_rules.specs.Rules.{Rule, linux, windows, solaris, vm, zos, freebsd, must, stated, should, host, here, under, each_item, if_so, asks, the_part, the_document, is_there, has_text, has_item, text, one_of, none_of, begins, within, truth, there, absent, either, not_empty, length_at_most, lists, lists_item, apart, beneath}
 use Rattle.oci_rules.specs.Platforms.{every}
 use Rattle.oci_rule_books.specs.Lists.{posix}
 use Rattle.oci_rule_books.specs.RuntimeAnnotations.{runtime_annotations_rules}
@@ -44,6 +44,7 @@ spec_mounts_rules =
     record { name = codes "mount-destination-absolute"; level = should; section = codes "runtime config.md#mounts"; platforms = linux ∷ []; place = under (codes "mounts") (each_item (under (codes "destination") here)); test = text AbsolutePath } ∷
     record { name = codes "mount-destination-absolute-other"; level = must; section = codes "runtime config.md#mounts"; platforms = solaris ∷ zos ∷ vm ∷ freebsd ∷ []; place = under (codes "mounts") (each_item (under (codes "destination") here)); test = text AbsolutePath } ∷
     record { name = codes "mount-destination-absolute-other"; level = must; section = codes "runtime config.md#mounts"; platforms = windows ∷ []; place = under (codes "mounts") (each_item (under (codes "destination") here)); test = text WindowsPath } ∷
+    record { name = codes "mount-not-nested-windows"; level = must; section = codes "runtime config.md#mounts"; platforms = windows ∷ []; place = under (codes "mounts") here; test = apart (codes "destination") } ∷
     record { name = codes "mount-source-windows"; level = stated; section = codes "runtime config.md#mounts"; platforms = windows ∷ []; place = under (codes "mounts") (each_item (under (codes "source") here)); test = text LocalDirectory } ∷
     record { name = codes "mount-mappings-both"; level = must; section = codes "runtime config.md#posix-platform-mounts"; platforms = every; place = under (codes "mounts") (each_item (if_so (asks the_part (codes "uidMappings" ∷ []) true is_there) here)); test = there (codes "gidMappings") } ∷
     record { name = codes "mount-mappings-both"; level = must; section = codes "runtime config.md#posix-platform-mounts"; platforms = every; place = under (codes "mounts") (each_item (if_so (asks the_part (codes "gidMappings" ∷ []) true is_there) here)); test = there (codes "uidMappings") } ∷

@@ -23,90 +23,93 @@ static RULES_1: [Rule<'static>; 3] = [
 ];
 
 static RULES_2: [Rule<'static>; 3] = [
+    rule! { "mount-not-nested-windows", Must, "runtime config.md#mounts", "no destination inside another one", Platforms::These(&[RuntimePlatform::Windows]),
+        [Step::Member("mounts")],
+        Test::Apart("destination") },
     rule! { "mount-source-windows", Stated, "runtime config.md#mounts", "a local directory", Platforms::These(&[RuntimePlatform::Windows]),
         [Step::Member("mounts"), Step::EachItem, Step::Member("source")],
         Test::Text(Grammar::LocalDirectory) },
     rule! { "mount-mappings-both", Must, "runtime config.md#posix-platform-mounts", "mappings of users and of groups, or none", Platforms::Every,
         [Step::Member("mounts"), Step::EachItem, Step::When(Condition { origin: Origin::Part, way: &["uidMappings"], holds: true, check: Predicate::There })],
         Test::There("gidMappings") },
-    rule! { "mount-mappings-both", Must, "runtime config.md#posix-platform-mounts", "mappings of users and of groups, or none", Platforms::Every,
-        [Step::Member("mounts"), Step::EachItem, Step::When(Condition { origin: Origin::Part, way: &["gidMappings"], holds: true, check: Predicate::There })],
-        Test::There("uidMappings") },
 ];
 
 static RULES_3: [Rule<'static>; 3] = [
+    rule! { "mount-mappings-both", Must, "runtime config.md#posix-platform-mounts", "mappings of users and of groups, or none", Platforms::Every,
+        [Step::Member("mounts"), Step::EachItem, Step::When(Condition { origin: Origin::Part, way: &["gidMappings"], holds: true, check: Predicate::There })],
+        Test::There("uidMappings") },
     rule! { "mount-mappings-option", Should, "runtime config.md#posix-platform-mounts", "the option idmap or ridmap, where mappings stand", Platforms::Every,
         [Step::Member("mounts"), Step::EachItem, Step::When(Condition { origin: Origin::Part, way: &["uidMappings"], holds: true, check: Predicate::There })],
         Test::There("options") },
     rule! { "mount-mappings-option", Should, "runtime config.md#posix-platform-mounts", "the option idmap or ridmap, where mappings stand", Platforms::Every,
         [Step::Member("mounts"), Step::EachItem, Step::When(Condition { origin: Origin::Part, way: &["uidMappings"], holds: true, check: Predicate::There }), Step::Member("options")],
         Test::Lists(&["idmap", "ridmap"]) },
-    rule! { "mount-idmap-possible", Must, "runtime config.md#linux-mount-options", "mappings, where the option idmap or ridmap stands and no user namespace", Platforms::Every,
-        [Step::When(Condition { origin: Origin::Document, way: &["linux", "namespaces"], holds: false, check: Predicate::ListsItem("type", &["user"], &[], &[]) }), Step::Member("mounts"), Step::EachItem, Step::When(Condition { origin: Origin::Part, way: &["options"], holds: true, check: Predicate::Lists(&["idmap", "ridmap"]) })],
-        Test::Either(&["uidMappings", "gidMappings"]) },
 ];
 
 static RULES_4: [Rule<'static>; 3] = [
+    rule! { "mount-idmap-possible", Must, "runtime config.md#linux-mount-options", "mappings, where the option idmap or ridmap stands and no user namespace", Platforms::Every,
+        [Step::When(Condition { origin: Origin::Document, way: &["linux", "namespaces"], holds: false, check: Predicate::ListsItem("type", &["user"], &[], &[]) }), Step::Member("mounts"), Step::EachItem, Step::When(Condition { origin: Origin::Part, way: &["options"], holds: true, check: Predicate::Lists(&["idmap", "ridmap"]) })],
+        Test::Either(&["uidMappings", "gidMappings"]) },
     rule! { "mount-tmpcopyup", Stated, "runtime config.md#linux-mount-options", "the type tmpfs, where the option tmpcopyup stands", Platforms::Every,
         [Step::Member("mounts"), Step::EachItem, Step::When(Condition { origin: Origin::Part, way: &["options"], holds: true, check: Predicate::Lists(&["tmpcopyup"]) })],
         Test::There("type") },
     rule! { "mount-tmpcopyup", Stated, "runtime config.md#linux-mount-options", "the type tmpfs, where the option tmpcopyup stands", Platforms::Every,
         [Step::Member("mounts"), Step::EachItem, Step::When(Condition { origin: Origin::Part, way: &["options"], holds: true, check: Predicate::Lists(&["tmpcopyup"]) }), Step::Member("type")],
         Test::OneOf(&["tmpfs"]) },
-    rule! { "mount-type-there", Host, "mount(2)", "a type, where no bind mount and no change of a mount is asked for", Platforms::These(&[RuntimePlatform::Linux]),
-        [Step::Member("mounts"), Step::EachItem, Step::When(Condition { origin: Origin::Part, way: &["options"], holds: false, check: Predicate::Lists(&["bind", "rbind", "remount"]) })],
-        Test::There("type") },
 ];
 
 static RULES_5: [Rule<'static>; 3] = [
+    rule! { "mount-type-there", Host, "mount(2)", "a type, where no bind mount and no change of a mount is asked for", Platforms::These(&[RuntimePlatform::Linux]),
+        [Step::Member("mounts"), Step::EachItem, Step::When(Condition { origin: Origin::Part, way: &["options"], holds: false, check: Predicate::Lists(&["bind", "rbind", "remount"]) })],
+        Test::There("type") },
     rule! { "mount-texts-no-nul", Host, "common practice", "a string without NUL", Platforms::Every,
         [Step::Member("mounts"), Step::EachItem, Step::Member("destination")],
         Test::Text(Grammar::NoNul) },
     rule! { "mount-texts-no-nul", Host, "common practice", "a string without NUL", Platforms::Every,
         [Step::Member("mounts"), Step::EachItem, Step::Member("source")],
         Test::Text(Grammar::NoNul) },
-    rule! { "mount-texts-no-nul", Host, "common practice", "a string without NUL", Platforms::Every,
-        [Step::Member("mounts"), Step::EachItem, Step::Member("type")],
-        Test::Text(Grammar::NoNul) },
 ];
 
 static RULES_6: [Rule<'static>; 3] = [
+    rule! { "mount-texts-no-nul", Host, "common practice", "a string without NUL", Platforms::Every,
+        [Step::Member("mounts"), Step::EachItem, Step::Member("type")],
+        Test::Text(Grammar::NoNul) },
     rule! { "mount-options-agree", Host, "mount(8)", "no option that takes another one back", Platforms::Every,
         [Step::Member("mounts"), Step::EachItem, Step::Member("options"), Step::When(Condition { origin: Origin::Part, way: &[], holds: true, check: Predicate::Lists(&["ro"]) }), Step::EachItem],
         Test::NoneOf(&["rw"]) },
     rule! { "mount-options-agree", Host, "mount(8)", "no option that takes another one back", Platforms::Every,
         [Step::Member("mounts"), Step::EachItem, Step::Member("options"), Step::When(Condition { origin: Origin::Part, way: &[], holds: true, check: Predicate::Lists(&["suid"]) }), Step::EachItem],
         Test::NoneOf(&["nosuid"]) },
-    rule! { "mount-options-agree", Host, "mount(8)", "no option that takes another one back", Platforms::Every,
-        [Step::Member("mounts"), Step::EachItem, Step::Member("options"), Step::When(Condition { origin: Origin::Part, way: &[], holds: true, check: Predicate::Lists(&["dev"]) }), Step::EachItem],
-        Test::NoneOf(&["nodev"]) },
 ];
 
 static RULES_7: [Rule<'static>; 3] = [
+    rule! { "mount-options-agree", Host, "mount(8)", "no option that takes another one back", Platforms::Every,
+        [Step::Member("mounts"), Step::EachItem, Step::Member("options"), Step::When(Condition { origin: Origin::Part, way: &[], holds: true, check: Predicate::Lists(&["dev"]) }), Step::EachItem],
+        Test::NoneOf(&["nodev"]) },
     rule! { "mount-options-agree", Host, "mount(8)", "no option that takes another one back", Platforms::Every,
         [Step::Member("mounts"), Step::EachItem, Step::Member("options"), Step::When(Condition { origin: Origin::Part, way: &[], holds: true, check: Predicate::Lists(&["exec"]) }), Step::EachItem],
         Test::NoneOf(&["noexec"]) },
     rule! { "mount-options-agree", Host, "mount(8)", "no option that takes another one back", Platforms::Every,
         [Step::Member("mounts"), Step::EachItem, Step::Member("options"), Step::When(Condition { origin: Origin::Part, way: &[], holds: true, check: Predicate::Lists(&["sync"]) }), Step::EachItem],
         Test::NoneOf(&["async"]) },
-    rule! { "mount-default-filesystems", Should, "runtime config-linux.md#default-filesystems", "mounts of /proc, /sys, /dev/pts and /dev/shm", Platforms::These(&[RuntimePlatform::Linux]),
-        [],
-        Test::There("mounts") },
 ];
 
 static RULES_8: [Rule<'static>; 3] = [
+    rule! { "mount-default-filesystems", Should, "runtime config-linux.md#default-filesystems", "mounts of /proc, /sys, /dev/pts and /dev/shm", Platforms::These(&[RuntimePlatform::Linux]),
+        [],
+        Test::There("mounts") },
     rule! { "mount-default-filesystems", Should, "runtime config-linux.md#default-filesystems", "mounts of /proc, /sys, /dev/pts and /dev/shm", Platforms::These(&[RuntimePlatform::Linux]),
         [Step::Member("mounts")],
         Test::ListsItem("destination", "/proc") },
     rule! { "mount-default-filesystems", Should, "runtime config-linux.md#default-filesystems", "mounts of /proc, /sys, /dev/pts and /dev/shm", Platforms::These(&[RuntimePlatform::Linux]),
         [Step::Member("mounts")],
         Test::ListsItem("destination", "/sys") },
+];
+
+static RULES_9: [Rule<'static>; 2] = [
     rule! { "mount-default-filesystems", Should, "runtime config-linux.md#default-filesystems", "mounts of /proc, /sys, /dev/pts and /dev/shm", Platforms::These(&[RuntimePlatform::Linux]),
         [Step::Member("mounts")],
         Test::ListsItem("destination", "/dev/pts") },
-];
-
-static RULES_9: [Rule<'static>; 1] = [
     rule! { "mount-default-filesystems", Should, "runtime config-linux.md#default-filesystems", "mounts of /proc, /sys, /dev/pts and /dev/shm", Platforms::These(&[RuntimePlatform::Linux]),
         [Step::Member("mounts")],
         Test::ListsItem("destination", "/dev/shm") },
