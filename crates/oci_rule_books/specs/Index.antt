@@ -2,7 +2,7 @@
 -- Image indexes (image specification, "OCI Image Index Specification").
 use Rattle.std.specs.Prelude.{List, [], ◌∷◌, map, codes, pos, true, false}
 use Rattle.oci_grammars.specs.declared.grammar.Grammar.TheVariants.{MediaType}
-use Rattle.oci_rules.specs.Rules.{Rule, must, should, host, here, under, each_item, if_so, asks, the_part, is_there, is_text, text, one_of, within, there, absent, not_null, distinct, members, beneath}
+use Rattle.oci_rules.specs.Rules.{Rule, must, stated, should, host, here, under, each_item, if_so, asks, the_part, is_there, is_text, text, one_of, within, there, absent, not_null, distinct, members, beneath}
 use Rattle.oci_rules.specs.Platforms.{every}
 use Rattle.oci_rule_books.specs.Lists.{goos, goarch, manifest_types, arm_variants, arm64_variants, ppc64le_variants, riscv64_variants, amd64_variants}
 use Rattle.oci_rule_books.specs.Annotations.{image_annotations_rules, image_annotations_elsewhere_rules}
@@ -29,8 +29,8 @@ index_rules =
     record { name = codes "platform-features-windows"; level = should; section = codes "image image-index.md#image-index-property-descriptions"; platforms = every; place = under (codes "manifests") (each_item (under (codes "platform") (if_so (asks the_part (codes "os" ∷ []) true (is_text (codes "windows" ∷ []))) (under (codes "os_features") (each_item here))))); test = one_of (codes "win32k" ∷ []) } ∷
     record { name = codes "platform-features-reserved"; level = host; section = codes "image image-index.md#image-index-property-descriptions"; platforms = every; place = under (codes "manifests") (each_item (under (codes "platform") here)); test = absent (codes "features") } ∷
     record { name = codes "index-ref-name-once"; level = host; section = codes "image image-layout.md#indexjson-file"; platforms = every; place = under (codes "manifests") here; test = distinct (members ((codes "annotations" ∷ codes "org.opencontainers.image.ref.name" ∷ []) ∷ [])) } ∷
-    record { name = codes "manifest-not-index"; level = host; section = codes "image manifest.md#image-manifest"; platforms = every; place = here; test = absent (codes "config") } ∷
-    record { name = codes "manifest-not-index"; level = host; section = codes "image manifest.md#image-manifest"; platforms = every; place = here; test = absent (codes "layers") } ∷
+    record { name = codes "manifest-not-index"; level = stated; section = codes "image manifest.md#image-manifest"; platforms = every; place = here; test = absent (codes "config") } ∷
+    record { name = codes "manifest-not-index"; level = stated; section = codes "image manifest.md#image-manifest"; platforms = every; place = here; test = absent (codes "layers") } ∷
     []
 
 -- the book of index combinations

@@ -2,7 +2,7 @@
 -- Image manifests (image specification, "OCI Image Manifest Specification").
 use Rattle.std.specs.Prelude.{List, [], ◌∷◌, map, codes, pos, true, false}
 use Rattle.oci_grammars.specs.declared.grammar.Grammar.TheVariants.{MediaType}
-use Rattle.oci_rules.specs.Rules.{Rule, must, should, host, here, under, each_item, if_so, asks, the_part, is_there, is_text, has_item, text, one_of, none_of, within, there, absent, not_null, not_empty, beneath}
+use Rattle.oci_rules.specs.Rules.{Rule, must, stated, should, host, here, under, each_item, if_so, asks, the_part, is_there, is_text, has_item, text, one_of, none_of, within, there, absent, not_null, not_empty, beneath}
 use Rattle.oci_rules.specs.Platforms.{every}
 use Rattle.oci_rule_books.specs.Lists.{layer_types, nondistributable_types, subject_types, image_layer_types}
 use Rattle.oci_rule_books.specs.Annotations.{image_annotations_elsewhere_rules}
@@ -24,9 +24,9 @@ manifest_rules =
     record { name = codes "manifest-layer-distributable"; level = should; section = codes "image layer.md#non-distributable-layers"; platforms = every; place = under (codes "layers") (each_item (under (codes "mediaType") here)); test = none_of nondistributable_types } ∷
     record { name = codes "manifest-artifact-layer-some"; level = host; section = codes "image manifest.md#guidance-for-an-empty-descriptor"; platforms = every; place = if_so (asks the_part (codes "artifactType" ∷ []) true is_there) (under (codes "layers") (each_item (under (codes "size") here))); test = within (pos 1) (pos 18446744073709551615) } ∷
     record { name = codes "manifest-subject-type"; level = host; section = codes "image manifest.md#image-manifest-property-descriptions"; platforms = every; place = under (codes "subject") (under (codes "mediaType") here); test = one_of subject_types } ∷
-    record { name = codes "manifest-not-index"; level = host; section = codes "image manifest.md#image-manifest"; platforms = every; place = here; test = absent (codes "manifests") } ∷
-    record { name = codes "manifest-not-index"; level = host; section = codes "image manifest.md#image-manifest"; platforms = every; place = here; test = absent (codes "fsLayers") } ∷
-    record { name = codes "manifest-not-index"; level = host; section = codes "image manifest.md#image-manifest"; platforms = every; place = here; test = absent (codes "history") } ∷
+    record { name = codes "manifest-not-index"; level = stated; section = codes "image manifest.md#image-manifest"; platforms = every; place = here; test = absent (codes "manifests") } ∷
+    record { name = codes "manifest-not-index"; level = stated; section = codes "image manifest.md#image-manifest"; platforms = every; place = here; test = absent (codes "fsLayers") } ∷
+    record { name = codes "manifest-not-index"; level = stated; section = codes "image manifest.md#image-manifest"; platforms = every; place = here; test = absent (codes "history") } ∷
     []
 
 -- the book of manifest annotations

@@ -85,10 +85,10 @@ static RULES_6: [Rule<'static>; 3] = [
 ];
 
 static RULES_7: [Rule<'static>; 2] = [
-    rule! { "manifest-not-index", Host, "image manifest.md#image-manifest", "no member of another kind of manifest", Platforms::Every,
+    rule! { "manifest-not-index", Stated, "image manifest.md#image-manifest", "no member of another kind of manifest", Platforms::Every,
         [],
         Test::Absent("config") },
-    rule! { "manifest-not-index", Host, "image manifest.md#image-manifest", "no member of another kind of manifest", Platforms::Every,
+    rule! { "manifest-not-index", Stated, "image manifest.md#image-manifest", "no member of another kind of manifest", Platforms::Every,
         [],
         Test::Absent("layers") },
 ];

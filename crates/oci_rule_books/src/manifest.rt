@@ -61,16 +61,16 @@ static RULES_5: [Rule<'static>; 3] = [
     rule! { "manifest-subject-type", Host, "image manifest.md#image-manifest-property-descriptions", "the media type of a manifest or index", Platforms::Every,
         [Step::Member("subject"), Step::Member("mediaType")],
         Test::OneOf(SUBJECT_TYPES) },
-    rule! { "manifest-not-index", Host, "image manifest.md#image-manifest", "no member of another kind of manifest", Platforms::Every,
+    rule! { "manifest-not-index", Stated, "image manifest.md#image-manifest", "no member of another kind of manifest", Platforms::Every,
         [],
         Test::Absent("manifests") },
-    rule! { "manifest-not-index", Host, "image manifest.md#image-manifest", "no member of another kind of manifest", Platforms::Every,
+    rule! { "manifest-not-index", Stated, "image manifest.md#image-manifest", "no member of another kind of manifest", Platforms::Every,
         [],
         Test::Absent("fsLayers") },
 ];
 
 static RULES_6: [Rule<'static>; 1] = [
-    rule! { "manifest-not-index", Host, "image manifest.md#image-manifest", "no member of another kind of manifest", Platforms::Every,
+    rule! { "manifest-not-index", Stated, "image manifest.md#image-manifest", "no member of another kind of manifest", Platforms::Every,
         [],
         Test::Absent("history") },
 ];
