@@ -1,5 +1,5 @@
 -- Lists that are read from the front.
-use Rattle.std.proofs.Common.{◌≡◌, ◌≢◌, ◌<◌, ◌+◌, Bor, length, get_or, drop, suc, add-one, drop-cons, List, ℕ, [], ◌∷◌, ◌++◌, map, Option, Some, None, refl, ap, sym, subst, append_assoc, ◌∙◌}
+use Rattle.std.proofs.Common.{arith, ◌≡◌, ◌≢◌, ◌<◌, ◌+◌, Bor, length, get_or, drop, suc, add-one, drop-cons, List, ℕ, [], ◌∷◌, ◌++◌, map, Option, Some, None, refl, ap, sym, subst, append_assoc, ◌∙◌}
 use Rattle.std.proofs.lemmas.List.{map-append}
 use Rattle.toml.specs.Data.{Data, Members, member}
 use Rattle.toml.specs.View.{view, items_view}
@@ -10,7 +10,7 @@ use Rattle.oci_rules.specs.Tables.{place_of, texts_of}
 use Rattle.oci_policies.specs.Places.{along}
 use Rattle.oci_policies.specs.Policies.{Worded, rules_in, table_rules, together}
 use Rattle.oci_policies.specs.Steps.{step_view, steps_view}
-use Rattle.oci_policies.specs.Values.{all, before, behind, each, two}
+use Rattle.oci_policies.specs.Values.{all, before, behind, each, some_items, two}
 
 pub behind_nothing : {A : Type 0} (os : Option (List A)) → behind [] os ≡ os
 behind_nothing None = refl
@@ -107,6 +107,15 @@ two_texts_missing [] h = refl
 two_texts_missing (x ∷ []) h = refl
 two_texts_missing (x ∷ y ∷ []) h = absurd (h refl)
 two_texts_missing (x ∷ y ∷ z ∷ zs) h = refl
+
+-- the items, unless there are none
+pub some_there : (vs : List Value) → length vs ≢ 0 → some_items (items_view vs) ≡ Some (items_view vs)
+some_there [] h = absurd (h refl)
+some_there (v ∷ vs) h = refl
+
+pub some_missing : (vs : List Value) → length vs ≡ 0 → some_items (items_view vs) ≡ None
+some_missing [] h = refl
+some_missing (v ∷ vs) h = absurd (omega arith)
 
 -- a member in front, if there is one
 abbrev pub in_front : Option (List ℕ × Data) → Members → Members

@@ -1,6 +1,6 @@
 -- The rules that a TOML document holds: those of the tables of its array `rule`, in order.
 use Rattle.std.specs.Prelude.{ℕ, List, [], ◌∷◌, ◌++◌, map, codes, bytes_eq, Option, Some, None, option_map, option_and_then, if◌then◌else◌, ◌≡◌}
-use Rattle.toml.specs.Data.{Data, Items, no_items, item, Members, as_str, as_array, as_table}
+use Rattle.toml.specs.Data.{Data, Items, no_items, item, Members, as_str, as_table}
 use Rattle.toml.specs.Parse.{parse_document}
 use Rattle.oci_rules.specs.Rules.{Level, Platform, Place, Test, Rule}
 use Rattle.oci_rules.specs.Platforms.{every}
@@ -8,7 +8,7 @@ use Rattle.oci_rules.specs.Words.{level_named, platform_named}
 use Rattle.oci_policies.specs.Conditions.{condition_in}
 use Rattle.oci_policies.specs.Places.{Step, if_so, along, steps_of, steps_in}
 use Rattle.oci_policies.specs.Tests.{test_named}
-use Rattle.oci_policies.specs.Values.{both, list_in, under, under_or, has_only, sole_other}
+use Rattle.oci_policies.specs.Values.{both, list_in, some_items_in, some_in, under, under_or, has_only, sole_other}
 
 abbrev pub level_in : Data → Option Level
 level_in d = option_and_then level_named (as_str d)
@@ -16,10 +16,10 @@ level_in d = option_and_then level_named (as_str d)
 abbrev pub platform_in : Data → Option Platform
 platform_in d = option_and_then platform_named (as_str d)
 
--- one place, or an array of places, each of which makes a rule
+-- one place, or an array of places, each of which makes a rule; not none
 abbrev pub places_or : Option (List ℕ) → Data → Option (List (List Step))
 places_or (Some t) d = option_map (λ s. s ∷ []) (steps_of t)
-places_or None d = list_in steps_in d
+places_or None d = some_in steps_in d
 
 abbrev pub places_in : Data → Option (List (List Step))
 places_in d = places_or (as_str d) d
@@ -54,7 +54,7 @@ abbrev pub head_of : Members → Option Head
 head_of ms =
     option_map (λ x. record { name = x.0; level = x.1.0; section = x.1.1.0; message = x.1.1.1.0; platforms = x.1.1.1.1.0; test = x.1.1.1.1.1 })
     (both (under as_str (codes "name") ms) (both (under level_in (codes "level") ms) (both (under as_str (codes "source") ms) (both (under as_str (codes "message") ms)
-    (both (under_or every (list_in platform_in) (codes "platforms") ms) (test_in ms))))))
+    (both (under_or every (some_in platform_in) (codes "platforms") ms) (test_in ms))))))
 
 -- a rule and its message
 abbrev pub Worded : Type 0
@@ -98,9 +98,9 @@ rules_in (item d ds) = together (table_rules d) (rules_in ds)
 abbrev pub document_names : List (List ℕ)
 document_names = codes "rule" ∷ []
 
--- the rules of a document, which has its array `rule` alone
+-- the rules of a document, which has its array `rule` alone, with a table at least
 abbrev pub policy_in : Members → Option (List Worded)
-policy_in ms = if has_only document_names ms then option_and_then rules_in (under as_array (codes "rule") ms) else None
+policy_in ms = if has_only document_names ms then option_and_then rules_in (under some_items_in (codes "rule") ms) else None
 
 -- the text is a TOML document that holds these rules
 abbrev pub IsPolicy : List ℕ → List Worded → Type 0

@@ -4,7 +4,7 @@ use Rattle.toml.specs.Data.{Data, Members, as_str, as_bool}
 use Rattle.oci_rules.specs.Rules as rules
 use Rattle.oci_policies.specs.Grammars.{grammar_in}
 use Rattle.oci_policies.specs.Places.{way_in}
-use Rattle.oci_policies.specs.Values.{both, list_in, texts_in, pair_in, natural_in, bounds_in, yes_in, under, table_of}
+use Rattle.oci_policies.specs.Values.{both, texts_in, some_in, some_text_in, some_texts_in, pair_in, natural_in, bounds_in, yes_in, under, table_of}
 
 -- `prefix` and `names`
 abbrev pub reserved_of : Members → Option rules.Test
@@ -33,7 +33,7 @@ key_named t = if bytes_eq t (codes "itself") then Some rules.itself else (if byt
 
 abbrev pub key_of : Option (List ℕ) → Data → Option rules.Key
 key_of (Some t) d = key_named t
-key_of None d = option_map rules.members (list_in way_in d)
+key_of None d = option_map rules.members (some_in way_in d)
 
 abbrev pub key_in : Data → Option rules.Key
 key_in d = key_of (as_str d) d
@@ -41,7 +41,7 @@ key_in d = key_of (as_str d) d
 -- a test of arrays, by its name
 unfoldable pub array_test : List ℕ → Data → Option rules.Test
 array_test k d =
-    if bytes_eq k (codes "lists") then option_map rules.lists (texts_in d)
+    if bytes_eq k (codes "lists") then option_map rules.lists (some_texts_in d)
     else (if bytes_eq k (codes "lists_item") then option_and_then item_of (table_of item_names d)
     else (if bytes_eq k (codes "distinct") then option_map rules.distinct (key_in d)
     else None))
@@ -51,7 +51,7 @@ unfoldable pub object_test : List ℕ → Data → Option rules.Test
 object_test k d =
     if bytes_eq k (codes "there") then option_map rules.there (as_str d)
     else (if bytes_eq k (codes "absent") then option_map rules.absent (as_str d)
-    else (if bytes_eq k (codes "either") then option_map rules.either (texts_in d)
+    else (if bytes_eq k (codes "either") then option_map rules.either (some_texts_in d)
     else (if bytes_eq k (codes "at_most") then option_map (λ x. rules.at_most x.0 x.1) (pair_in d)
     else (if bytes_eq k (codes "sum_at_most") then option_and_then sum_of (table_of sum_names d)
     else (if bytes_eq k (codes "among") then option_map (λ x. rules.among x.0 x.1) (pair_in d)
@@ -70,8 +70,8 @@ size_test k d =
 unfoldable pub test_named : List ℕ → Data → Option rules.Test
 test_named k d =
     if bytes_eq k (codes "format") then option_map rules.text (grammar_in d)
-    else (if bytes_eq k (codes "one_of") then option_map rules.one_of (texts_in d)
-    else (if bytes_eq k (codes "none_of") then option_map rules.none_of (texts_in d)
-    else (if bytes_eq k (codes "begins") then option_map rules.begins (as_str d)
+    else (if bytes_eq k (codes "one_of") then option_map rules.one_of (some_texts_in d)
+    else (if bytes_eq k (codes "none_of") then option_map rules.none_of (some_texts_in d)
+    else (if bytes_eq k (codes "begins") then option_map rules.begins (some_text_in d)
     else (if bytes_eq k (codes "reserved") then option_and_then reserved_of (table_of reserved_names d)
     else size_test k d))))

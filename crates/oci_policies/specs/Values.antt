@@ -1,5 +1,5 @@
 -- What values of a TOML document hold, each as what it has to be, or nothing.
-use Rattle.std.specs.Prelude.{ℕ, ℤ, pos, int_le, List, [], ◌∷◌, ◌++◌, Bool, true, false, Option, Some, None, option_and_then, if◌then◌else◌, ◌≡◌, unsigned_abs, MatchResult, Result}
+use Rattle.std.specs.Prelude.{ℕ, ℤ, pos, int_le, List, [], ◌∷◌, ◌++◌, length, ◌==◌, Bool, true, false, Option, Some, None, option_and_then, if◌then◌else◌, ◌≡◌, unsigned_abs, MatchResult, Result}
 use Rattle.toml.specs.Data.{Data, Items, no_items, item, Members, no_members, member, as_str, as_bool, as_integer, as_array, as_table, get_member}
 use Rattle.oci_base.specs.Names.{is_listed}
 use Rattle.oci_policies.specs.declared.error.Fault.{Fault}
@@ -41,6 +41,30 @@ list_in f d = option_and_then (each f) (as_array d)
 
 abbrev pub texts_in : Data → Option (List (List ℕ))
 texts_in d = list_in as_str d
+
+-- ---- what may not be empty
+
+abbrev pub some_text : List ℕ → Option (List ℕ)
+some_text t = if length t == 0 then None else Some t
+
+abbrev pub some_text_in : Data → Option (List ℕ)
+some_text_in d = option_and_then some_text (as_str d)
+
+-- the items, if there are some
+abbrev pub some_items : Items → Option Items
+some_items no_items = None
+some_items (item d ds) = Some (item d ds)
+
+-- the items of an array that has some
+abbrev pub some_items_in : Data → Option Items
+some_items_in d = option_and_then some_items (as_array d)
+
+-- an array that has items, item by item
+abbrev pub some_in : {A : Type 0} → (Data → Option A) → Data → Option (List A)
+some_in f d = option_and_then (each f) (some_items_in d)
+
+abbrev pub some_texts_in : Data → Option (List (List ℕ))
+some_texts_in d = some_in as_str d
 
 -- an array of two
 abbrev pub two : {A : Type 0} → List A → Option (A × A)

@@ -10,7 +10,8 @@ ghost use Rattle.toml.specs.View.{view, table_view};
 use crate::error::{Fault, expected};
 use crate::places::way;
 use crate::values::{
-    boolean, bounds, found, kept_under, sole_other, table_of, texts, texts_under, unknown, yes,
+    boolean, bounds, found, kept_under, sole_other, some_texts, some_texts_under, table_of, texts,
+    unknown, yes,
 };
 use bumpalo::Bump;
 use oci_rules::{Condition, Origin, Predicate};
@@ -52,7 +53,7 @@ fn item<'a>(arena: &'a Bump, table: &Table) -> Result<Predicate<'a>, Fault>
     ensures { Reads check_of result (conditions.item_of (table_view table.now)) }
 {
     let name = kept_under(arena, "name", table)?;
-    let values = texts_under(arena, "values", table)?;
+    let values = some_texts_under(arena, "values", table)?;
     let with = texts_or_none(arena, "with", table)?;
     let without = texts_or_none(arena, "without", table)?;
     Ok(Predicate::ListsItem(name, values, with, without))
@@ -72,13 +73,13 @@ fn check<'a>(
             yes("there", value)?;
             Ok(Predicate::There)
         }
-        "one_of" => Ok(Predicate::OneOf(texts(arena, "one_of", value)?)),
+        "one_of" => Ok(Predicate::OneOf(some_texts(arena, "one_of", value)?)),
         "boolean" => Ok(Predicate::Boolean(boolean("boolean", value)?)),
         "within" => {
             let (low, high) = bounds("within", value, alloc)?;
             Ok(Predicate::Within(low, high))
         }
-        "lists" => Ok(Predicate::Lists(texts(arena, "lists", value)?)),
+        "lists" => Ok(Predicate::Lists(some_texts(arena, "lists", value)?)),
         "lists_item" => item(arena, table_of(item_names(), "lists_item", value, alloc)?),
         _ => Err(unknown(key, alloc)),
     }

@@ -40,6 +40,9 @@ pub enum Reason {
         /// What is asked for.
         expected: &'static str,
     },
+    /// A member is an empty array or an empty string, and would ask nothing, or what nothing keeps.
+    #[error("`{0}` is empty")]
+    Empty(&'static str),
     /// There is no member of this name.
     #[error("unknown member `{0}`")]
     Unknown(String),
@@ -80,6 +83,11 @@ impl<T: Drop> From<AllocFailed<T>> for Fault {
     fn from(_refused: AllocFailed<T>) -> Fault {
         Fault::Memory
     }
+}
+
+/// That a member is empty.
+pub(crate) fn empty(key: &'static str) -> Fault {
+    Fault::Refused(Reason::Empty(key))
 }
 
 /// That a member is not what is asked for.

@@ -2,7 +2,7 @@
 ghost use Rattle.std.specs.Prelude.{◌≡◌};
 ghost use Rattle.oci_rules.specs.Tables.{texts_of, ways_of, key_of as code_key, test_of};
 ghost use Rattle.oci_policies.specs.Tests as tests;
-ghost use Rattle.oci_policies.specs.Values.{Reads, each, list_in};
+ghost use Rattle.oci_policies.specs.Values.{Reads, each, some_in};
 ghost use Rattle.oci_policies.specs.Places.{way_in};
 ghost use Rattle.toml.specs.View.{view, items_view, table_view};
 
@@ -10,8 +10,8 @@ use crate::error::{Fault, expected};
 use crate::grammars::grammar;
 use crate::places::way;
 use crate::values::{
-    boolean, bounds, kept_text, kept_under, natural, pair, table_of, texts, texts_under, under,
-    unknown, yes,
+    boolean, bounds, kept_some_text, kept_text, kept_under, natural, pair, some_items, some_texts,
+    table_of, texts_under, under, unknown, yes,
 };
 use bumpalo::Bump;
 use bumpalo::collections::into_bump_slice;
@@ -72,12 +72,14 @@ fn item<'a>(arena: &'a Bump, table: &Table) -> Result<Test<'a>, Fault>
 
 /// The ways to what tells items apart.
 fn ways<'a>(arena: &'a Bump, value: &Value, alloc: Global) -> Result<&'a [&'a [&'a str]], Fault>
-    ensures { Reads (λ ws. ways_of ws.now) result (list_in way_in (view value.now)) }
+    ensures { Reads (λ ws. ways_of ws.now) result (some_in way_in (view value.now)) }
 {
-    match value.as_array() {
-        Some(items) => each_way(arena, items, alloc),
-        None => Err(expected("distinct", "`itself`, `entry-name` or an array of places")),
-    }
+    let items = some_items(
+        "distinct",
+        "`itself`, `entry-name` or an array of places",
+        value,
+    )?;
+    each_way(arena, items, alloc)
 }
 
 #[tactic(auto, using(crate::proofs::Lists::behind_nothing, crate::proofs::Lists::behind_more))]
@@ -126,7 +128,7 @@ fn array_test<'a>(
     ensures { Reads test_of result (tests.array_test key_name.now (view value.now)) }
 {
     match key_name {
-        "lists" => Ok(Test::Lists(texts(arena, "lists", value)?)),
+        "lists" => Ok(Test::Lists(some_texts(arena, "lists", value)?)),
         "lists_item" => item(arena, table_of(item_names(), "lists_item", value, alloc)?),
         "distinct" => Ok(Test::Distinct(key(arena, value, alloc)?)),
         _ => Err(unknown(key_name, alloc)),
@@ -146,7 +148,7 @@ fn object_test<'a>(
     match key_name {
         "there" => Ok(Test::There(kept_text(arena, "there", value)?)),
         "absent" => Ok(Test::Absent(kept_text(arena, "absent", value)?)),
-        "either" => Ok(Test::Either(texts(arena, "either", value)?)),
+        "either" => Ok(Test::Either(some_texts(arena, "either", value)?)),
         "at_most" => {
             let (first, second) = pair(arena, "at_most", value)?;
             Ok(Test::AtMost(first, second))
@@ -197,9 +199,9 @@ pub(crate) fn test<'a>(
 {
     match key_name {
         "format" => Ok(Test::Text(grammar("format", value)?)),
-        "one_of" => Ok(Test::OneOf(texts(arena, "one_of", value)?)),
-        "none_of" => Ok(Test::NoneOf(texts(arena, "none_of", value)?)),
-        "begins" => Ok(Test::Begins(kept_text(arena, "begins", value)?)),
+        "one_of" => Ok(Test::OneOf(some_texts(arena, "one_of", value)?)),
+        "none_of" => Ok(Test::NoneOf(some_texts(arena, "none_of", value)?)),
+        "begins" => Ok(Test::Begins(kept_some_text(arena, "begins", value)?)),
         "reserved" => reserved(arena, table_of(reserved_names(), "reserved", value, alloc)?),
         _ => size_test(arena, key_name, value, alloc),
     }

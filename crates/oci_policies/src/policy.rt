@@ -9,9 +9,9 @@ ghost use Rattle.toml.specs.View.{items_view, table_view};
 ghost use Rattle.oci_rules.specs.Tables.{texts_of};
 ghost use Rattle.oci_policies.specs.Policies as policies;
 
-use crate::error::{Fault, PolicyError, expected};
+use crate::error::{Fault, PolicyError};
 use crate::rules::add_table;
-use crate::values::{only, under};
+use crate::values::{only, some_items, under};
 use bumpalo::Bump;
 use bumpalo::collections::into_bump_slice;
 use oci_rules::Rule;
@@ -29,8 +29,8 @@ pub struct Policy<'a> {
 impl<'a> Policy<'a> {
     /// Reads a policy from the text of a TOML file (docs/POLICIES.md). Its rules are kept in the arena.
     ///
-    /// Fails with `Toml` if the text is no TOML document, with `Rule` if the document is no policy, and with `Memory` if out of
-    /// memory. The line of a `Rule` is that of the rule's header, `[[rule]]`, where each has a line of its own.
+    /// Fails with `Toml` if the text is no TOML document, with `Rule` if the document is no policy, as one without rules, and with
+    /// `Memory` if out of memory. The line of a `Rule` is that of the rule's header, `[[rule]]`, where each has a line of its own.
     pub fn from_toml(text: &str, arena: &'a Bump, alloc: Global) -> Result<Policy<'a>, PolicyError>
         ensures ok { IfOk result (λ p. IsPolicy text.now (map worded p.rules.now)) }
         ensures refused { IfErr result (λ e. ¬ (e ≡ Memory) → (rules : List Worded) → ¬ IsPolicy text.now rules) }
@@ -71,15 +71,12 @@ fn read<'a>(
     }
 }
 
-/// The array of the rules' tables.
+/// The array of the rules' tables, of which there is one at least.
 fn tables<'t>(table: &'t Table, alloc: Global) -> Result<&'t Vec<Value>, Fault>
     ensures { MatchResult result (λ v. policy_in (table_view table.now) ≡ rules_in (items_view v.now.items)) (λ e. ¬ (e ≡ reading.Memory) → policy_in (table_view table.now) ≡ None) }
 {
     only(document_names(), table, alloc)?;
-    match under(table, "rule")?.as_array() {
-        Some(items) => Ok(items),
-        None => Err(expected("rule", "an array of tables")),
-    }
+    some_items("rule", "an array of tables", under(table, "rule")?)
 }
 
 /// The rules of the tables.

@@ -7,7 +7,7 @@ ghost use Rattle.oci_policies.specs.Policies as policies;
 ghost use Rattle.oci_policies.specs.Policies.{rule_at, rule_placed};
 ghost use Rattle.oci_policies.specs.Places.{steps_in};
 ghost use Rattle.oci_policies.specs.Steps.{step_view, steps_view, head_view, worded};
-ghost use Rattle.oci_policies.specs.Values.{Reads, both, each, list_in, under as under_in, under_or, behind};
+ghost use Rattle.oci_policies.specs.Values.{Reads, both, each, list_in, some_in, under as under_in, under_or, behind};
 ghost use Rattle.toml.specs.Data.{as_str};
 ghost use Rattle.toml.specs.View.{view, items_view, table_view};
 
@@ -15,7 +15,7 @@ use crate::conditions::condition;
 use crate::error::{Fault, expected};
 use crate::kinds::test;
 use crate::places::{steps, steps_of};
-use crate::values::{found, kept_under, sole_other, text, under};
+use crate::values::{found, kept_under, sole_other, some_items, text, under};
 use bumpalo::Bump;
 use bumpalo::collections::into_bump_slice;
 use oci_rules::{Level, Platforms, Rule, RuntimePlatform, Step, Test};
@@ -61,12 +61,10 @@ fn platform(value: &Value) -> Result<RuntimePlatform, Fault>
 }
 
 fn listed_platforms<'a>(arena: &'a Bump, value: &Value) -> Result<&'a [RuntimePlatform], Fault>
-    ensures { Reads (λ ps. map platform_of ps.now) result (list_in policies.platform_in (view value.now)) }
+    ensures { Reads (λ ps. map platform_of ps.now) result (some_in policies.platform_in (view value.now)) }
 {
-    match value.as_array() {
-        Some(items) => each_platform(arena, items),
-        None => Err(expected("platforms", "an array of strings")),
-    }
+    let items = some_items("platforms", "an array of strings", value)?;
+    each_platform(arena, items)
 }
 
 #[tactic(auto, using(crate::proofs::Lists::behind_nothing, crate::proofs::Lists::behind_more))]
@@ -82,7 +80,7 @@ fn each_platform<'a>(arena: &'a Bump, items: &Vec<Value>) -> Result<&'a [Runtime
 
 /// The platforms that a rule is for: all, if it names none.
 fn platforms<'a>(arena: &'a Bump, table: &Table) -> Result<Platforms<'a>, Fault>
-    ensures { Reads platforms_of result (under_or every (list_in policies.platform_in) (codes "platforms") (table_view table.now)) }
+    ensures { Reads platforms_of result (under_or every (some_in policies.platform_in) (codes "platforms") (table_view table.now)) }
 {
     match found(table, "platforms") {
         Some(value) => Ok(Platforms::These(listed_platforms(arena, value)?)),
@@ -104,7 +102,7 @@ fn tested<'a>(
     table: &Table,
     alloc: Global,
 ) -> Result<(&'a str, (Platforms<'a>, Test<'a>)), Fault>
-    ensures { Reads (λ p. (p.0.now, (platforms_of p.1.0, test_of p.1.1))) result (both (under_in as_str (codes "message") (table_view table.now)) (both (under_or every (list_in policies.platform_in) (codes "platforms") (table_view table.now)) (policies.test_in (table_view table.now)))) }
+    ensures { Reads (λ p. (p.0.now, (platforms_of p.1.0, test_of p.1.1))) result (both (under_in as_str (codes "message") (table_view table.now)) (both (under_or every (some_in policies.platform_in) (codes "platforms") (table_view table.now)) (policies.test_in (table_view table.now)))) }
 {
     let wanted = kept_under(arena, "message", table)?;
     let platforms = platforms(arena, table)?;
@@ -137,12 +135,10 @@ fn listed_places<'a>(
     value: &Value,
     alloc: Global,
 ) -> Result<Vec<Vec<Step<'a>>>, Fault>
-    ensures { Reads (λ v. map (λ s. steps_view s.items) v.items) result (list_in steps_in (view value.now)) }
+    ensures { Reads (λ v. map (λ s. steps_view s.items) v.items) result (some_in steps_in (view value.now)) }
 {
-    match value.as_array() {
-        Some(items) => each_place(arena, items, alloc),
-        None => Err(expected("at", "a place or an array of places")),
-    }
+    let items = some_items("at", "a place or an array of places", value)?;
+    each_place(arena, items, alloc)
 }
 
 #[tactic(auto, using(crate::proofs::Lists::behind_nothing, crate::proofs::Lists::behind_more))]

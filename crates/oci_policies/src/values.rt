@@ -8,7 +8,7 @@ ghost use Rattle.oci_policies.specs.Values.{Reads};
 ghost use Rattle.toml.specs.Data.{as_str, as_bool, as_integer, get_member};
 ghost use Rattle.toml.specs.View.{view, items_view, table_view};
 
-use crate::error::{Fault, Reason, expected};
+use crate::error::{Fault, Reason, empty, expected};
 use bumpalo::Bump;
 use bumpalo::collections::into_bump_slice;
 use std::alloc::Global;
@@ -33,6 +33,21 @@ pub(crate) fn kept_text<'a>(
     ensures { Reads (λ t. t.now) result (as_str (view value.now)) }
 {
     Ok(arena.try_alloc_str(text(key, value)?)?)
+}
+
+/// A string that is not empty and stays in the arena.
+pub(crate) fn kept_some_text<'a>(
+    arena: &'a Bump,
+    key: &'static str,
+    value: &Value,
+) -> Result<&'a str, Fault>
+    ensures { Reads (λ t. t.now) result (values.some_text_in (view value.now)) }
+{
+    let text = text(key, value)?;
+    if text.is_empty() {
+        return Err(empty(key));
+    }
+    Ok(arena.try_alloc_str(text)?)
 }
 
 /// The string under a name, which stays in the arena.
@@ -84,6 +99,49 @@ fn each_text<'a>(
         found.push(kept_text(arena, key, item)?)?;
     }
     Ok(into_bump_slice(found))
+}
+
+/// An array of strings that has some.
+pub(crate) fn some_texts<'a>(
+    arena: &'a Bump,
+    key: &'static str,
+    value: &Value,
+) -> Result<&'a [&'a str], Fault>
+    ensures { Reads (λ ts. texts_of ts.now) result (values.some_texts_in (view value.now)) }
+{
+    each_text(arena, key, some_items(key, "an array of strings", value)?)
+}
+
+/// The array of strings under a name, which has some.
+pub(crate) fn some_texts_under<'a>(
+    arena: &'a Bump,
+    key: &'static str,
+    table: &Table,
+) -> Result<&'a [&'a str], Fault>
+    ensures { Reads (λ ts. texts_of ts.now) result (values.under values.some_texts_in key.now (table_view table.now)) }
+{
+    some_texts(arena, key, under(table, key)?)
+}
+
+/// The items of an array that has some; `wanted` says what the array is of.
+#[tactic(auto, using(crate::proofs::Lists::some_there, crate::proofs::Lists::some_missing))]
+pub(crate) fn some_items<'t>(
+    key: &'static str,
+    wanted: &'static str,
+    value: &'t Value,
+) -> Result<&'t Vec<Value>, Fault>
+    ensures { Reads (λ v. items_view v.now.items) result (values.some_items_in (view value.now)) }
+{
+    match value.as_array() {
+        Some(items) => {
+            if items.is_empty() {
+                Err(empty(key))
+            } else {
+                Ok(items)
+            }
+        }
+        None => Err(expected(key, wanted)),
+    }
 }
 
 /// Two strings, if there are two.

@@ -6,13 +6,13 @@ use Rattle.oci_rules.specs.Rules.{Level, Platform, Test}
 use Rattle.oci_rules.specs.Tables.{level_of, platforms_of, test_of}
 use Rattle.oci_rules.specs.Platforms.{every}
 use Rattle.oci_policies.specs.Policies.{head_of, level_in, platform_in, test_in}
-use Rattle.oci_policies.specs.Values.{both, list_in, under, under_or}
+use Rattle.oci_policies.specs.Values.{both, some_in, under, under_or}
 use Rattle.oci_policies.proofs.rules.head.Goals as goal
 
 -- what is read part by part
 head_read : (ms : Members) (name : List ℕ) (level : Level) (section : List ℕ) (message : List ℕ) (platforms : List Platform) (test : Test)
     → under as_str (codes "name") ms ≡ Some name → under level_in (codes "level") ms ≡ Some level → under as_str (codes "source") ms ≡ Some section
-    → both (under as_str (codes "message") ms) (both (under_or every (list_in platform_in) (codes "platforms") ms) (test_in ms)) ≡ Some (message, (platforms, test))
+    → both (under as_str (codes "message") ms) (both (under_or every (some_in platform_in) (codes "platforms") ms) (test_in ms)) ≡ Some (message, (platforms, test))
     → head_of ms ≡ Some (record { name = name; level = level; section = section; message = message; platforms = platforms; test = test })
 head_read ms name level section message platforms test n l s t = rw (n, l, s, t) refl
 
