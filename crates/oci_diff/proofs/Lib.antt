@@ -1,4 +1,5 @@
 pub mod Adds
 pub mod Aligning
 pub mod Bests
+pub mod Telling
 pub mod Ways
