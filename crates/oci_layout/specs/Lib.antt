@@ -2,6 +2,7 @@ pub mod Claims
 pub mod Documents
 pub mod Kinds
 pub mod Looks
+pub mod Marker
 pub mod Memory
 pub mod Paths
 pub mod Shelf

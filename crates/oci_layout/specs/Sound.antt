@@ -3,6 +3,7 @@ use Rattle.std.specs.Prelude.{◌≡◌, ◌⊎◌, ℕ, ◌<◌, List, Bool, fa
 use Rattle.oci_content.specs.Content.{IsDigestOf}
 use Rattle.oci_layout.specs.Documents.{IsRead}
 use Rattle.oci_layout.specs.Looks.{may_miss, Contents, Shows}
+use Rattle.oci_layout.specs.Marker.{IsMarked}
 use Rattle.oci_layout.specs.Walk.{IsWalk, Reaches}
 use Rattle.oci_layout.specs.declared.kind.Kind.TheVariants.{Index}
 use Rattle.oci_layout.specs.declared.top.Top.{Top}
@@ -41,7 +42,7 @@ pub record IsSoundFrom (quick : Bool) (limit : ℕ) (contents : Contents) (befor
   pub walk : IsWalk (Shows quick limit contents) start all faults
   pub fine : AreFine all faults
 
--- an image layout by its files beside `blobs` and its contents: all that its index reaches is there, or may be missing
+-- the index of an image layout by its files beside `blobs` and its contents: all that it reaches is there, or may be missing
 pub record IsSoundBy (limit : ℕ) (tops contents : List ℕ → Option (List ℕ)) : Type 0 where
   pub index : List ℕ
   pub there : tops (codes "index.json") ≡ Some index
@@ -50,10 +51,15 @@ pub record IsSoundBy (limit : ℕ) (tops contents : List ℕ → Option (List �
   pub reached : (c : Claim) → Reaches (Shows false limit (Some contents)) claims c → IsSoundOrMissing contents c
 
 -- where both are known
-abbrev pub IsSoundLayout : ℕ → Contents → Contents → Type 0
-IsSoundLayout limit None contents = ⊤
-IsSoundLayout limit (Some tops) None = ⊤
-IsSoundLayout limit (Some tops) (Some contents) = IsSoundBy limit tops contents
+abbrev pub IsSoundIndex : ℕ → Contents → Contents → Type 0
+IsSoundIndex limit None contents = ⊤
+IsSoundIndex limit (Some tops) None = ⊤
+IsSoundIndex limit (Some tops) (Some contents) = IsSoundBy limit tops contents
+
+-- it has a marker, and all that its index reaches is sound
+pub record IsSoundLayout (limit : ℕ) (tops contents : Contents) : Type 0 where
+  pub marker : IsMarked tops
+  pub index : IsSoundIndex limit tops contents
 
 -- these are the bytes of a file
 abbrev pub IsFileOf : Contents → List ℕ → List ℕ → Type 0

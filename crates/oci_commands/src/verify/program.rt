@@ -1,11 +1,12 @@
 //! The whole of a verification.
 ghost use Rattle.std.specs.Prelude.{◌≡◌, ◌⊎◌, ◌<◌, false, codes, length, IsTrue, IfOk, string_bytes};
 ghost use Rattle.oci_base.specs.Escaped.{IsLine};
-ghost use Rattle.oci_layout.specs.Sound.{IsSoundLayout, IsSoundFrom, IsFileOf};
+ghost use Rattle.oci_layout.specs.Marker.{IsMarked};
+ghost use Rattle.oci_layout.specs.Sound.{IsSoundLayout, IsSoundIndex, IsSoundFrom, IsFileOf};
 ghost use Rattle.oci_layout.specs.Looks.{Contents};
 ghost use Rattle.oci_layout.specs.Walk.{IsWalk};
 
-use crate::verify::marker::marker_report;
+use crate::verify::marker::{Marked, marker_report};
 use crate::verify::options::Options;
 use crate::verify::output::Output;
 use crate::verify::progress::{Progress, Watch};
@@ -120,7 +121,21 @@ impl<'a, L: ImageLayout, C: Watch> Verification<'a, L, C> {
             writer,
             errors,
         };
-        self.report_marker(buffer, &mut output)?;
+        let is_marked = self.report_marker(buffer, &mut output)?;
+        let is_sound = self.verify_contents(buffer, &mut output)?;
+        Ok(is_marked && is_sound)
+    }
+
+    /// The same of all that the index reaches.
+    fn verify_contents<W: Write, E: Write>(
+        &self,
+        buffer: &mut [u8],
+        output: &mut Output<'_, W, E>,
+    ) -> Result<bool>
+        requires { 0 < length buffer.old }
+        ensures { IfOk result (λ sound. IsTrue sound → self.now.options.now.quick ≡ false
+            → IsSoundIndex self.now.options.now.limit (L.tops self.now.layout.now) (L.contents self.now.layout.now)) }
+    {
         match read_top(
             self.layout,
             self.alloc,
@@ -130,15 +145,15 @@ impl<'a, L: ImageLayout, C: Watch> Verification<'a, L, C> {
         )? {
             Top::Bytes(index) => {
                 let index = index.as_slice();
-                self.verify_index(index, buffer, &mut output)
+                self.verify_index(index, buffer, output)
             }
             Top::TooLarge => {
                 output.add_fault("index.json", FileFault::TooLarge)?;
                 output.finish(0, 0)?;
                 Ok(false)
             }
-            Top::Missing => self.end_early("there is no index.json", &mut output),
-            Top::Unreadable => self.end_early("index.json cannot be read", &mut output),
+            Top::Missing => self.end_early("there is no index.json", output),
+            Top::Unreadable => self.end_early("index.json cannot be read", output),
         }
     }
 
@@ -154,13 +169,15 @@ impl<'a, L: ImageLayout, C: Watch> Verification<'a, L, C> {
         Err(no_index(text, self.alloc))
     }
 
-    /// Reports what is wrong with `oci-layout`.
+    /// Reports what is wrong with `oci-layout`, and whether it is a marker of version 1.0.0.
+    #[tactic(auto, using(oci_layout::proofs::Findings::marked_by))]
     fn report_marker<W: Write, E: Write>(
         &self,
         buffer: &mut [u8],
         output: &mut Output<'_, W, E>,
-    ) -> Result<()>
+    ) -> Result<bool>
         requires { 0 < length buffer.old }
+        ensures { IfOk result (λ right. IsTrue right → IsMarked (L.tops self.now.layout.now)) }
     {
         let marker = read_top(
             self.layout,
@@ -169,7 +186,9 @@ impl<'a, L: ImageLayout, C: Watch> Verification<'a, L, C> {
             self.options.limit,
             buffer,
         )?;
-        output.add("oci-layout", &marker_report(marker, self.alloc)?)
+        let Marked { report, is_right } = marker_report(marker, self.alloc)?;
+        output.add("oci-layout", &report)?;
+        Ok(is_right)
     }
 
     /// The same, from the bytes of `index.json` on.
@@ -181,7 +200,7 @@ impl<'a, L: ImageLayout, C: Watch> Verification<'a, L, C> {
     ) -> Result<bool>
         requires { 0 < length buffer.old }
         ensures { IfOk result (λ sound. IsTrue sound → self.now.options.now.quick ≡ false → (tops : Contents) → IsFileOf tops (codes "index.json") index.now
-            → IsSoundLayout self.now.options.now.limit tops (L.contents self.now.layout.now)) }
+            → IsSoundIndex self.now.options.now.limit tops (L.contents self.now.layout.now)) }
     {
         output.progress = self.totals(index, buffer)?;
         let Seen {

@@ -3,7 +3,7 @@ use Rattle.std.proofs.lemmas.Result.{IfOk-weaker}
 use Rattle.std.specs.Prelude.{codes, Bool, IfOk, IsTrue}
 use Rattle.oci_layout.specs.Sound.{IsFileOf, IsTop}
 use Rattle.oci_layout.proofs.Findings.{of_top}
-use Rattle.oci_commands.proofs.verify.program.Verification.verify.Goals as goal
+use Rattle.oci_commands.proofs.verify.program.Verification.verify_contents.Goals as goal
 
 -- what is never sound is nothing to answer for
 unsound : {E : Type 0} (r : Result Bool E) (Q : Type 0) → IfOk r (λ sound. sound ≡ false) → IfOk r (λ sound. IsTrue sound → Q)
