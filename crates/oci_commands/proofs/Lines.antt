@@ -1,11 +1,8 @@
 -- What is written of each item, one behind the other.
 use Rattle.std.proofs.Common.{◌≡◌, ◌<◌, ◌≤◌, ◌+◌, ℕ, suc, List, [], ◌∷◌, ◌++◌, Option, Some, None, length, take, get_or, refl, sym, ap, ◌∙◌, subst, arith}
-use Rattle.std.specs.Prelude.{IfSome, codes}
 use Rattle.std.specs.Io.KnownBytes.{Appends}
 use Rattle.std.proofs.lemmas.List.{append_assoc, append-nil, get_or_default, take_all}
-use Rattle.oci_content.specs.Content.{checksum_of, checksum_text}
 use Rattle.oci_content.specs.declared.algorithm.Algorithm.{Algorithm}
-use Rattle.oci_content.specs.declared.checksum.Checksum.{Checksum}
 use Rattle.oci_commands.specs.Done.{AppendsEach}
 use Rattle.std.specs.Borrow.{Bor}
 use Rattle.oci_doc_run.specs.Outputs.{WritesReference, WritesDigest, reference_lines, digest_lines}
@@ -38,6 +35,14 @@ module _ {A : Type 0} (Is : A → List ℕ → Type 0) where
       let step : i + 1 ≡ suc i = omega arith in
       let more : take (i + 1) xs ≡ take i xs ++ it ∷ [] = ap (λ n. take n xs) step ∙ one_more xs i it below (get_or_default xs i d it below) in
       subst (λ q. Joins Is q (text ++ last)) (sym more) (joins_last (take i xs) it text last before is)
+
+  -- the same of a text that grows
+  pub joined_more : (xs : List A) (i : ℕ) (x : A) (text last new : List ℕ) → i < length xs → x ≡ get_or xs i x → new ≡ text ++ last → Joins Is (take i xs) text → Is x last → Joins Is (take (i + 1) xs) new
+  joined_more xs i x text last new below same made before is =
+      subst (Joins Is (take (i + 1) xs)) (sym made) (joins_more xs i x text last below before (subst (λ y. Is y last) same is))
+
+  pub joined_all : (xs : List A) (i : ℕ) (text : List ℕ) → length xs ≤ i → Joins Is (take i xs) text → Joins Is xs text
+  joined_all xs i text over h = subst (λ q. Joins Is q text) (take_all i xs over) h
 
   -- nothing is written of no items
   pub appends_none : (xs : List A) (known : Option (List ℕ)) → AppendsEach Is (take 0 xs) known known

@@ -21,7 +21,8 @@ use oci_content::Algorithm;
 use oci_findings::Report;
 use oci_findings::examine::lost_members;
 use oci_findings::inspect::kind_of;
-use oci_findings::quick::{Found, Look, Wanted, look_at};
+use oci_findings::left_out::{LeftOut, left_out_by_value};
+use oci_findings::quick::{Found, Wanted, look_at};
 use oci_json::write_text;
 use oci_schema::bytes::{Workspace, normalize_bytes, normalize_pretty_bytes};
 use oci_schemas::{Kind, OciRecords};
@@ -180,20 +181,20 @@ impl<'a> Formatting<'a> {
         }
     }
 
-    /// The kind of the document, whether its canonical form has all its members, if that matters, and that form, if it was found out;
-    /// `None` if it holds no valid document, which is said on standard error.
+    /// The kind of the document, the members that its canonical form lacks and that form, if they were found out; `None` if it holds no
+    /// valid document, which is said on standard error.
     fn found_kind<E: Write>(
         &self,
         workspace: &mut Workspace,
         errors: &mut E,
     ) -> Result<Option<Found>>
-        ensures found { IfOk result (λ o. IfSome o (λ f. IsAsked self.now.asked.now.kind f.look.kind)) }
-        ensures text { IfOk result (λ o. IfSome o (λ f. IfSome f.text (λ t. IsForm self.now.asked.now.pretty f.look.kind self.now.bytes.now t.items))) }
+        ensures found { IfOk result (λ o. IfSome o (λ f. IsAsked self.now.asked.now.kind f.kind)) }
+        ensures text { IfOk result (λ o. IfSome o (λ f. IfSome f.text (λ t. IsForm self.now.asked.now.pretty f.kind self.now.bytes.now t.items))) }
         ensures none { IfOk result (λ o. o ≡ None → IsUnformatted self.now.asked.now self.now.bytes.now) }
     {
         let asked = self.asked;
         let wanted = Wanted {
-            members: !asked.quiet,
+            left_out: !asked.quiet,
             pretty: asked.pretty,
         };
         let found = look_at(
@@ -207,7 +208,7 @@ impl<'a> Formatting<'a> {
 
     /// The same by way of a value.
     fn kind_by_value<E: Write>(&self, errors: &mut E) -> Result<Option<Found>>
-        ensures found { IfOk result (λ o. IfSome o (λ f. IsAsked self.now.asked.now.kind f.look.kind)) }
+        ensures found { IfOk result (λ o. IfSome o (λ f. IsAsked self.now.asked.now.kind f.kind)) }
         ensures text { IfOk result (λ o. IfSome o (λ f. f.text ≡ None)) }
         ensures none { IfOk result (λ o. o ≡ None → IsUnformatted self.now.asked.now self.now.bytes.now) }
     {
@@ -219,10 +220,8 @@ impl<'a> Formatting<'a> {
         let value = Value::from_slice(self.alloc, self.bytes)?;
         match kind_of(asked.kind, asked.file, &value) {
             Some(kind) => Ok(Some(Found {
-                look: Look {
-                    kind,
-                    is_whole: false,
-                },
+                kind,
+                left_out: None,
                 text: None,
             })),
             None => Ok(None),
@@ -238,19 +237,23 @@ impl<'a> Formatting<'a> {
         writer: &mut W,
         errors: &mut E,
     ) -> Result<u8>
-        requires { IfSome found.text (λ t. IsForm self.now.asked.now.pretty found.look.kind self.now.bytes.now t.items) }
+        requires { IfSome found.text (λ t. IsForm self.now.asked.now.pretty found.kind self.now.bytes.now t.items) }
         ensures status { IfOk result IsStatus }
         ensures untouched { self.now.asked.now.check ≡ true → Keeps (W.contents writer.old) (W.contents writer.new) × (S.holds store.new ≡ S.holds store.old) }
-        ensures canonical { IfOk result (λ s. s ≡ 0 → self.now.asked.now.check ≡ true → Formats (Some found.look.kind) self.now.asked.now.pretty (Some self.now.bytes.now) (λ t. t ≡ self.now.bytes.now)) }
-        ensures written { IfOk result (λ s. s ≡ 0 → self.now.asked.now.check ≡ false → self.now.asked.now.output ≡ None → Formats (Some found.look.kind) self.now.asked.now.pretty (Some self.now.bytes.now) (Appends (W.contents writer.old) (W.contents writer.new))) }
-        ensures kept { IfOk result (λ s. s ≡ 0 → self.now.asked.now.check ≡ false → IsSome self.now.asked.now.output → self.now.asked.now.drop_unknown ≡ false → KeepsAll found.look.kind self.now.bytes.now) }
-        ensures refused { IfOk result (λ s. s ≡ 1 → IsUnformattedAs found.look.kind self.now.asked.now self.now.bytes.now) }
+        ensures canonical { IfOk result (λ s. s ≡ 0 → self.now.asked.now.check ≡ true → Formats (Some found.kind) self.now.asked.now.pretty (Some self.now.bytes.now) (λ t. t ≡ self.now.bytes.now)) }
+        ensures written { IfOk result (λ s. s ≡ 0 → self.now.asked.now.check ≡ false → self.now.asked.now.output ≡ None → Formats (Some found.kind) self.now.asked.now.pretty (Some self.now.bytes.now) (Appends (W.contents writer.old) (W.contents writer.new))) }
+        ensures kept { IfOk result (λ s. s ≡ 0 → self.now.asked.now.check ≡ false → IsSome self.now.asked.now.output → self.now.asked.now.drop_unknown ≡ false → KeepsAll found.kind self.now.bytes.now) }
+        ensures refused { IfOk result (λ s. s ≡ 1 → IsUnformattedAs found.kind self.now.asked.now self.now.bytes.now) }
     {
-        let Found { look, text } = found;
-        match self.canonical_form(look.kind, text, workspace) {
-            Ok(text) => self.finish(look, text.as_slice(), store, writer, errors),
+        let Found {
+            kind,
+            left_out,
+            text,
+        } = found;
+        match self.canonical_form(kind, text, workspace) {
+            Ok(text) => self.finish(kind, left_out, text.as_slice(), store, writer, errors),
             Err(OciSpecError::SerDe(_)) => {
-                self.say_no_form(look.kind, errors)?;
+                self.say_no_form(kind, errors)?;
                 Ok(1)
             }
             Err(error) => Err(error),
@@ -288,7 +291,8 @@ impl<'a> Formatting<'a> {
     /// Puts the text where it belongs, if no member is lost unasked.
     fn finish<S: Files, W: Write, E: Write>(
         &self,
-        found: Look,
+        kind: Kind,
+        left_out: Option<Vec<LeftOut>>,
         text: &[u8],
         store: &mut S,
         writer: &mut W,
@@ -298,14 +302,14 @@ impl<'a> Formatting<'a> {
         ensures untouched { self.now.asked.now.check ≡ true → Keeps (W.contents writer.old) (W.contents writer.new) × (S.holds store.new ≡ S.holds store.old) }
         ensures same { IfOk result (λ s. s ≡ 0 → self.now.asked.now.check ≡ true → text.now ≡ self.now.bytes.now) }
         ensures written { IfOk result (λ s. s ≡ 0 → self.now.asked.now.check ≡ false → self.now.asked.now.output ≡ None → Appends (W.contents writer.old) (W.contents writer.new) text.now) }
-        ensures kept { IfOk result (λ s. s ≡ 0 → self.now.asked.now.check ≡ false → IsSome self.now.asked.now.output → self.now.asked.now.drop_unknown ≡ false → KeepsAll found.kind self.now.bytes.now) }
-        ensures refused { IfOk result (λ s. s ≡ 1 → WouldLose found.kind self.now.asked.now self.now.bytes.now ⊎ ((self.now.asked.now.check ≡ true) × (text.now ≢ self.now.bytes.now))) }
+        ensures kept { IfOk result (λ s. s ≡ 0 → self.now.asked.now.check ≡ false → IsSome self.now.asked.now.output → self.now.asked.now.drop_unknown ≡ false → KeepsAll kind self.now.bytes.now) }
+        ensures refused { IfOk result (λ s. s ≡ 1 → WouldLose kind self.now.asked.now self.now.bytes.now ⊎ ((self.now.asked.now.check ≡ true) × (text.now ≢ self.now.bytes.now))) }
     {
-        let loses = self.would_lose(found.kind, errors)?;
+        let loses = self.would_lose(kind, errors)?;
         if loses {
             return Ok(1);
         }
-        self.say_what_changes(found, text, errors)?;
+        self.say_what_changes(kind, left_out, text, errors)?;
         self.put(text, store, writer, errors)
     }
 
@@ -330,16 +334,36 @@ impl<'a> Formatting<'a> {
         Ok(true)
     }
 
-    /// Says which members are left out or repeated, and the digests before and after, where that is asked for.
-    fn say_what_changes<E: Write>(&self, found: Look, text: &[u8], errors: &mut E) -> Result<()> {
-        if !self.asked.quiet && !found.is_whole {
-            say_left_out(found.kind, self.bytes, text, self.alloc, errors)?;
+    /// Says which members are left out, renamed or repeated, and the digests before and after, where that is asked for.
+    fn say_what_changes<E: Write>(
+        &self,
+        kind: Kind,
+        left_out: Option<Vec<LeftOut>>,
+        text: &[u8],
+        errors: &mut E,
+    ) -> Result<()> {
+        if !self.asked.quiet {
+            self.say_members(kind, left_out, errors)?;
         }
         if self.asked.verbose {
             self.say_digest("before: ", self.bytes, errors)?;
             self.say_digest("after:  ", text, errors)?;
         }
         Ok(())
+    }
+
+    /// Says which members are left out, renamed or repeated: those that were found out, or else by way of a value.
+    fn say_members<E: Write>(
+        &self,
+        kind: Kind,
+        left_out: Option<Vec<LeftOut>>,
+        errors: &mut E,
+    ) -> Result<()> {
+        let found = match left_out {
+            Some(found) => found,
+            None => left_out_by_value(kind, self.bytes, self.alloc)?,
+        };
+        say_left_out(&found, self.alloc, errors)
     }
 
     /// Says the digest of the file before or after.

@@ -4,6 +4,7 @@ pub mod Files
 pub mod Findings
 pub mod Forms
 pub mod Kinds
+pub mod LeftOut
 pub mod Lines
 pub mod Reports
 pub mod Wording

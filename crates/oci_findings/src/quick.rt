@@ -11,16 +11,13 @@ ghost use Rattle.oci_findings.specs.declared.asked.Unknown.TheVariants.{Allow};
 
 use crate::asked::{Check, Unknown};
 use crate::inspect::kind_of;
-use crate::keeps::keeps_all;
+use crate::left_out::{LeftOut, left_out};
 use json::Tape;
 use oci_json_tape::open_strict;
 use oci_schema::bytes::{Workspace, is_accepted_tape, normal_text_of, pretty_text_of};
 use oci_schemas::{Kind, OciRecords};
 use simdutf8::compat::from_utf8;
 use std::alloc::Global;
-
-/// How deep records nest at most.
-const DEPTH: usize = 16;
 
 /// Whether the bytes are a document of the kind that is asked for, or of the one that is found out by its file name and members, where
 /// nothing but its schema is checked, and no name stands twice in an object; `false` if that was not found out.
@@ -48,32 +45,25 @@ pub fn is_right(
 /// What is asked of a document beside its kind.
 #[derive(Clone, Copy)]
 pub struct Wanted {
-    /// Whether its canonical form has all its members.
-    pub members: bool,
+    /// Which members its canonical form lacks.
+    pub left_out: bool,
     /// Whether that form is indented.
     pub pretty: bool,
-}
-
-/// What a document is found out to be.
-#[derive(Clone, Copy)]
-pub struct Look {
-    /// Its kind.
-    pub kind: Kind,
-    /// Whether its canonical form has all its members, each under its own name; `false` also if that was not found out.
-    pub is_whole: bool,
 }
 
 /// What is found out about a document from a tape of its text.
 #[derive(Drop)]
 pub struct Found {
     /// What it is.
-    pub look: Look,
+    pub kind: Kind,
+    /// The members that its canonical form lacks, if that was found out.
+    pub left_out: Option<Vec<LeftOut>>,
     /// Its canonical form, if that was found out.
     pub text: Option<Vec<u8>>,
 }
 
-/// The kind that is asked for, or that a document is found out to be by its file name and members, whether the canonical form has all
-/// its members, if that is wanted, and that text. `None` if a name stands twice in an object, or if the kind was not found out.
+/// The kind that is asked for, or that a document is found out to be by its file name and members, the members that its canonical
+/// form lacks, if that is wanted, and that text. `None` if a name stands twice in an object, or if the kind was not found out.
 pub fn look_at(
     asked: Option<Kind>,
     name: &str,
@@ -82,16 +72,21 @@ pub fn look_at(
     workspace: &mut Workspace,
     alloc: Global,
 ) -> Option<Found>
-    ensures kind { IfSome result (λ f. IsAsked asked f.look.kind) }
-    ensures text { IfSome result (λ f. IfSome f.text (λ t. IsForm wanted.pretty f.look.kind bytes.now t.items)) }
+    ensures kind { IfSome result (λ f. IsAsked asked f.kind) }
+    ensures text { IfSome result (λ f. IfSome f.text (λ t. IsForm wanted.pretty f.kind bytes.now t.items)) }
 {
     let tape = opened(bytes, workspace, alloc)?;
     let root = tape.root();
     let kind = kind_of(asked, name, &root)?;
-    let is_whole = wanted.members && keeps_all(kind.schema(), &root, DEPTH);
+    let left_out = if wanted.left_out {
+        left_out(kind, &root, alloc).ok()
+    } else {
+        None
+    };
     let text = form(kind, bytes, &tape, wanted.pretty, alloc);
     Some(Found {
-        look: Look { kind, is_whole },
+        kind,
+        left_out,
         text,
     })
 }

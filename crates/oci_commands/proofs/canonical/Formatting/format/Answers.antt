@@ -9,30 +9,30 @@ use Rattle.oci_commands.proofs.canonical.Formatting.format.Goals as goal
 pub returns-in-Some-clause-canonical : goal.returns-in-Some-clause-canonical
 returns-in-Some-clause-canonical g c =
     let a = c.args.self.now.asked.now in
-    let fits : IsAsked a.kind c.in-Some.found.look.kind = search rules in
+    let fits : IsAsked a.kind c.in-Some.found.kind = search rules in
     IfOk-weaker c.format_as.result _ _
-    (λ s made zero checks. formats_asked a.kind c.in-Some.found.look.kind a.pretty (Some c.args.self.now.bytes.now) (λ t. t ≡ c.args.self.now.bytes.now) (λ t. t ≡ c.args.self.now.bytes.now) fits (λ t h. h) (made zero checks))
+    (λ s made zero checks. formats_asked a.kind c.in-Some.found.kind a.pretty (Some c.args.self.now.bytes.now) (λ t. t ≡ c.args.self.now.bytes.now) (λ t. t ≡ c.args.self.now.bytes.now) fits (λ t h. h) (made zero checks))
     c.format_as.ensures.canonical
 
 pub returns-in-Some-clause-written : goal.returns-in-Some-clause-written
 returns-in-Some-clause-written g c =
     let a = c.args.self.now.asked.now in
-    let fits : IsAsked a.kind c.in-Some.found.look.kind = search rules in
+    let fits : IsAsked a.kind c.in-Some.found.kind = search rules in
     let wrote = Appends (g.W.Write.contents c.args.writer.now) (g.W.Write.contents c.format_as.new.writer) in
     IfOk-weaker c.format_as.result _ _
-    (λ s made zero checks none. formats_asked a.kind c.in-Some.found.look.kind a.pretty (Some c.args.self.now.bytes.now) wrote wrote fits (λ t h. h) (made zero checks none))
+    (λ s made zero checks none. formats_asked a.kind c.in-Some.found.kind a.pretty (Some c.args.self.now.bytes.now) wrote wrote fits (λ t h. h) (made zero checks none))
     c.format_as.ensures.written
 
 pub returns-in-Some-clause-refused : goal.returns-in-Some-clause-refused
 returns-in-Some-clause-refused g c =
-    let fits : IsAsked c.args.self.now.asked.now.kind c.in-Some.found.look.kind = search rules in
+    let fits : IsAsked c.args.self.now.asked.now.kind c.in-Some.found.kind = search rules in
     IfOk-weaker c.format_as.result _ _
-    (λ s refused one. unformatted_asked c.args.self.now.asked.now c.in-Some.found.look.kind c.args.self.now.bytes.now fits (refused one))
+    (λ s refused one. unformatted_asked c.args.self.now.asked.now c.in-Some.found.kind c.args.self.now.bytes.now fits (refused one))
     c.format_as.ensures.refused
 
 pub returns-in-Some-clause-kept : goal.returns-in-Some-clause-kept
 returns-in-Some-clause-kept g c =
-    let fits : IsAsked c.args.self.now.asked.now.kind c.in-Some.found.look.kind = search rules in
+    let fits : IsAsked c.args.self.now.asked.now.kind c.in-Some.found.kind = search rules in
     IfOk-weaker c.format_as.result _ _
-    (λ s keeps zero checks file unasked. (c.in-Some.found.look.kind, fits, keeps zero checks file unasked))
+    (λ s keeps zero checks file unasked. (c.in-Some.found.kind, fits, keeps zero checks file unasked))
     c.format_as.ensures.kept

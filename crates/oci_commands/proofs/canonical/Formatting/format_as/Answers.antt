@@ -8,7 +8,7 @@ use Rattle.oci_commands.proofs.canonical.Formatting.format_as.Goals as goal
 
 pub returns-in-Ok-clause-canonical : goal.returns-in-Ok-clause-canonical
 returns-in-Ok-clause-canonical g c =
-    let kind = c.args.found.look.kind in
+    let kind = c.args.found.kind in
     let text = c.in-Ok.text.items in
     IfOk-weaker c.finish.result _ _
     (λ s same zero checks. formats_asked (Some kind) kind c.args.self.now.asked.now.pretty (Some c.args.self.now.bytes.now) (λ t. t ≡ text) (λ t. t ≡ c.args.self.now.bytes.now) refl
@@ -17,7 +17,7 @@ returns-in-Ok-clause-canonical g c =
 
 pub returns-in-Ok-clause-written : goal.returns-in-Ok-clause-written
 returns-in-Ok-clause-written g c =
-    let kind = c.args.found.look.kind in
+    let kind = c.args.found.kind in
     let text = c.in-Ok.text.items in
     let old = g.W.Write.contents c.args.writer.now in
     let new = g.W.Write.contents c.finish.new.writer in
@@ -28,7 +28,7 @@ returns-in-Ok-clause-written g c =
 
 pub returns-in-Ok-clause-refused : goal.returns-in-Ok-clause-refused
 returns-in-Ok-clause-refused g c =
-    let kind = c.args.found.look.kind in
+    let kind = c.args.found.kind in
     let text = c.in-Ok.text.items in
     IfOk-weaker c.finish.result _ _
     (λ s differs one. elim (differs one) [
