@@ -1,14 +1,12 @@
 -- Bytes without a canonical form, and text that is none.
-use Rattle.std.specs.Prelude.{IfErr, IfSome}
-use Rattle.std.proofs.Common.{◌≡◌, ◌≢◌, Result, Ok, Err, ℕ, List, false, Option, Some, None, inl, inr, sym, ap, ◌∙◌, subst}
+use Rattle.std.specs.Prelude.{IfErr}
+use Rattle.std.proofs.Common.{◌≡◌, ◌≢◌, Result, Ok, Err, ℕ, List, false, Some, None, inl, inr, sym, ◌∙◌, subst}
 use Rattle.serde_json.specs.Data.{Data}
 use Rattle.serde_json.specs.Read.{read}
 use Rattle.oci_model.specs.Plain.{Plain}
 use Rattle.oci_model.specs.Shape.{Shape}
 use Rattle.oci_model.specs.Means.{Means}
-use Rattle.oci_model.specs.Value.{value}
 use Rattle.oci_model.specs.Writable.{Writable}
-use Rattle.serde_json.specs.Written.{compact_text}
 use Rattle.oci_model.specs.Refused.{IsRefused}
 use Rattle.oci_json.specs.Engines.{IsNoJson, IsNotNormalized, MeansBytes}
 use Rattle.oci_json.proofs.OneMeaning.{one_meaning}
@@ -19,9 +17,9 @@ use Rattle.oci_base.specs.Refused.{IsJson, IsSchema}
 use Rattle.oci_base.specs.declared.error.OciSpecError.{OciSpecError}
 use Rattle.oci_base.specs.declared.error.OciSpecError.TheVariants as error
 use Rattle.oci_base.specs.declared.error.SerDeError.TheVariants as serde
-use Rattle.oci_findings.specs.Checks.{IsAsked}
+use Rattle.oci_findings.specs.Checks.{IsAllowed, IsKindIn}
 use Rattle.oci_commands.specs.declared.asked.Format.{Format}
-use Rattle.oci_commands.specs.Formats.{Formats, HasNoForm, IsNotCompact, IsSerDe, IsUnformatted, IsUnformattedAs}
+use Rattle.oci_commands.specs.Formats.{FormatsAs, HasNoForm, IsNotCompact, IsSerDe, IsUnformatted, IsUnformattedAs}
 
 refuses : (s : Shape) (d : Data) → IsRefused s d → (p : Plain) → ¬ Means s d p
 unfolding IsRefused
@@ -54,25 +52,12 @@ no_form_of (Ok x) kind bytes json schema = tt
 no_form_of (Err e) kind bytes json schema = no_form kind bytes e json schema
 
 -- the bytes differ from the text of their document, so they are the text of none
-pub not_compact : (kind : Kind) (bytes text : List ℕ) → Formats (Some kind) false (Some bytes) (λ t. t ≡ text) → text ≢ bytes → IsNotCompact kind bytes
-not_compact kind bytes text (k, same, (p, means, is)) differs (l, also, (q, other, are)) =
-    let one : k ≡ l = sym same ∙ also in
-    differs (sym is ∙ same_text (shape_of k) bytes p q means (subst (λ x. MeansBytes (shape_of x) bytes q) (sym one) other)
-    ∙ ap (λ x. compact_text (value (shape_of x) q)) one ∙ are)
+pub not_compact : (kind : Kind) (bytes text : List ℕ) → FormatsAs kind false (Some bytes) (λ t. t ≡ text) → text ≢ bytes → IsNotCompact kind bytes
+not_compact kind bytes text (p, means, is) differs (q, other, are) = differs (sym is ∙ same_text (shape_of kind) bytes p q means other ∙ are)
 
-unformatted_if : (asked : Option Kind) (a : Format) (kind : Kind) (bytes : List ℕ) → IsAsked asked kind → IsUnformattedAs kind a bytes → IfSome asked (λ k. IsUnformattedAs k a bytes)
-unformatted_if None a kind bytes fits h = tt
-unformatted_if (Some k) a kind bytes fits h = subst (λ x. IsUnformattedAs x a bytes) (sym fits) h
+-- what is not accepted as a document of its kind
+pub unformatted_as : (a : Format) (kind : Kind) (bytes : List ℕ) → IsKindIn a.kind a.file.now (Some bytes) kind → IsUnformattedAs kind a bytes → IsUnformatted a bytes
+unformatted_as a kind bytes fits h = inr (kind, fits, h)
 
--- what is not accepted as a document of the kind that was found is not, of the one that is asked for
-pub unformatted_asked : (a : Format) (kind : Kind) (bytes : List ℕ) → IsAsked a.kind kind → IsUnformattedAs kind a bytes → IsUnformatted a bytes
-unformatted_asked a kind bytes fits h = unformatted_if a.kind a kind bytes fits h
-
-listed_if : (asked : Option Kind) (a : Format) (bytes : List ℕ) (Clean : Type 0) → IfSome asked (λ k. (p : Plain) → MeansBytes (shape_of k) bytes p → Clean) → ¬ Clean
-    → IfSome asked (λ k. IsUnformattedAs k a bytes)
-listed_if None a bytes Clean all not = tt
-listed_if (Some k) a bytes Clean all not = inl (inl (λ p means w. not (all p means)))
-
--- where something is listed that is not listed of a document
-pub unformatted_listed : (a : Format) (bytes : List ℕ) (Clean : Type 0) → IfSome a.kind (λ k. (p : Plain) → MeansBytes (shape_of k) bytes p → Clean) → ¬ Clean → IsUnformatted a bytes
-unformatted_listed a bytes Clean all not = listed_if a.kind a bytes Clean all not
+pub unformatted_wrong : (a : Format) (bytes : List ℕ) → ¬ IsAllowed a.kind a.file.now bytes → IsUnformatted a bytes
+unformatted_wrong a bytes wrong = inl wrong

@@ -2,15 +2,15 @@
 use Rattle.std.proofs.Common.{◌≡◌, ◌⊎◌, ◌++◌, ◌∙◌, [], inl, inr, ℕ, List, Bool, true, false, Option, Some, None, Result, Ok, Err, ap, refl, sym, subst}
 use Rattle.std.specs.Prelude.{IfSome, OnOk}
 use Rattle.oci_model.specs.Shape.{Shape}
-use Rattle.oci_json.specs.Engines.{MeansBytes, WritesDocument}
-use Rattle.oci_model.specs.Plain.{Plain}
+use Rattle.oci_json.specs.Engines.{WritesDocument}
 use Rattle.oci_schema.specs.Normalizes.{WritesPretty}
 use Rattle.oci_schemas.specs.declared.kind.Kind.{Kind}
 use Rattle.oci_schemas.specs.Kinds.{shape_of}
 use Rattle.oci_doc_run.specs.Outputs.{WritesPinned}
-use Rattle.oci_findings.specs.Checks.{IsAsked}
+use Rattle.oci_findings.specs.Checks.{IsKindIn}
+use Rattle.oci_findings.proofs.Allowed.{kind_held}
 use Rattle.oci_findings.specs.Forms.{IsForm}
-use Rattle.oci_commands.specs.Formats.{Formats}
+use Rattle.oci_commands.specs.Formats.{Formats, FormatsAs}
 
 -- what holds of the bytes that were read
 pub held : (P : List ℕ → Type 0) (known : Option (List ℕ)) (bytes : List ℕ) → IfSome known (λ b. bytes ≡ b) → P bytes → IfSome known P
@@ -40,15 +40,18 @@ pub pretty_made : (s : Shape) (bytes old new : List ℕ) → WritesPretty s (Som
 pretty_made s bytes old new h e = pretty_written s (Some bytes) (λ t. new ≡ old ++ t) (λ t. t ≡ new) (λ t is. sym (is ∙ ap (λ q. q ++ t) e)) h
 
 -- a form that was found out is one that is written
-pub form_made : (pretty : Bool) (kind : Kind) (bytes text : List ℕ) → IsForm pretty kind bytes text → Formats (Some kind) pretty (Some bytes) (λ t. t ≡ text)
-form_made false kind bytes text h = let (p, means, is, back) = h in (kind, refl, (p, means, sym is))
-form_made true kind bytes text h = let (p, means, is) = h in (kind, refl, (p, means, (text, is, refl)))
+pub form_made : (pretty : Bool) (kind : Kind) (bytes text : List ℕ) → IsForm pretty kind bytes text → FormatsAs kind pretty (Some bytes) (λ t. t ≡ text)
+form_made false kind bytes text h = let (p, means, is, back) = h in (p, means, sym is)
+form_made true kind bytes text h = let (p, means, is) = h in (p, means, (text, is, refl))
 
--- the canonical form of the kind that was found is that of the kind that was asked for
-pub formats_asked : (asked : Option Kind) (kind : Kind) (pretty : Bool) (input : Option (List ℕ)) (W V : List ℕ → Type 0) → IsAsked asked kind → ((t : List ℕ) → W t → V t) → Formats (Some kind) pretty input W
-    → Formats asked pretty input V
-formats_asked asked kind false input W V fits f h = let (k, same, writes) = h in (k, subst (IsAsked asked) same fits, document_written (shape_of k) input W V f writes)
-formats_asked asked kind true input W V fits f h = let (k, same, writes) = h in (k, subst (IsAsked asked) same fits, pretty_written (shape_of k) input W V f writes)
+pub as_written : (kind : Kind) (pretty : Bool) (input : Option (List ℕ)) (W V : List ℕ → Type 0) → ((t : List ℕ) → W t → V t) → FormatsAs kind pretty input W → FormatsAs kind pretty input V
+as_written kind false input W V f h = document_written (shape_of kind) input W V f h
+as_written kind true input W V f h = pretty_written (shape_of kind) input W V f h
+
+-- the canonical form of the kind that was found is that of the document
+pub formats_asked : (asked : Option Kind) (name : List ℕ) (kind : Kind) (pretty : Bool) (input : Option (List ℕ)) (W : List ℕ → Type 0) → IsKindIn asked name input kind → FormatsAs kind pretty input W
+    → Formats asked name pretty input W
+formats_asked asked name kind pretty input W fits h = (kind, fits, h)
 
 document_held : (s : Shape) (known : Option (List ℕ)) (bytes : List ℕ) (Writes : List ℕ → Type 0) → IfSome known (λ b. bytes ≡ b) → WritesDocument s (Some bytes) Writes → WritesDocument s known Writes
 document_held s None bytes Writes is h = let (p, means, wrote) = h in (p, tt, wrote)
@@ -58,10 +61,13 @@ pretty_held : (s : Shape) (known : Option (List ℕ)) (bytes : List ℕ) (Writes
 pretty_held s None bytes Writes is h = let (p, means, wrote) = h in (p, tt, wrote)
 pretty_held s (Some b) bytes Writes is h = subst (λ x. WritesPretty s (Some x) Writes) is h
 
-pub formats_held : (asked : Option Kind) (pretty : Bool) (known : Option (List ℕ)) (bytes : List ℕ) (Writes : List ℕ → Type 0) → IfSome known (λ b. bytes ≡ b)
-    → Formats asked pretty (Some bytes) Writes → Formats asked pretty known Writes
-formats_held asked false known bytes Writes is h = let (kind, fits, writes) = h in (kind, fits, document_held (shape_of kind) known bytes Writes is writes)
-formats_held asked true known bytes Writes is h = let (kind, fits, writes) = h in (kind, fits, pretty_held (shape_of kind) known bytes Writes is writes)
+as_held : (kind : Kind) (pretty : Bool) (known : Option (List ℕ)) (bytes : List ℕ) (Writes : List ℕ → Type 0) → IfSome known (λ b. bytes ≡ b) → FormatsAs kind pretty (Some bytes) Writes → FormatsAs kind pretty known Writes
+as_held kind false known bytes Writes is h = document_held (shape_of kind) known bytes Writes is h
+as_held kind true known bytes Writes is h = pretty_held (shape_of kind) known bytes Writes is h
+
+pub formats_held : (asked : Option Kind) (name : List ℕ) (pretty : Bool) (known : Option (List ℕ)) (bytes : List ℕ) (Writes : List ℕ → Type 0) → IfSome known (λ b. bytes ≡ b)
+    → Formats asked name pretty (Some bytes) Writes → Formats asked name pretty known Writes
+formats_held asked name pretty known bytes Writes is h = let (kind, fits, writes) = h in (kind, kind_held asked name known bytes kind is fits, as_held kind pretty known bytes Writes is writes)
 
 pub pinned_held : (text : List ℕ) (known : Option (List ℕ)) (bytes : List ℕ) (Writes : List ℕ → Type 0) → IfSome known (λ b. bytes ≡ b) → WritesPinned text (Some bytes) Writes → WritesPinned text known Writes
 pinned_held text None bytes Writes is h = let (parts, d, accepted, means, wrote) = h in (parts, d, accepted, tt, wrote)
@@ -71,9 +77,3 @@ pinned_held text (Some b) bytes Writes is h = subst (λ x. WritesPinned text (So
 pub fault_held : (N : Type 0) (P : List ℕ → Type 0) (known : Option (List ℕ)) (bytes : List ℕ) → IfSome known (λ b. bytes ≡ b) → N ⊎ P bytes → N ⊎ IfSome known P
 fault_held N P known bytes is (inl none) = inl none
 fault_held N P known bytes is (inr h) = inr (held P known bytes is h)
-
--- bytes in which something is wrong mean nothing
-pub none_meant : (Clean : Type 0) (kind : Option Kind) (bytes : List ℕ) → IfSome kind (λ k. (p : Plain) → MeansBytes (shape_of k) bytes p → Clean) → ¬ Clean
-    → IfSome kind (λ k. (p : Plain) → ¬ MeansBytes (shape_of k) bytes p)
-none_meant Clean None bytes all wrong = tt
-none_meant Clean (Some k) bytes all wrong = λ p means. wrong (all p means)

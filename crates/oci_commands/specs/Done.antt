@@ -33,14 +33,14 @@ WroteReferences Sarif texts old new = AppendsEach AreReferenceLines texts old ne
 -- after status 0, where `books` are the rules of the specifications by kinds, `holds` are the bytes of files, and `old` and `new` is what was written before and after, where they are known
 abbrev pub IsDone : (Kind → List Rule) → (List ℕ → Option (List ℕ)) → Option (List ℕ) → Option (List ℕ) → Asked → Type 0
 -- nothing is wrong with any file
-IsDone books holds old new (Check a) = All (λ f. IfSome (holds f.now) (IsRight books a)) a.files.now
+IsDone books holds old new (Check a) = All (λ f. IfSome (holds f.now) (IsRight books a f.now)) a.files.now
 -- the file is canonical, or its canonical form was written; into a file only if no member is left out of it, unknown or before another of its name, or that was asked for
 IsDone books holds old new (Format a) =
-    (a.check ≡ true → IfSome (holds a.file.now) (λ bytes. Formats a.kind a.pretty (Some bytes) (λ text. text ≡ bytes)))
-    × (a.check ≡ false → a.output ≡ None → Formats a.kind a.pretty (holds a.file.now) (Appends old new))
-    × (a.check ≡ false → IsSome a.output → a.drop_unknown ≡ false → IfSome (holds a.file.now) (LosesNothing a.kind))
+    (a.check ≡ true → IfSome (holds a.file.now) (λ bytes. Formats a.kind a.file.now a.pretty (Some bytes) (λ text. text ≡ bytes)))
+    × (a.check ≡ false → a.output ≡ None → Formats a.kind a.file.now a.pretty (holds a.file.now) (Appends old new))
+    × (a.check ≡ false → IsSome a.output → a.drop_unknown ≡ false → IfSome (holds a.file.now) (LosesNothing a.kind a.file.now))
 -- the two files hold the same document
-IsDone books holds old new (Compare a) = HoldSame a.kind (holds a.before.now) (holds a.after.now)
+IsDone books holds old new (Compare a) = HoldSame a.kind a.before.now (holds a.before.now) a.after.now (holds a.after.now)
 -- each text is a reference, or a digest, and its parts were written
 IsDone books holds old new (Reference style texts) = WroteReferences style texts.now old new
 IsDone books holds old new (Digest texts) = AppendsEach AreDigestLines texts.now old new
@@ -55,11 +55,11 @@ IsDone books holds old new (Schema kind) = ⊤
 -- after status 1
 abbrev pub IsRejected : (Kind → List Rule) → (List ℕ → Option (List ℕ)) → Asked → Type 0
 -- something is wrong with one of the files
-IsRejected books holds (Check a) = (i : ℕ) × (i < length a.files.now) × HoldsAt (λ f. IfSome (holds f.now) (IsWrong books a)) a.files.now i
+IsRejected books holds (Check a) = (i : ℕ) × (i < length a.files.now) × HoldsAt (λ f. IfSome (holds f.now) (IsWrong books a f.now)) a.files.now i
 -- the file has no canonical form, or is not that
 IsRejected books holds (Format a) = IfSome (holds a.file.now) (IsUnformatted a)
--- one of the files holds no document of the kind, or the two hold other ones
-IsRejected books holds (Compare a) = HoldUnequal a.kind (holds a.before.now) (holds a.after.now)
+-- one of the files holds no document of the kind, or the two hold other ones, or of two kinds
+IsRejected books holds (Compare a) = HoldUnequal a.kind a.before.now (holds a.before.now) a.after.now (holds a.after.now)
 -- one of the texts is no reference, or no digest
 IsRejected books holds (Reference style texts) = HasNone IsNoReference texts.now
 IsRejected books holds (Digest texts) = HasNone IsNoDigest texts.now

@@ -1,5 +1,5 @@
 -- What `fmt` writes, and what it does not accept.
-use Rattle.std.specs.Prelude.{◌≡◌, ◌⊎◌, ⊤, ℕ, List, Bool, true, false, Option, Some, IsSome, IfSome}
+use Rattle.std.specs.Prelude.{◌≡◌, ◌⊎◌, ⊤, ℕ, List, Bool, true, false, Option, Some, IsSome}
 use Rattle.serde_json.specs.Data.{Data}
 use Rattle.oci_model.specs.Plain.{Plain}
 use Rattle.oci_model.specs.Writable.{Writable}
@@ -7,15 +7,19 @@ use Rattle.oci_json.specs.Engines.{MeansBytes, ReadsAs, WritesDocument}
 use Rattle.oci_schema.specs.Normalizes.{WritesPretty}
 use Rattle.oci_schemas.specs.declared.kind.Kind.{Kind}
 use Rattle.oci_schemas.specs.Kinds.{shape_of}
-use Rattle.oci_findings.specs.Checks.{AllKept, IsAsked}
+use Rattle.oci_findings.specs.Checks.{AllKept, IsAllowed, IsKindIn}
 use Rattle.oci_base.specs.declared.error.OciSpecError.{OciSpecError}
 use Rattle.oci_base.specs.declared.error.OciSpecError.TheVariants.{SerDe}
 use Rattle.oci_commands.specs.declared.asked.Format.{Format}
 
--- the canonical text of the document in the input, compact or indented, is written
-abbrev pub Formats : Option Kind → Bool → Option (List ℕ) → (List ℕ → Type 0) → Type 0
-Formats asked false input Writes = (kind : Kind) × IsAsked asked kind × WritesDocument (shape_of kind) input Writes
-Formats asked true input Writes = (kind : Kind) × IsAsked asked kind × WritesPretty (shape_of kind) input Writes
+-- the canonical text of the document of this kind in the input is written, compact or indented
+abbrev pub FormatsAs : Kind → Bool → Option (List ℕ) → (List ℕ → Type 0) → Type 0
+FormatsAs kind false input Writes = WritesDocument (shape_of kind) input Writes
+FormatsAs kind true input Writes = WritesPretty (shape_of kind) input Writes
+
+-- the same of a file of this name, whose kind is the one that is asked for, or the one that is found
+abbrev pub Formats : Option Kind → List ℕ → Bool → Option (List ℕ) → (List ℕ → Type 0) → Type 0
+Formats asked name pretty input Writes = (kind : Kind) × IsKindIn asked name input kind × FormatsAs kind pretty input Writes
 
 -- the bytes hold no document of the kind that has a canonical form
 abbrev pub HasNoForm : Kind → List ℕ → Type 0
@@ -28,15 +32,15 @@ IsSerDe _ = ⊥
 
 -- they are not the compact text of such a document
 abbrev pub IsNotCompact : Kind → List ℕ → Type 0
-IsNotCompact kind bytes = ¬ Formats (Some kind) false (Some bytes) (λ text. text ≡ bytes)
+IsNotCompact kind bytes = ¬ FormatsAs kind false (Some bytes) (λ text. text ≡ bytes)
 
 -- all members of the document in the bytes are in its canonical form
 abbrev pub KeepsAll : Kind → List ℕ → Type 0
 KeepsAll kind bytes = (d : Data) × ReadsAs bytes d × AllKept kind d bytes
 
--- the same of the kind that is asked for, or of some kind where none is
-abbrev pub LosesNothing : Option Kind → List ℕ → Type 0
-LosesNothing asked bytes = (kind : Kind) × IsAsked asked kind × KeepsAll kind bytes
+-- the same of the kind that is asked for, or of the one that is found
+abbrev pub LosesNothing : Option Kind → List ℕ → List ℕ → Type 0
+LosesNothing asked name bytes = (kind : Kind) × IsKindIn asked name (Some bytes) kind × KeepsAll kind bytes
 
 -- a file was to be written, and members were to be left out of it unasked
 pub record WouldLose (kind : Kind) (a : Format) (bytes : List ℕ) : Type 0 where
@@ -54,6 +58,6 @@ IsMisformed kind a bytes = HasNoForm kind bytes ⊎ ((a.check ≡ true) × (a.pr
 abbrev pub IsUnformattedAs : Kind → Format → List ℕ → Type 0
 IsUnformattedAs kind a bytes = IsMisformed kind a bytes ⊎ WouldLose kind a bytes
 
--- where a kind is asked for
+-- the file holds no document of the kind that is asked for, or of one that is found, or is not accepted as one of that kind
 abbrev pub IsUnformatted : Format → List ℕ → Type 0
-IsUnformatted a bytes = IfSome a.kind (λ kind. IsUnformattedAs kind a bytes)
+IsUnformatted a bytes = ¬ IsAllowed a.kind a.file.now bytes ⊎ ((kind : Kind) × IsKindIn a.kind a.file.now (Some bytes) kind × IsUnformattedAs kind a bytes)

@@ -5,9 +5,9 @@ ghost use Rattle.serde_json.specs.View.{view};
 ghost use Rattle.oci_json.specs.Engines.{WritesDocument};
 ghost use Rattle.oci_schema.specs.Normalizes.{WritesPretty};
 ghost use Rattle.oci_schemas.specs.Kinds.{shape_of};
-ghost use Rattle.oci_findings.specs.Checks.{AllKept, IsAsked};
+ghost use Rattle.oci_findings.specs.Checks.{AllKept, IsKindIn};
 ghost use Rattle.oci_findings.specs.Forms.{IsForm};
-ghost use Rattle.oci_commands.specs.Formats.{Formats, HasNoForm, IsSerDe, IsUnformatted, IsUnformattedAs, KeepsAll, LosesNothing, WouldLose};
+ghost use Rattle.oci_commands.specs.Formats.{Formats, FormatsAs, HasNoForm, IsSerDe, IsUnformatted, IsUnformattedAs, KeepsAll, LosesNothing, WouldLose};
 ghost use Rattle.oci_commands.specs.Done.{IsStatus};
 
 use crate::asked::Format;
@@ -42,7 +42,7 @@ pub fn canonical_text(
     workspace: &mut Workspace,
     alloc: Global,
 ) -> Result<Vec<u8>>
-    ensures ok { IfOk result (λ v. Formats (Some kind) pretty (Some bytes.now) (λ t. t ≡ v.items)) }
+    ensures ok { IfOk result (λ v. FormatsAs kind pretty (Some bytes.now) (λ t. t ≡ v.items)) }
     ensures none { IfErr result (λ e. IsSerDe e → HasNoForm kind bytes.now) }
 {
     if pretty {
@@ -120,9 +120,9 @@ pub fn format<S: Files, W: Write, E: Write>(
 ) -> Result<u8>
     ensures status { IfOk result IsStatus }
     ensures untouched { asked.now.check ≡ true → Keeps (W.contents writer.old) (W.contents writer.new) × (S.holds store.new ≡ S.holds store.old) }
-    ensures canonical { IfOk result (λ s. s ≡ 0 → asked.now.check ≡ true → IfSome (S.holds store.old asked.now.file.now) (λ bytes. Formats asked.now.kind asked.now.pretty (Some bytes) (λ t. t ≡ bytes))) }
-    ensures written { IfOk result (λ s. s ≡ 0 → asked.now.check ≡ false → asked.now.output ≡ None → Formats asked.now.kind asked.now.pretty (S.holds store.old asked.now.file.now) (Appends (W.contents writer.old) (W.contents writer.new))) }
-    ensures kept { IfOk result (λ s. s ≡ 0 → asked.now.check ≡ false → IsSome asked.now.output → asked.now.drop_unknown ≡ false → IfSome (S.holds store.old asked.now.file.now) (LosesNothing asked.now.kind)) }
+    ensures canonical { IfOk result (λ s. s ≡ 0 → asked.now.check ≡ true → IfSome (S.holds store.old asked.now.file.now) (λ bytes. Formats asked.now.kind asked.now.file.now asked.now.pretty (Some bytes) (λ t. t ≡ bytes))) }
+    ensures written { IfOk result (λ s. s ≡ 0 → asked.now.check ≡ false → asked.now.output ≡ None → Formats asked.now.kind asked.now.file.now asked.now.pretty (S.holds store.old asked.now.file.now) (Appends (W.contents writer.old) (W.contents writer.new))) }
+    ensures kept { IfOk result (λ s. s ≡ 0 → asked.now.check ≡ false → IsSome asked.now.output → asked.now.drop_unknown ≡ false → IfSome (S.holds store.old asked.now.file.now) (LosesNothing asked.now.kind asked.now.file.now)) }
     ensures refused { IfOk result (λ s. s ≡ 1 → IfSome (S.holds store.old asked.now.file.now) (IsUnformatted asked.now)) }
 {
     match store.read(alloc, asked.file) {
@@ -169,9 +169,9 @@ impl<'a> Formatting<'a> {
     ) -> Result<u8>
         ensures status { IfOk result IsStatus }
         ensures untouched { self.now.asked.now.check ≡ true → Keeps (W.contents writer.old) (W.contents writer.new) × (S.holds store.new ≡ S.holds store.old) }
-        ensures canonical { IfOk result (λ s. s ≡ 0 → self.now.asked.now.check ≡ true → Formats self.now.asked.now.kind self.now.asked.now.pretty (Some self.now.bytes.now) (λ t. t ≡ self.now.bytes.now)) }
-        ensures written { IfOk result (λ s. s ≡ 0 → self.now.asked.now.check ≡ false → self.now.asked.now.output ≡ None → Formats self.now.asked.now.kind self.now.asked.now.pretty (Some self.now.bytes.now) (Appends (W.contents writer.old) (W.contents writer.new))) }
-        ensures kept { IfOk result (λ s. s ≡ 0 → self.now.asked.now.check ≡ false → IsSome self.now.asked.now.output → self.now.asked.now.drop_unknown ≡ false → LosesNothing self.now.asked.now.kind self.now.bytes.now) }
+        ensures canonical { IfOk result (λ s. s ≡ 0 → self.now.asked.now.check ≡ true → Formats self.now.asked.now.kind self.now.asked.now.file.now self.now.asked.now.pretty (Some self.now.bytes.now) (λ t. t ≡ self.now.bytes.now)) }
+        ensures written { IfOk result (λ s. s ≡ 0 → self.now.asked.now.check ≡ false → self.now.asked.now.output ≡ None → Formats self.now.asked.now.kind self.now.asked.now.file.now self.now.asked.now.pretty (Some self.now.bytes.now) (Appends (W.contents writer.old) (W.contents writer.new))) }
+        ensures kept { IfOk result (λ s. s ≡ 0 → self.now.asked.now.check ≡ false → IsSome self.now.asked.now.output → self.now.asked.now.drop_unknown ≡ false → LosesNothing self.now.asked.now.kind self.now.asked.now.file.now self.now.bytes.now) }
         ensures refused { IfOk result (λ s. s ≡ 1 → IsUnformatted self.now.asked.now self.now.bytes.now) }
     {
         let mut workspace = Workspace::new(self.alloc);
@@ -188,7 +188,7 @@ impl<'a> Formatting<'a> {
         workspace: &mut Workspace,
         errors: &mut E,
     ) -> Result<Option<Found>>
-        ensures found { IfOk result (λ o. IfSome o (λ f. IsAsked self.now.asked.now.kind f.kind)) }
+        ensures found { IfOk result (λ o. IfSome o (λ f. IsKindIn self.now.asked.now.kind self.now.asked.now.file.now (Some self.now.bytes.now) f.kind)) }
         ensures text { IfOk result (λ o. IfSome o (λ f. IfSome f.text (λ t. IsForm self.now.asked.now.pretty f.kind self.now.bytes.now t.items))) }
         ensures none { IfOk result (λ o. o ≡ None → IsUnformatted self.now.asked.now self.now.bytes.now) }
     {
@@ -208,7 +208,7 @@ impl<'a> Formatting<'a> {
 
     /// The same by way of a value.
     fn kind_by_value<E: Write>(&self, errors: &mut E) -> Result<Option<Found>>
-        ensures found { IfOk result (λ o. IfSome o (λ f. IsAsked self.now.asked.now.kind f.kind)) }
+        ensures found { IfOk result (λ o. IfSome o (λ f. IsKindIn self.now.asked.now.kind self.now.asked.now.file.now (Some self.now.bytes.now) f.kind)) }
         ensures text { IfOk result (λ o. IfSome o (λ f. f.text ≡ None)) }
         ensures none { IfOk result (λ o. o ≡ None → IsUnformatted self.now.asked.now self.now.bytes.now) }
     {
@@ -240,8 +240,8 @@ impl<'a> Formatting<'a> {
         requires { IfSome found.text (λ t. IsForm self.now.asked.now.pretty found.kind self.now.bytes.now t.items) }
         ensures status { IfOk result IsStatus }
         ensures untouched { self.now.asked.now.check ≡ true → Keeps (W.contents writer.old) (W.contents writer.new) × (S.holds store.new ≡ S.holds store.old) }
-        ensures canonical { IfOk result (λ s. s ≡ 0 → self.now.asked.now.check ≡ true → Formats (Some found.kind) self.now.asked.now.pretty (Some self.now.bytes.now) (λ t. t ≡ self.now.bytes.now)) }
-        ensures written { IfOk result (λ s. s ≡ 0 → self.now.asked.now.check ≡ false → self.now.asked.now.output ≡ None → Formats (Some found.kind) self.now.asked.now.pretty (Some self.now.bytes.now) (Appends (W.contents writer.old) (W.contents writer.new))) }
+        ensures canonical { IfOk result (λ s. s ≡ 0 → self.now.asked.now.check ≡ true → FormatsAs found.kind self.now.asked.now.pretty (Some self.now.bytes.now) (λ t. t ≡ self.now.bytes.now)) }
+        ensures written { IfOk result (λ s. s ≡ 0 → self.now.asked.now.check ≡ false → self.now.asked.now.output ≡ None → FormatsAs found.kind self.now.asked.now.pretty (Some self.now.bytes.now) (Appends (W.contents writer.old) (W.contents writer.new))) }
         ensures kept { IfOk result (λ s. s ≡ 0 → self.now.asked.now.check ≡ false → IsSome self.now.asked.now.output → self.now.asked.now.drop_unknown ≡ false → KeepsAll found.kind self.now.bytes.now) }
         ensures refused { IfOk result (λ s. s ≡ 1 → IsUnformattedAs found.kind self.now.asked.now self.now.bytes.now) }
     {
@@ -268,7 +268,7 @@ impl<'a> Formatting<'a> {
         workspace: &mut Workspace,
     ) -> Result<Vec<u8>>
         requires { IfSome found (λ t. IsForm self.now.asked.now.pretty kind self.now.bytes.now t.items) }
-        ensures ok { IfOk result (λ v. Formats (Some kind) self.now.asked.now.pretty (Some self.now.bytes.now) (λ t. t ≡ v.items)) }
+        ensures ok { IfOk result (λ v. FormatsAs kind self.now.asked.now.pretty (Some self.now.bytes.now) (λ t. t ≡ v.items)) }
         ensures none { IfErr result (λ e. IsSerDe e → HasNoForm kind self.now.bytes.now) }
     {
         match found {

@@ -62,8 +62,8 @@ pub fn check<S: Files, B: RuleBooks, W: Write, E: Write>(
     errors: &mut E,
 ) -> Result<u8>
     ensures status { IfOk result IsStatus }
-    ensures right { IfOk result (λ s. s ≡ 0 → All (λ f. IfSome (S.holds store.old f.now) (IsRight (B.rules books.now) asked.now)) asked.now.files.now) }
-    ensures wrong { IfOk result (λ s. s ≡ 1 → (i : ℕ) × (i < length asked.now.files.now) × HoldsAt (λ f. IfSome (S.holds store.old f.now) (IsWrong (B.rules books.now) asked.now)) asked.now.files.now i) }
+    ensures right { IfOk result (λ s. s ≡ 0 → All (λ f. IfSome (S.holds store.old f.now) (IsRight (B.rules books.now) asked.now f.now)) asked.now.files.now) }
+    ensures wrong { IfOk result (λ s. s ≡ 1 → (i : ℕ) × (i < length asked.now.files.now) × HoldsAt (λ f. IfSome (S.holds store.old f.now) (IsWrong (B.rules books.now) asked.now f.now)) asked.now.files.now i) }
 {
     let checking = Checking {
         books,
@@ -134,8 +134,8 @@ impl<'a, B: RuleBooks> Checking<'a, B> {
         store: &mut S,
         state: &mut State<'_, W, E>,
     ) -> Result<Tally>
-        ensures right { IfOk result (λ t. t.wrong ≡ false → t.unread ≡ false → All (λ f. IfSome (S.holds store.old f.now) (IsRight (B.rules self.now.books.now) self.now.asked.now)) self.now.asked.now.files.now) }
-        ensures wrong { IfOk result (λ t. t.wrong ≡ true → (i : ℕ) × (i < length self.now.asked.now.files.now) × HoldsAt (λ f. IfSome (S.holds store.old f.now) (IsWrong (B.rules self.now.books.now) self.now.asked.now)) self.now.asked.now.files.now i) }
+        ensures right { IfOk result (λ t. t.wrong ≡ false → t.unread ≡ false → All (λ f. IfSome (S.holds store.old f.now) (IsRight (B.rules self.now.books.now) self.now.asked.now f.now)) self.now.asked.now.files.now) }
+        ensures wrong { IfOk result (λ t. t.wrong ≡ true → (i : ℕ) × (i < length self.now.asked.now.files.now) × HoldsAt (λ f. IfSome (S.holds store.old f.now) (IsWrong (B.rules self.now.books.now) self.now.asked.now f.now)) self.now.asked.now.files.now i) }
     {
         let mut tally = Tally {
             wrong: false,
@@ -155,8 +155,8 @@ impl<'a, B: RuleBooks> Checking<'a, B> {
         state: &mut State<'_, W, E>,
         tally: &mut Tally,
     ) -> Result<()>
-        ensures right { OnOk result (tally.new.wrong ≡ false → tally.new.unread ≡ false → (tally.old.wrong ≡ false) × (tally.old.unread ≡ false) × IfSome (S.holds store.old name.now) (IsRight (B.rules self.now.books.now) self.now.asked.now)) }
-        ensures wrong { OnOk result (tally.new.wrong ≡ true → (tally.old.wrong ≡ true) ⊎ IfSome (S.holds store.old name.now) (IsWrong (B.rules self.now.books.now) self.now.asked.now)) }
+        ensures right { OnOk result (tally.new.wrong ≡ false → tally.new.unread ≡ false → (tally.old.wrong ≡ false) × (tally.old.unread ≡ false) × IfSome (S.holds store.old name.now) (IsRight (B.rules self.now.books.now) self.now.asked.now name.now)) }
+        ensures wrong { OnOk result (tally.new.wrong ≡ true → (tally.old.wrong ≡ true) ⊎ IfSome (S.holds store.old name.now) (IsWrong (B.rules self.now.books.now) self.now.asked.now name.now)) }
         ensures kept { S.holds store.new ≡ S.holds store.old }
     {
         match store.read(self.alloc, name) {
@@ -177,8 +177,8 @@ impl<'a, B: RuleBooks> Checking<'a, B> {
         state: &mut State<'_, W, E>,
         tally: &mut Tally,
     ) -> Result<()>
-        ensures right { OnOk result (tally.new.wrong ≡ false → (tally.new.unread ≡ tally.old.unread) × (tally.old.wrong ≡ false) × IsRight (B.rules self.now.books.now) self.now.asked.now bytes.now) }
-        ensures wrong { OnOk result (tally.new.wrong ≡ true → (tally.old.wrong ≡ true) ⊎ IsWrong (B.rules self.now.books.now) self.now.asked.now bytes.now) }
+        ensures right { OnOk result (tally.new.wrong ≡ false → (tally.new.unread ≡ tally.old.unread) × (tally.old.wrong ≡ false) × IsRight (B.rules self.now.books.now) self.now.asked.now name.now bytes.now) }
+        ensures wrong { OnOk result (tally.new.wrong ≡ true → (tally.old.wrong ≡ true) ⊎ IsWrong (B.rules self.now.books.now) self.now.asked.now name.now bytes.now) }
         ensures unread { OnOk result (tally.new.unread ≡ tally.old.unread) }
     {
         let workspace = &mut state.workspace;

@@ -44,8 +44,8 @@ pub fn compare<S: Files, W: Write, E: Write>(
     errors: &mut E,
 ) -> Result<u8>
     ensures status { IfOk result IsStatus }
-    ensures same { IfOk result (λ s. s ≡ 0 → HoldSame asked.now.kind (S.holds store.old asked.now.before.now) (S.holds store.old asked.now.after.now)) }
-    ensures other { IfOk result (λ s. s ≡ 1 → HoldUnequal asked.now.kind (S.holds store.old asked.now.before.now) (S.holds store.old asked.now.after.now)) }
+    ensures same { IfOk result (λ s. s ≡ 0 → HoldSame asked.now.kind asked.now.before.now (S.holds store.old asked.now.before.now) asked.now.after.now (S.holds store.old asked.now.after.now)) }
+    ensures other { IfOk result (λ s. s ≡ 1 → HoldUnequal asked.now.kind asked.now.before.now (S.holds store.old asked.now.before.now) asked.now.after.now (S.holds store.old asked.now.after.now)) }
 {
     let (kind, before) = match read_side(asked.kind, asked.before, alloc, store, errors)? {
         Side::Document(kind, value) => (kind, value),
@@ -107,7 +107,7 @@ fn read_side<S: Files, E: Write>(
     store: &mut S,
     errors: &mut E,
 ) -> Result<Side>
-    ensures side { IfOk result (IsSide asked (S.holds store.old name.now)) }
+    ensures side { IfOk result (IsSide asked name.now (S.holds store.old name.now)) }
     ensures kept { S.holds store.new ≡ S.holds store.old }
 {
     match store.read(alloc, name) {
@@ -120,7 +120,7 @@ fn read_side<S: Files, E: Write>(
 }
 
 /// The canonical form of the document in these bytes.
-#[tactic(auto, using(crate::proofs::Sides::form_held, crate::proofs::Sides::no_json_held, crate::proofs::Sides::none_held))]
+#[tactic(auto, using(crate::proofs::Sides::form_held, oci_findings::proofs::Allowed::not_allowed))]
 fn side_of<E: Write>(
     asked: Option<Kind>,
     name: &str,
@@ -128,7 +128,7 @@ fn side_of<E: Write>(
     alloc: Global,
     errors: &mut E,
 ) -> Result<Side>
-    ensures { IfOk result (IsSide asked (Some bytes.now)) }
+    ensures { IfOk result (IsSide asked name.now (Some bytes.now)) }
 {
     match read_value(asked, name, bytes, alloc)? {
         Reading::Value(kind, value) => match normal_document(kind, value, alloc) {

@@ -2,9 +2,7 @@
 ghost use Rattle.std.specs.Prelude.{◌≡◌, ◌⊎◌, true, false, [], Some, IfOk, IfSome, string_bytes};
 ghost use Rattle.std.specs.List.{All};
 ghost use Rattle.std.specs.Io.KnownBytes.{Appends};
-ghost use Rattle.oci_json.specs.Engines.{MeansBytes};
-ghost use Rattle.oci_model.specs.Plain.{Plain};
-ghost use Rattle.oci_schemas.specs.Kinds.{shape_of};
+ghost use Rattle.oci_findings.specs.Checks.{IsAllowed};
 ghost use Rattle.oci_base.specs.Escaped.{IsLine};
 ghost use Rattle.oci_doc_run.specs.Commands.{asked as asked_of, pin};
 ghost use Rattle.oci_doc_run.specs.Outputs.{Writes, WritesPinned};
@@ -76,7 +74,7 @@ pub(crate) fn is_wrong<E: Write>(
     alloc: Global,
     errors: &mut E,
 ) -> Result<bool>
-    ensures { IfOk result (λ b. b ≡ true → IfSome kind (λ k. (p : Plain) → ¬ MeansBytes (shape_of k) bytes.now p)) }
+    ensures { IfOk result (λ b. b ≡ true → ¬ IsAllowed kind name.now bytes.now) }
 {
     let found = inspect(kind, name, bytes, alloc)?;
     if found.errors.is_empty() {

@@ -3,6 +3,7 @@ pub mod Counted
 pub mod Each
 pub mod Facts
 pub mod Forms
+pub mod FoundKinds
 pub mod Listed
 pub mod Marks
 pub mod Told

@@ -1,5 +1,5 @@
 -- Which documents pass.
-use Rattle.std.specs.Prelude.{◌≡◌, ◌++◌, ◌&&◌, ℕ, List, [], map, Bool, true, false, Option, Some, None, IfSome, IsSomeAnd, ⊤}
+use Rattle.std.specs.Prelude.{◌≡◌, ◌⊎◌, ◌++◌, ◌&&◌, ℕ, List, [], map, Bool, true, false, Option, Some, None, IfSome, IsSomeAnd}
 use Rattle.std.specs.List.{filter}
 use Rattle.json.specs.Json.{document}
 use Rattle.json.specs.Strict.{HasUniqueKeys}
@@ -18,6 +18,7 @@ use Rattle.oci_rules.specs.Rules as rules
 use Rattle.oci_rules.specs.Rules.{Level, must, stated, should, host}
 use Rattle.oci_rules.specs.Tables.{level_of, platform_of, rule_of}
 use Rattle.oci_rules.specs.declared.rule.RuntimePlatform.{RuntimePlatform}
+use Rattle.oci_findings.specs.FoundKind.{kind_for}
 use Rattle.oci_findings.specs.declared.asked.Check.{Check}
 use Rattle.oci_findings.specs.declared.asked.Unknown.{Unknown}
 use Rattle.oci_findings.specs.declared.asked.Unknown.TheVariants.{Deny, Warn, Allow}
@@ -28,20 +29,27 @@ use Rattle.oci_findings.specs.declared.inspect.Reading.TheVariants as reading
 abbrev pub IsOfKind : Kind → List ℕ → Type 0
 IsOfKind kind bytes = (p : Plain) × MeansBytes (shape_of kind) bytes p
 
--- the bytes are a document of the kind that is asked for, or of some kind where none is
-abbrev pub IsAllowed : Option Kind → List ℕ → Type 0
-IsAllowed (Some kind) bytes = IsOfKind kind bytes
-IsAllowed None bytes = (kind : Kind) × IsOfKind kind bytes
+-- the kind is the one that is asked for, or else the one that the value in a file of this name is found to be of
+abbrev pub IsAsked : Option Kind → List ℕ → Data → Kind → Type 0
+IsAsked asked name d kind = kind_for asked name d ≡ Some kind
 
--- the kind is the one that is asked for, or none is
-abbrev pub IsAsked : Option Kind → Kind → Type 0
-IsAsked (Some asked) kind = asked ≡ kind
-IsAsked None kind = ⊤
+-- the same of the bytes of the file, where they are known
+abbrev pub IsKindIn : Option Kind → List ℕ → Option (List ℕ) → Kind → Type 0
+IsKindIn (Some asked) name held kind = asked ≡ kind
+IsKindIn None name held kind = IfSome held (λ bytes. (d : Data) × ReadsAs bytes d × IsAsked None name d kind)
 
--- what bytes hold: a value of the kind that is asked for; or a fault, which is that they are no JSON where a kind is asked for
-abbrev pub IsReading : Option Kind → List ℕ → Reading → Type 0
-IsReading asked bytes (reading.Value kind value) = IsAsked asked kind × ReadsAs bytes (view value)
-IsReading asked bytes (reading.Fault fault) = IfSome asked (λ k. IsNoJson bytes)
+-- the bytes are a document of the kind that is asked for, or of the one that is found
+abbrev pub IsAllowed : Option Kind → List ℕ → List ℕ → Type 0
+IsAllowed asked name bytes = (kind : Kind) × (d : Data) × IsAsked asked name d kind × ReadsAs bytes d × ((p : Plain) × Means (shape_of kind) d p)
+
+-- they are no JSON, or a value of which no kind is found
+abbrev pub HasNoKind : Option Kind → List ℕ → List ℕ → Type 0
+HasNoKind asked name bytes = IsNoJson bytes ⊎ ((d : Data) × ReadsAs bytes d × (kind_for asked name d ≡ None))
+
+-- what bytes hold: a value of the kind that is asked for, or of the one that is found; or a fault
+abbrev pub IsReading : Option Kind → List ℕ → List ℕ → Reading → Type 0
+IsReading asked name bytes (reading.Value kind value) = IsAsked asked name (view value) kind × ReadsAs bytes (view value)
+IsReading asked name bytes (reading.Fault fault) = HasNoKind asked name bytes
 
 -- ---- what a document may lose
 
@@ -108,10 +116,10 @@ denied Allow kind d = []
 abbrev pub IsRightValue : (Kind → List rules.Rule) → Check → Kind → Data → Type 0
 IsRightValue books a kind d = ((p : Plain) × Means (shape_of kind) d p) × ((counted books a kind d ≡ []) × (denied a.unknown kind d ≡ []))
 
--- the bytes are such a value, of the kind that is asked for, or of some kind where none is
-abbrev pub IsRight : (Kind → List rules.Rule) → Check → List ℕ → Type 0
-IsRight books a bytes = (kind : Kind) × (d : Data) × IsAsked a.kind kind × ReadsAs bytes d × IsRightValue books a kind d
+-- the bytes of a file of this name are such a value, of the kind that is asked for, or of the one that is found
+abbrev pub IsRight : (Kind → List rules.Rule) → Check → List ℕ → List ℕ → Type 0
+IsRight books a name bytes = (kind : Kind) × (d : Data) × IsAsked a.kind name d kind × ReadsAs bytes d × IsRightValue books a kind d
 
--- they are not; nothing is said where no kind is asked for
-abbrev pub IsWrong : (Kind → List rules.Rule) → Check → List ℕ → Type 0
-IsWrong books a bytes = IfSome a.kind (λ kind. IsRight books a bytes → ⊥)
+-- they are not
+abbrev pub IsWrong : (Kind → List rules.Rule) → Check → List ℕ → List ℕ → Type 0
+IsWrong books a name bytes = IsRight books a name bytes → ⊥

@@ -3,7 +3,9 @@ pub mod Contents
 pub mod Files
 pub mod Findings
 pub mod Forms
+pub mod FoundKind
 pub mod Kinds
+pub mod Known
 pub mod LeftOut
 pub mod Lines
 pub mod Reports

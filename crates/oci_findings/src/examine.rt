@@ -33,8 +33,8 @@ pub fn examine<'a, B: RuleBooks>(
     workspace: &mut Workspace,
     alloc: Global,
 ) -> Result<Report<'a>, AllocError>
-    ensures right { IfOk result (λ r. r.errors.items ≡ [] → IsRight (B.rules books.now) asked.now bytes.now) }
-    ensures wrong { IfOk result (λ r. ¬ (r.errors.items ≡ []) → IsWrong (B.rules books.now) asked.now bytes.now) }
+    ensures right { IfOk result (λ r. r.errors.items ≡ [] → IsRight (B.rules books.now) asked.now name.now bytes.now) }
+    ensures wrong { IfOk result (λ r. ¬ (r.errors.items ≡ []) → IsWrong (B.rules books.now) asked.now name.now bytes.now) }
 {
     if is_right(asked, name, bytes, workspace, alloc) {
         return Report::new(Vec::new(alloc), Vec::new(alloc), bytes, alloc);
@@ -43,7 +43,7 @@ pub fn examine<'a, B: RuleBooks>(
 }
 
 /// The same by way of a value.
-#[tactic(auto, using(crate::proofs::Allowed::right_of, crate::proofs::Allowed::wrong_of, crate::proofs::Allowed::wrong_of_no_json))]
+#[tactic(auto, using(crate::proofs::Allowed::right_of, crate::proofs::Allowed::wrong_of, crate::proofs::Allowed::wrong_of_no_kind))]
 fn examine_read<'a, B: RuleBooks>(
     books: &B,
     asked: &Check<'a>,
@@ -51,8 +51,8 @@ fn examine_read<'a, B: RuleBooks>(
     bytes: &[u8],
     alloc: Global,
 ) -> Result<Report<'a>, AllocError>
-    ensures right { IfOk result (λ r. r.errors.items ≡ [] → IsRight (B.rules books.now) asked.now bytes.now) }
-    ensures wrong { IfOk result (λ r. ¬ (r.errors.items ≡ []) → IsWrong (B.rules books.now) asked.now bytes.now) }
+    ensures right { IfOk result (λ r. r.errors.items ≡ [] → IsRight (B.rules books.now) asked.now name.now bytes.now) }
+    ensures wrong { IfOk result (λ r. ¬ (r.errors.items ≡ []) → IsWrong (B.rules books.now) asked.now name.now bytes.now) }
 {
     match read_value(asked.kind, name, bytes, alloc)? {
         Reading::Value(kind, value) => {

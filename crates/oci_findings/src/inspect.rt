@@ -1,15 +1,16 @@
 //! What is wrong with the bytes of a document.
-ghost use Rattle.std.specs.Prelude.{◌≡◌, ◌↔◌, [], true, map, is_some, IfOk, IfSome};
+ghost use Rattle.std.specs.Prelude.{◌≡◌, ◌↔◌, [], map, IfOk};
+ghost use Rattle.serde_json.specs.Data.{Data};
 ghost use Rattle.serde_json.specs.View.{view};
 ghost use Rattle.oci_model.specs.Plain.{Plain};
 ghost use Rattle.oci_model.specs.Means.{Means};
-ghost use Rattle.oci_json.specs.Engines.{MeansBytes};
 ghost use Rattle.oci_schemas.specs.Kinds.{shape_of};
 ghost use Rattle.oci_schema.specs.Violations.{violations as all_violations};
 ghost use Rattle.oci_findings.specs.Findings.{told, as_told};
-ghost use Rattle.oci_findings.specs.Checks.{IsAllowed, IsAsked, IsReading};
+ghost use Rattle.oci_findings.specs.Checks.{IsAllowed, IsReading};
+ghost use Rattle.oci_findings.specs.FoundKind.{kind_for};
 
-use crate::detect::{Detected, Document, detect, explain_open};
+use crate::detect::{Document, detect, explain_open};
 use crate::shown::{json_cause, violation_findings};
 use crate::{Cause, Finding, Report, Severity};
 use oci_schema::violations;
@@ -27,14 +28,13 @@ pub enum Reading {
 }
 
 /// Reads a value that is to be of the kind, or of the one that is found out by its file name and value. Fails if out of memory.
-#[tactic(auto, using(crate::proofs::Allowed::no_kind_asked, crate::proofs::Allowed::none_is_json))]
 pub fn read_value(
     asked: Option<Kind>,
     name: &str,
     bytes: &[u8],
     alloc: Global,
 ) -> Result<Reading, AllocError>
-    ensures { IfOk result (IsReading asked bytes.now) }
+    ensures { IfOk result (IsReading asked name.now bytes.now) }
 {
     match Value::from_slice(alloc, bytes) {
         Ok(value) => match kind_of(asked, name, &value) {
@@ -56,29 +56,25 @@ pub fn read_value(
 
 /// The kind that is asked for, or that a document is found out to be.
 pub fn kind_of<D: Document>(asked: Option<Kind>, name: &str, document: &D) -> Option<Kind>
-    ensures kind { IfSome result (IsAsked asked) }
-    ensures found { is_some asked ≡ true → is_some result ≡ true }
+    ensures { (d : Data) → D.holds document.now d → result ≡ kind_for asked name.now d }
 {
     match asked {
         Some(kind) => Some(kind),
-        None => match detect(name, document) {
-            Detected::One(kind) => Some(kind),
-            Detected::Open => None,
-        },
+        None => detect(name, document),
     }
 }
 
-/// What the schema says of the bytes of a document of a kind, or of the kind that is found out by its file name and value: nothing only
-/// if the schema of that kind allows it. Fails if out of memory.
-#[tactic(auto, using(crate::proofs::Allowed::allowed_of, crate::proofs::Allowed::none_of, crate::proofs::Allowed::none_of_no_json))]
+/// What the schema says of the bytes of a document of a kind, or of the kind that is found out by its file name and value: nothing if
+/// and only if the schema of that kind allows it. Fails if out of memory.
+#[tactic(auto, using(crate::proofs::Allowed::allowed_of, crate::proofs::Allowed::none_of, crate::proofs::Allowed::none_of_no_kind))]
 pub fn inspect(
     kind: Option<Kind>,
     name: &str,
     bytes: &[u8],
     alloc: Global,
 ) -> Result<Report<'static>, AllocError>
-    ensures allowed { IfOk result (λ r. r.errors.items ≡ [] → IsAllowed kind bytes.now) }
-    ensures all { IfOk result (λ r. IfSome kind (λ k. (p : Plain) → MeansBytes (shape_of k) bytes.now p → r.errors.items ≡ [])) }
+    ensures allowed { IfOk result (λ r. r.errors.items ≡ [] → IsAllowed kind name.now bytes.now) }
+    ensures all { IfOk result (λ r. IsAllowed kind name.now bytes.now → r.errors.items ≡ []) }
 {
     match read_value(kind, name, bytes, alloc)? {
         Reading::Value(found, value) => {
@@ -142,7 +138,7 @@ pub fn with_other_kind<'a>(
 /// The kind that a document looks like, if it is another one.
 fn other_kind(asked: Kind, name: &str, value: &Value) -> Option<Kind> {
     match detect(name, value) {
-        Detected::One(kind) if kind != asked => Some(kind),
+        Some(kind) if kind != asked => Some(kind),
         _ => None,
     }
 }

@@ -28,7 +28,6 @@ pub mod wording;
 pub use asked::{Check, Unknown};
 pub use claimed::Claims;
 pub use contents::{content_findings, content_report, document_findings};
-pub use detect::Detected;
 pub use file_fault::{Absence, FileFault};
 pub use finding::{Cause, Finding, Severity};
 pub use kinds::kind_named;

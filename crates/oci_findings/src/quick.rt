@@ -1,11 +1,11 @@
 //! What is found out about a document straight from a tape of its text, which is read once.
-ghost use Rattle.std.specs.Prelude.{◌≡◌, List, [], true, false, IfSome, IsTrue};
+ghost use Rattle.std.specs.Prelude.{◌≡◌, List, [], true, false, Some, IfSome, IsTrue};
 ghost use Rattle.serde_json.specs.Data.{Data};
 ghost use Rattle.oci_json.specs.Engines.{ReadsAs};
 ghost use Rattle.oci_json_tape.specs.Elements.{BeginsWithData};
 ghost use Rattle.oci_schemas.specs.declared.kind.Kind.{Kind as kind_type};
 ghost use Rattle.oci_rules.specs.Rules.{Rule as rule_data};
-ghost use Rattle.oci_findings.specs.Checks.{IsAsked, IsOfKind, IsRight};
+ghost use Rattle.oci_findings.specs.Checks.{IsKindIn, IsOfKind, IsRight};
 ghost use Rattle.oci_findings.specs.Forms.{IsForm};
 ghost use Rattle.oci_findings.specs.declared.asked.Unknown.TheVariants.{Allow};
 
@@ -28,7 +28,7 @@ pub fn is_right(
     workspace: &mut Workspace,
     alloc: Global,
 ) -> bool
-    ensures { IsTrue result → (rules : kind_type → List rule_data) → IsRight rules asked.now bytes.now }
+    ensures { IsTrue result → (rules : kind_type → List rule_data) → IsRight rules asked.now name.now bytes.now }
 {
     if !is_schema_alone(asked) {
         return false;
@@ -62,8 +62,8 @@ pub struct Found {
     pub text: Option<Vec<u8>>,
 }
 
-/// The kind that is asked for, or that a document is found out to be by its file name and members, the members that its canonical
-/// form lacks, if that is wanted, and that text. `None` if a name stands twice in an object, or if the kind was not found out.
+/// The kind that is asked for, or that a document is found out to be by its file name and members, the members that are left out of
+/// its canonical form, if that is wanted, and that text. `None` if a name stands twice in an object, or if the kind was not found out.
 pub fn look_at(
     asked: Option<Kind>,
     name: &str,
@@ -72,7 +72,7 @@ pub fn look_at(
     workspace: &mut Workspace,
     alloc: Global,
 ) -> Option<Found>
-    ensures kind { IfSome result (λ f. IsAsked asked f.kind) }
+    ensures kind { IfSome result (λ f. IsKindIn asked name.now (Some bytes.now) f.kind) }
     ensures text { IfSome result (λ f. IfSome f.text (λ t. IsForm wanted.pretty f.kind bytes.now t.items)) }
 {
     let tape = opened(bytes, workspace, alloc)?;

@@ -1,28 +1,26 @@
-use Rattle.std.proofs.Common.{◌≡◌, Some, inl, inr, refl, sym, ◌∙◌, subst}
+use Rattle.std.proofs.Common.{◌≡◌, Some, inl, inr, sym, ◌∙◌, subst}
 use Rattle.std.specs.Io.KnownBytes.{Appends}
 use Rattle.std.proofs.lemmas.Result.{IfOk-weaker}
-use Rattle.oci_commands.specs.Formats.{Formats}
+use Rattle.oci_commands.specs.Formats.{FormatsAs}
 use Rattle.oci_commands.proofs.Forms.{not_compact}
-use Rattle.oci_commands.proofs.Held.{formats_asked}
+use Rattle.oci_commands.proofs.Held.{as_written}
 use Rattle.oci_commands.proofs.canonical.Formatting.format_as.Goals as goal
 
 pub returns-in-Ok-clause-canonical : goal.returns-in-Ok-clause-canonical
 returns-in-Ok-clause-canonical g c =
-    let kind = c.args.found.kind in
     let text = c.in-Ok.text.items in
     IfOk-weaker c.finish.result _ _
-    (λ s same zero checks. formats_asked (Some kind) kind c.args.self.now.asked.now.pretty (Some c.args.self.now.bytes.now) (λ t. t ≡ text) (λ t. t ≡ c.args.self.now.bytes.now) refl
+    (λ s same zero checks. as_written c.args.found.kind c.args.self.now.asked.now.pretty (Some c.args.self.now.bytes.now) (λ t. t ≡ text) (λ t. t ≡ c.args.self.now.bytes.now)
     (λ t made. made ∙ sym c.as_slice.ensures.value ∙ same zero checks) c.in-Ok.ensures.ok)
     c.finish.ensures.same
 
 pub returns-in-Ok-clause-written : goal.returns-in-Ok-clause-written
 returns-in-Ok-clause-written g c =
-    let kind = c.args.found.kind in
     let text = c.in-Ok.text.items in
     let old = g.W.Write.contents c.args.writer.now in
     let new = g.W.Write.contents c.finish.new.writer in
     IfOk-weaker c.finish.result _ _
-    (λ s wrote zero checks none. formats_asked (Some kind) kind c.args.self.now.asked.now.pretty (Some c.args.self.now.bytes.now) (λ t. t ≡ text) (Appends old new) refl
+    (λ s wrote zero checks none. as_written c.args.found.kind c.args.self.now.asked.now.pretty (Some c.args.self.now.bytes.now) (λ t. t ≡ text) (Appends old new)
     (λ t made. subst (Appends old new) (c.as_slice.ensures.value ∙ sym made) (wrote zero checks none)) c.in-Ok.ensures.ok)
     c.finish.ensures.written
 
@@ -38,7 +36,7 @@ returns-in-Ok-clause-refused g c =
           inl (inr (
             checks,
             λ compact.
-                not_compact kind c.args.self.now.bytes.now text (subst (λ p. Formats (Some kind) p (Some c.args.self.now.bytes.now) (λ t. t ≡ text)) compact c.in-Ok.ensures.ok) (λ e. not (c.as_slice.ensures.value ∙ e)),
+                not_compact kind c.args.self.now.bytes.now text (subst (λ p. FormatsAs kind p (Some c.args.self.now.bytes.now) (λ t. t ≡ text)) compact c.in-Ok.ensures.ok) (λ e. not (c.as_slice.ensures.value ∙ e)),
           )))
     ])
     c.finish.ensures.refused

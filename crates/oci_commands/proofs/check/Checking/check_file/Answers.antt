@@ -9,8 +9,8 @@ returns-in-Ok-clause-wrong g c =
     on_ok_weaker c.check_bytes.result
     (λ found wrong. elim (found wrong) [
       | inl old ↦ inl old
-      | inr refused ↦ inr (held (IsWrong (g.B.RuleBooks.rules c.args.self.now.books.now) c.args.self.now.asked.now) (g.S.Files.holds c.args.store.now c.args.name.now) c.in-Ok.bytes.items c.in-Ok.ensures.bytes
-          (subst (IsWrong (g.B.RuleBooks.rules c.args.self.now.books.now) c.args.self.now.asked.now) c.as_slice.ensures.value refused))
+      | inr refused ↦ inr (held (IsWrong (g.B.RuleBooks.rules c.args.self.now.books.now) c.args.self.now.asked.now c.args.name.now) (g.S.Files.holds c.args.store.now c.args.name.now) c.in-Ok.bytes.items c.in-Ok.ensures.bytes
+          (subst (IsWrong (g.B.RuleBooks.rules c.args.self.now.books.now) c.args.self.now.asked.now c.args.name.now) c.as_slice.ensures.value refused))
     ])
     c.check_bytes.ensures.wrong
 
@@ -20,7 +20,7 @@ returns-in-Ok-clause-right g c =
     (λ found w u. let (same, old, allowed) = found w in (
       old,
       sym same ∙ u,
-      held (IsRight (g.B.RuleBooks.rules c.args.self.now.books.now) c.args.self.now.asked.now) (g.S.Files.holds c.args.store.now c.args.name.now) c.in-Ok.bytes.items c.in-Ok.ensures.bytes
-          (subst (IsRight (g.B.RuleBooks.rules c.args.self.now.books.now) c.args.self.now.asked.now) c.as_slice.ensures.value allowed),
+      held (IsRight (g.B.RuleBooks.rules c.args.self.now.books.now) c.args.self.now.asked.now c.args.name.now) (g.S.Files.holds c.args.store.now c.args.name.now) c.in-Ok.bytes.items c.in-Ok.ensures.bytes
+          (subst (IsRight (g.B.RuleBooks.rules c.args.self.now.books.now) c.args.self.now.asked.now c.args.name.now) c.as_slice.ensures.value allowed),
     ))
     c.check_bytes.ensures.right

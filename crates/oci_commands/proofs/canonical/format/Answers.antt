@@ -1,0 +1,22 @@
+use Rattle.std.proofs.Common.{Some, subst}
+use Rattle.std.specs.Io.KnownBytes.{Appends}
+use Rattle.std.proofs.lemmas.Result.{IfOk-weaker}
+use Rattle.oci_commands.specs.Formats.{Formats, IsUnformatted}
+use Rattle.oci_commands.proofs.Held.{formats_held, held}
+use Rattle.oci_commands.proofs.canonical.format.Goals as goal
+
+pub returns-in-Ok-clause-written : goal.returns-in-Ok-clause-written
+returns-in-Ok-clause-written g c =
+    let a = c.args.asked.now in
+    let wrote = Appends (g.W.Write.contents c.args.writer.now) (g.W.Write.contents c.format.new.writer) in
+    IfOk-weaker c.format.result _ _
+    (λ s made zero checks none. formats_held a.kind a.file.now a.pretty (g.S.Files.holds c.args.store.now a.file.now) c.in-Ok.bytes.items wrote c.in-Ok.ensures.bytes
+    (subst (λ b. Formats a.kind a.file.now a.pretty (Some b) wrote) c.as_slice.ensures.value (made zero checks none)))
+    c.format.ensures.written
+
+pub returns-in-Ok-clause-refused : goal.returns-in-Ok-clause-refused
+returns-in-Ok-clause-refused g c =
+    let a = c.args.asked.now in
+    IfOk-weaker c.format.result _ _
+    (λ s refused one. held (IsUnformatted a) (g.S.Files.holds c.args.store.now a.file.now) c.in-Ok.bytes.items c.in-Ok.ensures.bytes (subst (IsUnformatted a) c.as_slice.ensures.value (refused one)))
+    c.format.ensures.refused
