@@ -10,14 +10,15 @@ mod watch;
 use clap::{ArgMatches, Error};
 use files::SystemFiles;
 use line::{asked, escaped_words, lack_in, matches_of, options_in, status_of, words_of};
+use oci_base::line_of;
 use oci_commands::texts::{complain, complain_of};
 use oci_commands::verify::Options;
 use oci_commands::{Asked, Tree};
 use oci_layout::Folder;
-use oci_policies::{Bump, Policy, PolicyError};
+use oci_policies::{Bump, Policy, PolicyError, Reason};
 use oci_rules::Rule;
 use rules::Specifications;
-use std::alloc::AllocError;
+use std::alloc::{AllocError, Global};
 use std::fmt::Display;
 use std::fs;
 use std::process::ExitCode;
@@ -170,8 +171,46 @@ fn policy_in<'a>(
         Ok(policy) => Ok(policy.rules()),
         Err(PolicyError::Memory) => Err(out_of_memory(rt)),
         Err(error) => {
-            tell(rt, file, &error);
+            tell_policy(rt, file, &error);
             Err(2)
+        }
+    }
+}
+
+/// Says why a file is no policy, as findings are said: the file with its line, the member, and what is wrong with it.
+fn tell_policy(rt: &HostRuntime, file: &str, error: &PolicyError) {
+    if let Ok(line) = policy_line(file, error, rt.alloc()) {
+        complain(line.as_str(), &mut rt.stderr());
+    }
+}
+
+fn policy_line(file: &str, error: &PolicyError, alloc: Global) -> Result<String, AllocError> {
+    let text = match error {
+        PolicyError::Memory => format!(in alloc; "{file}: out of memory")?,
+        PolicyError::Toml { line, error } => {
+            let told = error.message();
+            format!(in alloc; "{file}:{line}: not TOML: {told} [policy]")?
+        }
+        PolicyError::Rule { line, reason } => {
+            let told = reason_text(reason, alloc)?;
+            format!(in alloc; "{file}:{line}: {told} [policy]")?
+        }
+    };
+    line_of(text.as_str(), alloc)
+}
+
+/// What is wrong with a rule of a policy, in the words of `check`.
+fn reason_text(reason: &Reason, alloc: Global) -> Result<String, AllocError> {
+    match reason {
+        Reason::Missing(name) => format!(in alloc; "/{name}: required member is missing"),
+        Reason::Expected { key, expected } => format!(in alloc; "/{key}: expected {expected}"),
+        Reason::Empty(name) => { format!(in alloc; "/{name}: expected a value that is not empty") }
+        Reason::Unknown(name) => format!(in alloc; "/{name}: unknown member"),
+        Reason::NoTest => {
+            String::from_str(alloc, "required member is missing (a test, as one_of)")
+        }
+        Reason::SecondTest(name) => {
+            format!(in alloc; "/{name}: expected no member {name} beside another test")
         }
     }
 }

@@ -7,7 +7,7 @@ use crate::claimed::{Claims, pointer_of};
 use crate::file_fault::{Absence, FileFault};
 use crate::finding::{Cause, Finding, Severity, joined};
 use crate::report::Report;
-use crate::shown::{json_cause_of, media_type_at, value_of, violation_findings};
+use crate::shown::{json_cause_of, shown_at, value_of, violation_findings};
 use oci_layout::{Claim, Detail, Fault, Held, Kind, OtherMember, Role, Walk};
 use serde_json::Value;
 use std::alloc::{AllocError, Global};
@@ -133,7 +133,7 @@ fn add_other_type<'a>(
 ) -> Result<(), AllocError>
     ensures { OnOk result (map fact found.new.items ≡ map fact found.old.items ++ document_fault (Some Fault.OtherType)) }
 {
-    let shown = media_type_at(value, "/mediaType", alloc)?;
+    let shown = shown_at(value, "/mediaType", alloc)?;
     let cause = FileFault::MediaType(kind.own_type().unwrap_or(""), shown);
     let pointer = String::from_str(alloc, "/mediaType")?;
     add(Severity::Error, pointer, Cause::File(cause), found)

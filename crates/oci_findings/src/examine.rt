@@ -14,10 +14,10 @@ use crate::inspect::{Reading, faulty, read_value, schema_errors};
 use crate::quick::is_right;
 use crate::repeated::{repeated_findings, warn_of_repeated};
 use crate::rulebooks::RuleBooks;
-use crate::shown::shown_at;
+use crate::shown::{name_at, shown_at};
 use crate::{Cause, Finding, Report, Severity};
 use json::Error;
-use oci_rules::{Broken, Level, Rule, RuntimePlatform, broken, platform_of_document};
+use oci_rules::{Broken, Level, Rule, RuntimePlatform, Step, broken, platform_of_document};
 use oci_schema::bytes::Workspace;
 use oci_schema::{UnknownMember, suggestion, unknown_members};
 use oci_schemas::{Kind, OciRecords};
@@ -299,12 +299,36 @@ fn rule_finding<'a>(
     ensures { IfOk result (λ f. breach f ≡ Some (broken_told item.now)) }
 {
     let pointer = item.pointer.as_str();
-    let shown = shown_at(value, pointer, alloc)?;
+    let shown = shown_of(item.rule, value, pointer, alloc)?;
     Ok(Finding {
         pointer: String::from_str(alloc, pointer)?,
         cause: Cause::Rule(item.rule, shown),
         severity: Severity::warning_if(is_warning),
     })
+}
+
+/// What is shown of the part that breaks a rule: the name of a member, where the rule is on names, and else the value at the pointer.
+fn shown_of(
+    rule: &Rule<'_>,
+    value: &Value,
+    pointer: &str,
+    alloc: Global,
+) -> Result<Option<String>, AllocError> {
+    if is_on_names(rule) {
+        name_at(pointer, alloc)
+    } else {
+        shown_at(value, pointer, alloc)
+    }
+}
+
+/// Whether a rule asks something of the names of members.
+fn is_on_names(rule: &Rule<'_>) -> bool {
+    for step in rule.place {
+        if matches!(step, Step::EachName) {
+            return true;
+        }
+    }
+    false
 }
 
 /// The members that the schema does not list, where they are denied.

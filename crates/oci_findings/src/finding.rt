@@ -1,7 +1,7 @@
 //! What is wrong with a document, or with a file of an image layout.
 ghost use Rattle.std.specs.Prelude.{◌≡◌, ◌++◌, codes, IfOk, OnOk, string_bytes};
 ghost use Rattle.oci_findings.specs.Files.{found_words};
-ghost use Rattle.oci_findings.specs.Findings.{message_words, rule_name};
+ghost use Rattle.oci_findings.specs.Findings.{message_words, missing_words, is_for_member, rule_name, rule_words};
 ghost use Rattle.oci_findings.specs.Lines.{is_error};
 ghost use Rattle.oci_findings.specs.Wording.{expected_words};
 ghost use Rattle.oci_findings.specs.declared.finding.Cause.TheVariants.{Unknown};
@@ -9,7 +9,7 @@ ghost use Rattle.oci_findings.specs.declared.finding.Cause.TheVariants.{Unknown}
 use crate::file_fault::FileFault;
 use crate::place::Place;
 use crate::wording::push_expected;
-use oci_rules::Rule;
+use oci_rules::{Rule, Test};
 use oci_schema::Expected;
 use std::alloc::{AllocError, Global};
 
@@ -109,7 +109,7 @@ impl<'a> Finding<'a> {
             Cause::Json(told, _) => joined("not JSON: ", told.as_str(), alloc),
             Cause::Kind(told) => String::from_str(alloc, told.as_str()),
             Cause::Schema(expected, found) => schema_message(expected, found, alloc),
-            Cause::Rule(rule, found) => rule_message(rule.wanted, found, alloc),
+            Cause::Rule(rule, found) => rule_message(rule, found, alloc),
             Cause::Unknown(meant) => unknown_message(*meant, alloc),
             Cause::Repeated => String::from_str(
                 alloc,
@@ -142,8 +142,42 @@ fn schema_message(
     with_found(text, found)
 }
 
+/// What a rule says of what was found: that a member is missing, or what is wanted.
+fn rule_message(
+    rule: &Rule<'_>,
+    found: &Option<String>,
+    alloc: Global,
+) -> Result<String, AllocError>
+    ensures { IfOk result (λ t. string_bytes t ≡ rule_words rule.now.test rule.now.wanted.now found.now) }
+{
+    if asks_member(&rule.test) {
+        missing_message(rule.wanted, alloc)
+    } else {
+        wanted_message(rule.wanted, found, alloc)
+    }
+}
+
+/// Whether a test asks for a member, which is missing where it fails.
+fn asks_member(test: &Test<'_>) -> bool
+    ensures { result ≡ is_for_member test.now }
+{
+    match test {
+        Test::There(_) | Test::Either(_) => true,
+        _ => false,
+    }
+}
+
+/// That a member is missing, and which is wanted.
+fn missing_message(wanted: &str, alloc: Global) -> Result<String, AllocError>
+    ensures { IfOk result (λ t. string_bytes t ≡ missing_words wanted.now) }
+{
+    let mut text = joined("member is missing (", wanted, alloc)?;
+    text.push_str(")")?;
+    Ok(text)
+}
+
 /// What is wanted, and what was found.
-fn rule_message(wanted: &str, found: &Option<String>, alloc: Global) -> Result<String, AllocError>
+fn wanted_message(wanted: &str, found: &Option<String>, alloc: Global) -> Result<String, AllocError>
     ensures { IfOk result (λ t. string_bytes t ≡ (codes "expected " ++ wanted.now) ++ found_words found.now) }
 {
     let text = joined("expected ", wanted, alloc)?;

@@ -9,10 +9,16 @@ use oci_schema::{Expected, Violation};
 use serde_json::{Error, Value};
 use std::alloc::{AllocError, Global};
 
-/// How many characters of a value are shown.
+/// How many characters of a value are shown, so that a line stays readable beside its place and its rule.
 const SHOWN: usize = 40;
 
-/// How many of a media type, in quotes: both of its parts have 127 at most (RFC 6838, section 4.2).
+/// How many of them are its last ones, where it is longer: names of files, digests and versions tell most at their ends.
+const SHOWN_LAST: usize = 16;
+
+/// What is shown in place of those between.
+const DOTS: &str = "...";
+
+/// How many of a media type, in quotes: both of its parts have 127 at most (RFC 6838, section 4.2), so it is shown whole.
 const MEDIA_TYPE: usize = 257;
 
 /// A finding for each violation of a schema by a value, in their order. Fails if out of memory.
@@ -73,42 +79,77 @@ fn shown_of(
     }
 }
 
-/// The text of the value at a pointer, cut where it is long.
+/// The text of the value at a pointer, cut in its middle if it is long. A media type is shown whole. Fails if out of memory.
 pub fn shown_at(value: &Value, pointer: &str, alloc: Global) -> Result<Option<String>, AllocError> {
-    shown_up_to(value, pointer, SHOWN, alloc)
-}
-
-/// The text of the media type at a pointer, which is shown whole.
-pub fn media_type_at(
-    value: &Value,
-    pointer: &str,
-    alloc: Global,
-) -> Result<Option<String>, AllocError> {
-    shown_up_to(value, pointer, MEDIA_TYPE, alloc)
-}
-
-fn shown_up_to(
-    value: &Value,
-    pointer: &str,
-    limit: usize,
-    alloc: Global,
-) -> Result<Option<String>, AllocError> {
     let Some(part) = value.pointer(pointer) else {
         return Ok(None);
     };
     let text = part.to_string(alloc)?;
-    Ok(Some(cut_at(text.as_str(), limit, alloc)?))
+    Ok(Some(cut(text.as_str(), limit_at(pointer), alloc)?))
 }
 
-/// A text, or its first characters and three dots.
-fn cut_at(text: &str, limit: usize, alloc: Global) -> Result<String, AllocError> {
-    match text.char_indices().nth(limit) {
-        Some((end, _)) => {
-            let mut shown = String::from_str(alloc, text.get(..end).unwrap_or(text))?;
-            shown.push_str("...")?;
-            Ok(shown)
+/// The name at which a pointer ends, as a JSON string that is cut in its middle if it is long. Fails if out of memory.
+pub fn name_at(pointer: &str, alloc: Global) -> Result<Option<String>, AllocError> {
+    let Some((_, name)) = pointer.rsplit_once('/') else {
+        return Ok(None);
+    };
+    let text = Value::String(unescaped(name, alloc)?).to_string(alloc)?;
+    Ok(Some(cut(text.as_str(), SHOWN, alloc)?))
+}
+
+/// The name of a step of a pointer (RFC 6901, section 4).
+fn unescaped(step: &str, alloc: Global) -> Result<String, AllocError> {
+    let mut name = String::new(alloc);
+    let mut is_escape = false;
+    for c in step.chars() {
+        if is_escape {
+            name.push(if c == '1' { '/' } else { '~' })?;
+            is_escape = false;
+        } else if c == '~' {
+            is_escape = true;
+        } else {
+            name.push(c)?;
         }
-        None => String::from_str(alloc, text),
+    }
+    Ok(name)
+}
+
+/// How many characters of the value at a pointer are shown.
+fn limit_at(pointer: &str) -> usize {
+    if pointer.ends_with("/mediaType") || pointer.ends_with("/artifactType") {
+        MEDIA_TYPE
+    } else {
+        SHOWN
+    }
+}
+
+/// A text, or its first and its last characters with three dots between them, as many in all as the limit.
+fn cut(text: &str, limit: usize, alloc: Global) -> Result<String, AllocError> {
+    let count = text.chars().count();
+    if count <= limit {
+        return String::from_str(alloc, text);
+    }
+    let first = limit.saturating_sub(SHOWN_LAST + DOTS.len());
+    let mut shown = String::new(alloc);
+    shown.push_str(front(text, first))?;
+    shown.push_str(DOTS)?;
+    shown.push_str(behind(text, count.saturating_sub(SHOWN_LAST)))?;
+    Ok(shown)
+}
+
+/// The first so many characters.
+fn front(text: &str, count: usize) -> &str {
+    match text.char_indices().nth(count) {
+        Some((end, _)) => text.get(..end).unwrap_or(text),
+        None => text,
+    }
+}
+
+/// The characters behind the first so many.
+fn behind(text: &str, count: usize) -> &str {
+    match text.char_indices().nth(count) {
+        Some((start, _)) => text.get(start..).unwrap_or(""),
+        None => "",
     }
 }
 

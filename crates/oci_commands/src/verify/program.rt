@@ -152,8 +152,8 @@ impl<'a, L: ImageLayout, C: Watch> Verification<'a, L, C> {
                 output.finish(0, 0)?;
                 Ok(false)
             }
-            Top::Missing => self.end_early("there is no index.json", output),
-            Top::Unreadable => self.end_early("index.json cannot be read", output),
+            Top::Missing => self.end_early("index.json: missing", output),
+            Top::Unreadable => self.end_early("index.json: cannot be read", output),
         }
     }
 
