@@ -9,7 +9,7 @@ use Rattle.oci_schemas.specs.declared.kind.Kind.{Kind}
 use Rattle.oci_schemas.specs.Kinds.{shape_of}
 use Rattle.oci_rules.specs.Rules.{Rule}
 use Rattle.oci_findings.specs.declared.finding.Finding.{Finding}
-use Rattle.oci_findings.specs.Checks.{HasNoKind, IsAllowed, IsAsked, IsKindIn, IsRight, IsRightValue, IsWrong}
+use Rattle.oci_findings.specs.Checks.{HasKeysOnce, HasNoKind, IsAllowed, IsAsked, IsKindIn, IsRight, IsRightValue, IsWrong}
 use Rattle.oci_findings.specs.FoundKind.{kind_for}
 use Rattle.oci_findings.specs.declared.asked.Check.{Check}
 
@@ -81,15 +81,16 @@ none_of_no_kind asked name bytes xs none allowed = absurd (not_allowed asked nam
 
 -- ---- all that is asked
 
-pub right_of : (books : Kind → List Rule) (a : Check) (name bytes : List ℕ) (kind : Kind) (d : Data) (xs : List Finding) → IsAsked a.kind name d kind → ReadsAs bytes d → (xs ≡ []) ↔ IsRightValue books a kind d → xs ≡ []
+pub right_of : (books : Kind → List Rule) (a : Check) (name bytes : List ℕ) (kind : Kind) (d : Data) (xs : List Finding) → IsAsked a.kind name d kind → ReadsAs bytes d → (xs ≡ []) ↔ (IsRightValue books a kind d × HasKeysOnce kind bytes) → xs ≡ []
     → IsRight books a name bytes
-right_of books a name bytes kind d xs is reads h e = (kind, d, is, reads, h.0 e)
+right_of books a name bytes kind d xs is reads h e = let (holds, once) = h.0 e in (kind, d, is, reads, holds, once)
 
-pub wrong_of : (books : Kind → List Rule) (a : Check) (name bytes : List ℕ) (kind : Kind) (d : Data) (xs : List Finding) → IsAsked a.kind name d kind → ReadsAs bytes d → (xs ≡ []) ↔ IsRightValue books a kind d → ¬ (xs ≡ [])
+pub wrong_of : (books : Kind → List Rule) (a : Check) (name bytes : List ℕ) (kind : Kind) (d : Data) (xs : List Finding) → IsAsked a.kind name d kind → ReadsAs bytes d → (xs ≡ []) ↔ (IsRightValue books a kind d × HasKeysOnce kind bytes) → ¬ (xs ≡ [])
     → IsWrong books a name bytes
-wrong_of books a name bytes kind d xs is reads h some (other, e, asks, was, holds) =
+wrong_of books a name bytes kind d xs is reads h some (other, e, asks, was, holds, once) =
     let same : e ≡ d = one_value bytes d e reads was in
-    some (h.1 (subst (λ x. IsRightValue books a kind x) same (subst (λ k. IsRightValue books a k e) (one_kind a.kind name d e kind other same is asks) holds)))
+    let one : other ≡ kind = one_kind a.kind name d e kind other same is asks in
+    some (h.1 (subst (λ x. IsRightValue books a kind x) same (subst (λ k. IsRightValue books a k e) one holds), subst (λ k. HasKeysOnce k bytes) one once))
 
 pub wrong_of_no_kind : (books : Kind → List Rule) (a : Check) (name bytes : List ℕ) → HasNoKind a.kind name bytes → IsWrong books a name bytes
-wrong_of_no_kind books a name bytes none (kind, d, is, reads, holds) = no_document a.kind name bytes d kind none is reads
+wrong_of_no_kind books a name bytes none (kind, d, is, reads, holds, once) = no_document a.kind name bytes d kind none is reads

@@ -4,6 +4,7 @@ pub mod Each
 pub mod Facts
 pub mod Forms
 pub mod FoundKinds
+pub mod Keys
 pub mod Listed
 pub mod Marks
 pub mod Told

@@ -10,6 +10,7 @@ use Rattle.oci_model.specs.Means.{Means}
 use Rattle.oci_json.specs.Engines.{IsNoJson, MeansBytes, ReadsAs}
 use Rattle.oci_schemas.specs.declared.kind.Kind.{Kind}
 use Rattle.oci_schemas.specs.Kinds.{shape_of}
+use Rattle.oci_schema.specs.Twice.{repeated}
 use Rattle.oci_schema.specs.Unknown.{Report, unknown}
 use Rattle.oci_rules.specs.Breaks.{Told}
 use Rattle.oci_rules.specs.Documents.{platform_in}
@@ -18,6 +19,7 @@ use Rattle.oci_rules.specs.Rules as rules
 use Rattle.oci_rules.specs.Rules.{Level, must, stated, should, host}
 use Rattle.oci_rules.specs.Tables.{level_of, platform_of, rule_of}
 use Rattle.oci_rules.specs.declared.rule.RuntimePlatform.{RuntimePlatform}
+use Rattle.oci_findings.specs.Annotations.{is_annotation}
 use Rattle.oci_findings.specs.FoundKind.{kind_for}
 use Rattle.oci_findings.specs.declared.asked.Check.{Check}
 use Rattle.oci_findings.specs.declared.asked.Unknown.{Unknown}
@@ -60,6 +62,10 @@ AllListed kind d = unknown (shape_of kind) [] d ≡ []
 -- the bytes are JSON in which no object has two members of one name
 abbrev pub HasNamesOnce : List ℕ → Type 0
 HasNamesOnce bytes = IsSomeAnd (document bytes) HasUniqueKeys
+
+-- no key stands twice among the annotations of the JSON in the bytes: no name does at all, or those that do are elsewhere
+abbrev pub HasKeysOnce : Kind → List ℕ → Type 0
+HasKeysOnce kind bytes = HasNamesOnce bytes ⊎ IfSome (document bytes) (λ j. filter (is_annotation kind) (repeated [] j) ≡ [])
 
 -- all members of the document in the bytes, of which this is the value, are in its canonical form
 abbrev pub AllKept : Kind → Data → List ℕ → Type 0
@@ -116,9 +122,9 @@ denied Allow kind d = []
 abbrev pub IsRightValue : (Kind → List rules.Rule) → Check → Kind → Data → Type 0
 IsRightValue books a kind d = ((p : Plain) × Means (shape_of kind) d p) × ((counted books a kind d ≡ []) × (denied a.unknown kind d ≡ []))
 
--- the bytes of a file of this name are such a value, of the kind that is asked for, or of the one that is found
+-- the bytes of a file of this name are such a value, of the kind that is asked for, or of the one that is found, and no key of an annotation stands twice
 abbrev pub IsRight : (Kind → List rules.Rule) → Check → List ℕ → List ℕ → Type 0
-IsRight books a name bytes = (kind : Kind) × (d : Data) × IsAsked a.kind name d kind × ReadsAs bytes d × IsRightValue books a kind d
+IsRight books a name bytes = (kind : Kind) × (d : Data) × IsAsked a.kind name d kind × ReadsAs bytes d × IsRightValue books a kind d × HasKeysOnce kind bytes
 
 -- they are not
 abbrev pub IsWrong : (Kind → List rules.Rule) → Check → List ℕ → List ℕ → Type 0

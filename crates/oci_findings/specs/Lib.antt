@@ -1,3 +1,4 @@
+pub mod Annotations
 pub mod Checks
 pub mod Contents
 pub mod Files
@@ -8,5 +9,6 @@ pub mod Kinds
 pub mod Known
 pub mod LeftOut
 pub mod Lines
+pub mod Repeated
 pub mod Reports
 pub mod Wording

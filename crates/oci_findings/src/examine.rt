@@ -1,5 +1,5 @@
 //! What is wrong with the bytes of a document, beside its schema too: rules, and members that the schema does not list.
-ghost use Rattle.std.specs.Prelude.{◌≡◌, ◌↔◌, ◌++◌, ◌+◌, ◌∷◌, [], Some, map, length, IfOk, OnOk};
+ghost use Rattle.std.specs.Prelude.{◌≡◌, ◌↔◌, ◌++◌, ◌+◌, ◌∷◌, [], Some, map, length, IfOk, IsUtf8, OnOk};
 ghost use Rattle.std.specs.List.{filter, flat_map};
 ghost use Rattle.serde_json.specs.View.{view};
 ghost use Rattle.oci_schemas.specs.Kinds.{shape_of};
@@ -7,12 +7,12 @@ ghost use Rattle.oci_schema.specs.Unknown.{unknown as all_unknown};
 ghost use Rattle.oci_rules.specs.Listed.{all_broken};
 ghost use Rattle.oci_rules.specs.Tables.{level_of, platform_of, rule_of, told as broken_told};
 ghost use Rattle.oci_findings.specs.Findings.{breach};
-ghost use Rattle.oci_findings.specs.Checks.{AllKept, IsRight, IsRightValue, IsWrong, asked_rules, platform_asked, counts as does_count, binds as does_bind, is_error as makes_wrong, counted, denied, rules_if};
+ghost use Rattle.oci_findings.specs.Checks.{AllKept, HasKeysOnce, IsRight, IsRightValue, IsWrong, asked_rules, platform_asked, counts as does_count, binds as does_bind, is_error as makes_wrong, counted, denied, rules_if};
 
 use crate::asked::{Check, Unknown};
 use crate::inspect::{Reading, faulty, read_value, schema_errors};
 use crate::quick::is_right;
-use crate::repeated::{repeated_findings, warn_of_repeated};
+use crate::repeated::{key_errors, repeated_findings, repeated_if_any, warn_of_repeated};
 use crate::rulebooks::RuleBooks;
 use crate::shown::{name_at, shown_at};
 use crate::{Cause, Finding, Report, Severity};
@@ -90,11 +90,14 @@ impl<'e, 'a, B> Drop for Examination<'e, 'a, B> {
 impl<'e, 'a, B: RuleBooks> Examination<'e, 'a, B> {
     /// The report on a value that was read from these bytes.
     fn report(&self, name: &str, value: &Value, bytes: &[u8]) -> Result<Report<'a>, AllocError>
-        ensures { IfOk result (λ r. (r.errors.items ≡ []) ↔ IsRightValue (B.rules self.now.books.now) self.now.asked.now self.now.kind (view value.now)) }
+        ensures { IfOk result (λ r. IsUtf8 bytes.now → (r.errors.items ≡ []) ↔ (IsRightValue (B.rules self.now.books.now) self.now.asked.now self.now.kind (view value.now) × HasKeysOnce self.now.kind bytes.now)) }
     {
         let mut warnings = warnings_of(self.asked.unknown, self.kind, value, self.alloc)?;
-        let errors = self.errors(name, value, &mut warnings)?;
-        warn_of_repeated(bytes, &mut warnings, self.alloc)?;
+        let of_value = self.errors(name, value, &mut warnings)?;
+        let repeated = repeated_if_any(bytes, self.alloc)?;
+        let of_keys = key_errors(self.kind, &repeated, self.alloc)?;
+        warn_of_repeated(self.kind, &repeated, &mut warnings, self.alloc)?;
+        let errors = joined(of_value, of_keys)?;
         Report::new(errors, warnings, bytes, self.alloc)
     }
 

@@ -1,6 +1,7 @@
 //! What is wrong with the bytes of a document, as findings with their places, and how findings are shown: as lines, JSON and SARIF.
 #![tactic(auto)]
 
+pub mod annotations;
 pub mod asked;
 pub mod claimed;
 pub mod contents;

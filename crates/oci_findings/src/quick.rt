@@ -5,7 +5,7 @@ ghost use Rattle.oci_json.specs.Engines.{ReadsAs};
 ghost use Rattle.oci_json_tape.specs.Elements.{BeginsWithData};
 ghost use Rattle.oci_schemas.specs.declared.kind.Kind.{Kind as kind_type};
 ghost use Rattle.oci_rules.specs.Rules.{Rule as rule_data};
-ghost use Rattle.oci_findings.specs.Checks.{IsKindIn, IsOfKind, IsRight};
+ghost use Rattle.oci_findings.specs.Checks.{HasNamesOnce, IsKindIn, IsOfKind, IsRight};
 ghost use Rattle.oci_findings.specs.Forms.{IsForm};
 ghost use Rattle.oci_findings.specs.declared.asked.Unknown.TheVariants.{Allow};
 
@@ -104,7 +104,7 @@ fn form(kind: Kind, bytes: &[u8], tape: &Tape<'_>, pretty: bool, alloc: Global) 
 
 /// The text as a tape, if it is JSON in which no object has a name twice.
 fn opened<'a>(bytes: &'a [u8], workspace: &'a mut Workspace, alloc: Global) -> Option<Tape<'a>>
-    ensures { IfSome result (λ tape. (d : Data) × ReadsAs bytes.now d × BeginsWithData tape d) }
+    ensures { IfSome result (λ tape. (d : Data) × ReadsAs bytes.now d × BeginsWithData tape d × HasNamesOnce bytes.now) }
 {
     match from_utf8(bytes) {
         Ok(text) => match open_strict(alloc, text, workspace.scratch()) {

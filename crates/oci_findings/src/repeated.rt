@@ -1,51 +1,107 @@
 //! Members whose name an earlier member of the same object has. The last one counts.
-ghost use Rattle.std.specs.Prelude.{◌≡◌, ◌↔◌, [], length, IfOk};
+ghost use Rattle.std.specs.Prelude.{◌≡◌, ◌↔◌, ◌+◌, [], true, length, map, string_bytes, IfOk, OnOk, IsUtf8};
+ghost use Rattle.std.specs.List.{filter};
+ghost use Rattle.oci_findings.specs.Annotations.{is_annotation as is_annotation_of};
 ghost use Rattle.oci_findings.specs.Checks.{HasNamesOnce};
+ghost use Rattle.oci_findings.specs.Repeated.{AreRepeated};
 
+use crate::annotations::is_annotation;
 use crate::{Cause, Finding, Severity};
 use json::{Error, Scratch, Tape};
 use oci_schema::repeated_names;
+use oci_schemas::Kind;
 use std::alloc::{AllocError, Global};
 
-/// Adds a warning of each member whose name an earlier member of the same object has. Nothing is added for bytes that are not JSON.
+/// Adds a warning of each of these members that is no annotation of a document of the kind.
 pub fn warn_of_repeated(
-    bytes: &[u8],
+    kind: Kind,
+    repeated: &Vec<String>,
     found: &mut Vec<Finding<'_>>,
     alloc: Global,
 ) -> Result<(), AllocError> {
-    for pointer in repeated_if_any(bytes, alloc)? {
-        found.push(repeated_finding(pointer, true))?;
+    for pointer in repeated {
+        if !is_annotation(kind, pointer.as_str()) {
+            add_at(pointer.as_str(), true, found, alloc)?;
+        }
     }
+    Ok(())
+}
+
+/// An error of each of these members that is an annotation of a document of the kind: its key has to be unique.
+pub fn key_errors<'a>(
+    kind: Kind,
+    repeated: &Vec<String>,
+    alloc: Global,
+) -> Result<Vec<Finding<'a>>, AllocError>
+    ensures { IfOk result (λ v. length v.items ≡ length (filter (is_annotation_of kind) (map string_bytes repeated.now.items))) }
+{
+    let mut found = Vec::new(alloc);
+    for pointer in repeated {
+        if is_annotation(kind, pointer.as_str()) {
+            add_at(pointer.as_str(), false, &mut found, alloc)?;
+        }
+    }
+    Ok(found)
+}
+
+/// Adds a finding at a pointer.
+fn add_at(
+    pointer: &str,
+    is_warning: bool,
+    found: &mut Vec<Finding<'_>>,
+    alloc: Global,
+) -> Result<(), AllocError>
+    ensures { OnOk result (length found.new.items ≡ length found.old.items + 1) }
+{
+    let pointer = String::from_str(alloc, pointer)?;
+    found.push(repeated_finding(pointer, is_warning))?;
     Ok(())
 }
 
 /// The pointer of each member whose name an earlier member of the same object has; none for bytes that are not JSON. Fails if out of
 /// memory.
-pub fn repeated_if_any(bytes: &[u8], alloc: Global) -> Result<Vec<String>, AllocError> {
-    if let Ok(text) = std::str::from_utf8(bytes) {
-        if has_repeated(text, alloc)? {
-            return known(repeated_names(text, alloc), alloc);
-        }
+pub fn repeated_if_any(bytes: &[u8], alloc: Global) -> Result<Vec<String>, AllocError>
+    ensures { IfOk result (λ v. IsUtf8 bytes.now → AreRepeated bytes.now v.items) }
+{
+    match std::str::from_utf8(bytes) {
+        Ok(text) => repeated_in(text, alloc),
+        Err(_) => Ok(Vec::new(alloc)),
     }
-    Ok(Vec::new(alloc))
 }
 
-/// Whether the text is JSON, and a name stands twice in an object.
-fn has_repeated(text: &str, alloc: Global) -> Result<bool, AllocError> {
+/// The same of a text. A tape shows sooner than values that no name stands twice.
+#[tactic(auto, using(crate::proofs::Keys::none_repeated))]
+fn repeated_in(text: &str, alloc: Global) -> Result<Vec<String>, AllocError>
+    ensures { IfOk result (λ v. AreRepeated text.now v.items) }
+{
+    if has_names_once(text, alloc)? {
+        Ok(Vec::new(alloc))
+    } else {
+        all_repeated(text, alloc)
+    }
+}
+
+/// Whether the text is JSON in which no name stands twice in an object; `false` also if that was not found out.
+fn has_names_once(text: &str, alloc: Global) -> Result<bool, AllocError>
+    ensures { IfOk result (λ b. b ≡ true → HasNamesOnce text.now) }
+{
     let mut scratch = Scratch::new(alloc);
     match Tape::parse_strict(text, &mut scratch, Vec::new(alloc)) {
-        Ok(_) | Err(Error::Invalid | Error::TooLong) => Ok(false),
-        Err(Error::DuplicateKey) => Ok(true),
+        Ok(_) => Ok(true),
         Err(Error::OutOfMemory) => Err(AllocError),
+        Err(_) => Ok(false),
     }
 }
 
-/// The pointers that were found; none if the text is not JSON.
-fn known(found: Result<Vec<String>, Error>, alloc: Global) -> Result<Vec<String>, AllocError> {
-    match found {
+/// The pointers of all such members; none if the text is not JSON.
+#[tactic(auto, using(crate::proofs::Keys::all_listed, crate::proofs::Keys::none_of_no_json))]
+fn all_repeated(text: &str, alloc: Global) -> Result<Vec<String>, AllocError>
+    ensures { IfOk result (λ v. AreRepeated text.now v.items) }
+{
+    match repeated_names(text, alloc) {
         Ok(pointers) => Ok(pointers),
-        Err(Error::OutOfMemory) => Err(AllocError),
-        Err(_) => Ok(Vec::new(alloc)),
+        Err(Error::Invalid) => Ok(Vec::new(alloc)),
+        Err(_) => Err(AllocError),
     }
 }
 

@@ -1,6 +1,6 @@
-use Rattle.std.proofs.Common.{sym, subst, rules}
+use Rattle.std.proofs.Common.{inl, sym, subst, rules}
 use Rattle.oci_json_tape.specs.Elements.{BeginsWithData}
-use Rattle.oci_findings.specs.Checks.{IsAsked, IsOfKind}
+use Rattle.oci_findings.specs.Checks.{HasKeysOnce, IsAsked, IsOfKind}
 use Rattle.oci_findings.proofs.Allowed.{asked_at}
 use Rattle.oci_findings.proofs.quick.is_right.Goals as goal
 
@@ -11,4 +11,5 @@ returns-in-Some-kind_of c = λ yes books.
     let m : IsOfKind kind c.args.bytes.now = c.is_document.ensures yes o.0 o.1 o.2 in
     let begins : BeginsWithData c.root.result o.0 = subst (λ ts. BeginsWithData ts o.0) (sym c.root.ensures.same) o.2 in
     let asks : IsAsked c.args.asked.now.kind c.args.name.now m.1.0 kind = asked_at c.args.asked.now.kind c.args.name.now c.args.bytes.now o.0 m.1.0 kind o.1 m.1.1 (sym (c.in-Some-kind_of.ensures o.0 begins)) in
+    let once : HasKeysOnce kind c.args.bytes.now = inl o.3 in
     search rules
