@@ -1,5 +1,5 @@
 -- SHA-256 digests, recognized by the name of their algorithm.
-use Rattle.std.proofs.Common.{◌≡◌, ℕ, List, Bool, true, false, cond, bytes_eq, codes, Some, None, refl, sym, subst, ap, ◌∙◌}
+use Rattle.std.proofs.Common.{◌≡◌, ℕ, List, Bool, true, false, cond, bytes_eq, codes, Option, Some, None, ◌↔◌, refl, sym, subst, ap, ◌∙◌}
 use Rattle.std.proofs.lemmas.Slice.Eq.{bytes_eq-Decides}
 use Rattle.oci_base.specs.Digest.{IsDigest, IsDigestText}
 use Rattle.oci_base.specs.Names.{Name, variant, other, is_listed, opened, name_text}
@@ -28,10 +28,14 @@ no_part table d t n text is named a e h =
     let absent : bytes_eq a (codes "sha256") ≡ false = subst (λ u. bytes_eq u (codes "sha256") ≡ false) (own_text table a t n text (named a e h)) is in
     sym (ap (λ b. cond b (Some e) None) absent)
 
--- the digest is one of SHA-256, where the algorithm's text is `sha256`
-pub is_sha256 : (table : List (List ℕ)) (d t rest : List ℕ) (n : Name) → t ≡ name_text n → bytes_eq t (codes "sha256") ≡ true
-    → ((a e : List ℕ) → IsDigest d a e → n ≡ opened table a) → ((a e : List ℕ) → IsDigest d a e → rest ≡ e)
-    → IsDigestText d → IsDigest d (codes "sha256") rest
-is_sha256 table d t rest n text is named encoded (a, e, h) =
-    let algorithm : a ≡ codes "sha256" = sym (own_text table a t n text (named a e h)) ∙ (bytes_eq-Decides t (codes "sha256")).0 is in
-    subst (λ b. IsDigest d b rest) algorithm (subst (λ r. IsDigest d a r) (sym (encoded a e h)) h)
+-- there is a part exactly where the digest is one of SHA-256
+of_part : (b : Bool) (d a x e : List ℕ) → bytes_eq a (codes "sha256") ≡ b → IsDigest d a x → cond b (Some x) None ≡ Some e → IsDigest d (codes "sha256") e
+of_part true d a x e named h is =
+    let algorithm : a ≡ codes "sha256" = (bytes_eq-Decides a (codes "sha256")).0 named in
+    let encoded : x ≡ e = cc in
+    subst (λ y. IsDigest d (codes "sha256") y) encoded (subst (λ y. IsDigest d y x) algorithm h)
+of_part false d a x e named h is = absurd (cc)
+
+pub is_sha256 : (d : List ℕ) (o : Option (List ℕ)) → IsDigestText d → ((a e : List ℕ) → IsDigest d a e → o ≡ sha256_part a e)
+    → (e : List ℕ) → (o ≡ Some e) ↔ IsDigest d (codes "sha256") e
+is_sha256 d o (a, x, h) value e = ((λ is. of_part (bytes_eq a (codes "sha256")) d a x e refl h (sym (value a x h) ∙ is)), (λ k. value (codes "sha256") e k))

@@ -16,8 +16,8 @@ use std::alloc::Global;
 /// `sha384` or `sha512`, and then to the result. Fails with `Memory` alone.
 pub fn pin(alloc: Global, reference: &Reference, descriptor: &Descriptor) -> Result<Reference>
     ensures ok { IfOk result (λ p. p ≡ record reference.now { tag = None; digest = Some descriptor.now.digest }) }
-    ensures accepted { IfOk result (λ p. (t a e : List ℕ) → Accepted t reference.now → IsDigest descriptor.now.digest a e
-        → ((q : Parts) × Accepted (whole p) q) ↔ IsSupported a) }
+    ensures accepted { IfOk result (λ p. (t : List ℕ) → Accepted t reference.now
+        → ((q : Parts) × Accepted (whole p) q) ↔ ((a : List ℕ) × (e : List ℕ) × IsDigest descriptor.now.digest a e × IsSupported a)) }
     ensures alone { IfOk result (λ p. (t : List ℕ) (q : Parts) → Accepted t reference.now → Accepted (whole p) q → q ≡ p) }
     ensures err { IfErr result (λ e. e ≡ OciSpecError.Memory) }
 {

@@ -5,7 +5,7 @@ use super::Descriptor;
 use oci_text::{Digest, MediaType};
 
 impl Descriptor {
-    ghost use Rattle.std.specs.Prelude.{ℕ, List, codes, option_map, IfSome};
+    ghost use Rattle.std.specs.Prelude.{◌↔◌, ℕ, List, codes, option_map, Some};
     ghost use Rattle.oci_base.specs.Digest.{IsDigest};
     ghost use Rattle.oci_descriptor.specs.DescriptorOwn.{described, sha256_part};
 
@@ -25,10 +25,10 @@ impl Descriptor {
         }
     }
 
-    /// The encoded part of the digest if its algorithm is `sha256`, else `None`.
+    /// The encoded part of the digest, if its algorithm is `sha256` and only then.
     pub fn as_digest_sha256(&self) -> Option<&str>
         ensures value { (a e : List ℕ) → IsDigest self.now.digest a e → option_map (λ t. t.now) result ≡ sha256_part a e }
-        ensures sha256 { IfSome result (λ t. IsDigest self.now.digest (codes "sha256") t.now) }
+        ensures sha256 { (e : List ℕ) → (option_map (λ t. t.now) result ≡ Some e) ↔ IsDigest self.now.digest (codes "sha256") e }
     {
         if self.digest.algorithm().as_ref() == "sha256" {
             Some(self.digest.digest())

@@ -10,4 +10,7 @@ pub returns-else-eq-clause-value : goal.returns-else-eq-clause-value
 returns-else-eq-clause-value c = no_part algorithms _ _ _ c.as_ref.ensures (sym c.eq.ensures ∙ c.if-eq.false) c.algorithm.ensures.value
 
 pub returns-then-eq-clause-sha256 : goal.returns-then-eq-clause-sha256
-returns-then-eq-clause-sha256 c = is_sha256 algorithms _ _ _ _ c.as_ref.ensures (sym c.eq.ensures ∙ c.if-eq.true) c.algorithm.ensures.value c.digest.ensures.value c.digest.ensures.digest
+returns-then-eq-clause-sha256 c = is_sha256 _ _ c.algorithm.ensures.digest (returns-then-eq-clause-value c)
+
+pub returns-else-eq-clause-sha256 : goal.returns-else-eq-clause-sha256
+returns-else-eq-clause-sha256 c = is_sha256 _ _ c.algorithm.ensures.digest (returns-else-eq-clause-value c)
