@@ -1,5 +1,5 @@
 //! The rules that a document breaks.
-ghost use Rattle.std.specs.Prelude.{◌≡◌, ◌≤◌, ◌<◌, ◌++◌, ◌↔◌, ℕ, List, map, length, None, IfOk, OnOk, IsSomeAnd};
+ghost use Rattle.std.specs.Prelude.{◌≡◌, ◌≤◌, ◌<◌, ◌++◌, ◌↔◌, ℕ, List, map, length, None, IfOk, IfErr, OnOk, IsSomeAnd};
 ghost use Rattle.serde_json.specs.View.{view};
 ghost use Rattle.oci_json.specs.Engines.{IsNoJson};
 ghost use Rattle.oci_schemas.specs.declared.kind.Kind.{Kind};
@@ -28,6 +28,17 @@ use oci_rules::{Level, Rule, RuntimePlatform, broken};
 use oci_schemas::Kind;
 use serde_json::Value;
 use std::alloc::{AllocError, Global};
+
+/// The rules that are asked for.
+#[derive(Clone, Copy)]
+struct Asked {
+    /// The kind of documents.
+    kind: Kind,
+    /// The last of the levels.
+    last: Level,
+    /// The number of the platform.
+    platform: u32,
+}
 
 /// What of a document breaks rules.
 #[derive(Drop)]
@@ -87,63 +98,58 @@ fn found_in(
     Ok(Findings { fields, count })
 }
 
-/// Writes what of the value breaks the rules.
-fn write(
-    alloc: Global,
-    kind: Kind,
-    last: Level,
-    platform: RuntimePlatform,
-    value: &Value,
-    buffer: &mut [u8],
-    output_len: &mut usize,
-    count: &mut usize,
-) -> u32
-    requires { (output_len.old ≡ 0) × (count.old ≡ 0) }
-    ensures done { result ≡ DONE → (list : List ℕ) × Fills buffer.old buffer.new output_len.new list × ListsBroken (rules_up_to (level_for last) (books.rules_of kind)) (platform_for platform) (view value.now) list }
-    ensures small { result ≡ BUFFER_TOO_SMALL → (list : List ℕ) × Overflows buffer.old buffer.new output_len.new list × ListsBroken (rules_up_to (level_for last) (books.rules_of kind)) (platform_for platform) (view value.now) list }
-    ensures counted { result ≤ BUFFER_TOO_SMALL → count.new ≡ length (all_broken (rules_up_to (level_for last) (books.rules_of kind)) (platform_for platform) (view value.now)) }
-    ensures none { result ≤ BUFFER_TOO_SMALL → (count.new ≡ 0) ↔ KeepsAll (rules_up_to (level_for last) (books.rules_of kind)) (platform_for platform) (view value.now) }
-    ensures untouched { BUFFER_TOO_SMALL < result → Untouched buffer.old buffer.new output_len.new × (count.new ≡ 0) }
-    ensures status { result ≤ OUT_OF_MEMORY }
+/// What of the document breaks the rules that are asked for.
+///
+/// # Errors
+///
+/// The status that the C function returns.
+fn found_in_text(asked: Asked, document: &[u8], alloc: Global) -> Result<Findings, u32>
+    ensures listed { IfOk result (λ r. Lists asked.kind (level_for asked.last) asked.platform document.now r.fields.items) }
+    ensures counted { IfOk result (λ r. Counts asked.kind (level_for asked.last) asked.platform document.now r.count) }
+    ensures json { IfErr result (λ s. s ≡ INVALID_JSON → IsNoJson document.now) }
+    ensures platform { IfErr result (λ s. s ≡ UNKNOWN_PLATFORM → FREEBSD < asked.platform) }
+    ensures known { IfErr result (λ s. ¬ (s ≡ UNKNOWN_KIND) × ¬ (s ≡ UNKNOWN_LEVEL)) }
+    ensures status { IfErr result (λ s. (BUFFER_TOO_SMALL < s) × (s ≤ UNKNOWN_PLATFORM)) }
 {
-    match found_in(kind, last, platform, value, alloc) {
-        Ok(found) => {
-            *count = found.count;
-            put(found.fields.as_slice(), buffer, output_len)
-        }
-        Err(_) => OUT_OF_MEMORY,
+    let value = match value_from_slice(alloc, document) {
+        Ok(value) => value,
+        Err(error) => return Err(status_of(&error)),
+    };
+    let Some(on) = platform_of(asked.platform, &value) else {
+        return Err(UNKNOWN_PLATFORM);
+    };
+    match found_in(asked.kind, asked.last, on, &value, alloc) {
+        Ok(found) => Ok(found),
+        Err(_) => Err(OUT_OF_MEMORY),
     }
 }
 
-/// Reads the document, and writes what of it breaks the rules.
+/// Writes what of the document breaks the rules that are asked for, as `ciderglen_broken_rules` does.
 fn report(
     alloc: Global,
-    kind: Kind,
-    last: Level,
-    platform: u32,
+    asked: Asked,
     document: &[u8],
     buffer: &mut [u8],
     output_len: &mut usize,
     count: &mut usize,
 ) -> u32
-    ensures done { result ≡ DONE → (list : List ℕ) × Fills buffer.old buffer.new output_len.new list × Lists kind (level_for last) platform document.now list }
-    ensures small { result ≡ BUFFER_TOO_SMALL → (list : List ℕ) × Overflows buffer.old buffer.new output_len.new list × Lists kind (level_for last) platform document.now list }
-    ensures counted { result ≤ BUFFER_TOO_SMALL → Counts kind (level_for last) platform document.now count.new }
+    ensures done { result ≡ DONE → (list : List ℕ) × Fills buffer.old buffer.new output_len.new list × Lists asked.kind (level_for asked.last) asked.platform document.now list }
+    ensures small { result ≡ BUFFER_TOO_SMALL → (list : List ℕ) × Overflows buffer.old buffer.new output_len.new list × Lists asked.kind (level_for asked.last) asked.platform document.now list }
+    ensures counted { result ≤ BUFFER_TOO_SMALL → Counts asked.kind (level_for asked.last) asked.platform document.now count.new }
     ensures json { result ≡ INVALID_JSON → IsNoJson document.now }
-    ensures platform { result ≡ UNKNOWN_PLATFORM → FREEBSD < platform }
+    ensures platform { result ≡ UNKNOWN_PLATFORM → FREEBSD < asked.platform }
     ensures untouched { BUFFER_TOO_SMALL < result → Untouched buffer.old buffer.new output_len.new × (count.new ≡ 0) }
     ensures known { ¬ (result ≡ UNKNOWN_KIND) × ¬ (result ≡ UNKNOWN_LEVEL) }
     ensures status { result ≤ UNKNOWN_PLATFORM }
 {
     *output_len = 0;
     *count = 0;
-    let value = match value_from_slice(alloc, document) {
-        Ok(value) => value,
-        Err(error) => return status_of(&error),
-    };
-    match platform_of(platform, &value) {
-        Some(on) => write(alloc, kind, last, on, &value, buffer, output_len, count),
-        None => UNKNOWN_PLATFORM,
+    match found_in_text(asked, document, alloc) {
+        Ok(found) => {
+            *count = found.count;
+            put(found.fields.as_slice(), buffer, output_len)
+        }
+        Err(status) => status,
     }
 }
 
@@ -187,7 +193,10 @@ pub extern "C" fn ciderglen_broken_rules(
         *count = 0;
         return UNKNOWN_LEVEL;
     };
-    report(
-        alloc, kind, last, platform, document, buffer, output_len, count,
-    )
+    let asked = Asked {
+        kind,
+        last,
+        platform,
+    };
+    report(alloc, asked, document, buffer, output_len, count)
 }
