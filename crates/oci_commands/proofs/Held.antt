@@ -1,5 +1,7 @@
 -- What holds of the bytes of a file, where they are known.
 use Rattle.std.proofs.Common.{◌≡◌, ◌⊎◌, ◌++◌, ◌∙◌, [], inl, inr, ℕ, List, Bool, true, false, Option, Some, None, Result, Ok, Err, ap, refl, sym, subst}
+use Rattle.std.proofs.lemmas.Option.{IfSome_then}
+use Rattle.std.specs.Borrow.{Bor}
 use Rattle.std.specs.Prelude.{IfSome, OnOk}
 use Rattle.oci_model.specs.Shape.{Shape}
 use Rattle.oci_json.specs.Engines.{WritesDocument}
@@ -10,7 +12,7 @@ use Rattle.oci_doc_run.specs.Outputs.{WritesPinned}
 use Rattle.oci_findings.specs.Checks.{IsKindIn}
 use Rattle.oci_findings.proofs.Allowed.{kind_held}
 use Rattle.oci_findings.specs.Forms.{IsForm}
-use Rattle.oci_commands.specs.Formats.{Formats, FormatsAs}
+use Rattle.oci_commands.specs.Formats.{Formats, FormatsAs, HoldsPut}
 
 -- what holds of the bytes that were read
 pub held : (P : List ℕ → Type 0) (known : Option (List ℕ)) (bytes : List ℕ) → IfSome known (λ b. bytes ≡ b) → P bytes → IfSome known P
@@ -77,3 +79,7 @@ pinned_held text (Some b) bytes Writes is h = subst (λ x. WritesPinned text (So
 pub fault_held : (N : Type 0) (P : List ℕ → Type 0) (known : Option (List ℕ)) (bytes : List ℕ) → IfSome known (λ b. bytes ≡ b) → N ⊎ P bytes → N ⊎ IfSome known P
 fault_held N P known bytes is (inl none) = inl none
 fault_held N P known bytes is (inr h) = inr (held P known bytes is h)
+
+-- what follows of the bytes of an output
+pub put_then : (holds : List ℕ → Option (List ℕ)) (output : Option (Bor (List ℕ))) (P Q : List ℕ → Type 0) → ((bytes : List ℕ) → P bytes → Q bytes) → HoldsPut holds output P → HoldsPut holds output Q
+put_then holds output P Q f h = IfSome_then output h (λ name known. IfSome_then (holds name.now) known f)

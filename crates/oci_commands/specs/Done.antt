@@ -10,7 +10,7 @@ use Rattle.oci_commands.specs.declared.asked.Asked.{Asked}
 use Rattle.oci_commands.specs.declared.asked.Asked.TheVariants.{Check, Format, Compare, Reference, Digest, FileDigests, Pin, Tree, Rules, Schema}
 use Rattle.oci_findings.specs.Checks.{IsRight, IsWrong}
 use Rattle.oci_commands.specs.Compared.{HoldSame, HoldUnequal}
-use Rattle.oci_commands.specs.Formats.{Formats, IsUnformatted, LosesNothing}
+use Rattle.oci_commands.specs.Formats.{Formats, HoldsPut, IsUnformatted, LosesNothing}
 use Rattle.oci_findings.specs.declared.style.Style.{Style}
 use Rattle.oci_findings.specs.declared.style.Style.TheVariants.{Text, Json, Sarif}
 use Rattle.oci_commands.specs.Refused.{IsNoReference, IsNoDigest, IsNoDescriptor, HasNone}
@@ -51,6 +51,11 @@ IsDone books holds old new (Pin text file) = WritesPinned text.now (holds file.n
 IsDone books holds old new (Tree file) = ⊤
 IsDone books holds old new (Rules name) = ⊤
 IsDone books holds old new (Schema kind) = ⊤
+
+-- after status 0, where `before` and `after` are the bytes of files before and after: what `fmt` was to write into holds the canonical form
+abbrev pub IsPut : (List ℕ → Option (List ℕ)) → (List ℕ → Option (List ℕ)) → Asked → Type 0
+IsPut before after (Format a) = a.check ≡ false → HoldsPut after a.output (λ bytes. Formats a.kind a.file.now a.pretty (before a.file.now) (λ text. text ≡ bytes))
+IsPut before after _ = ⊤
 
 -- after status 1
 abbrev pub IsRejected : (Kind → List Rule) → (List ℕ → Option (List ℕ)) → Asked → Type 0

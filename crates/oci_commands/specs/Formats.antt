@@ -1,5 +1,6 @@
 -- What `fmt` writes, and what it does not accept.
 use Rattle.std.specs.Prelude.{◌≡◌, ◌⊎◌, ⊤, ℕ, List, Bool, true, false, Option, Some, IsSome}
+use Rattle.std.specs.Borrow.{Bor}
 use Rattle.serde_json.specs.Data.{Data}
 use Rattle.oci_model.specs.Plain.{Plain}
 use Rattle.oci_model.specs.Writable.{Writable}
@@ -20,6 +21,10 @@ FormatsAs kind true input Writes = WritesPretty (shape_of kind) input Writes
 -- the same of a file of this name, whose kind is the one that is asked for, or the one that is found
 abbrev pub Formats : Option Kind → List ℕ → Bool → Option (List ℕ) → (List ℕ → Type 0) → Type 0
 Formats asked name pretty input Writes = (kind : Kind) × IsKindIn asked name input kind × FormatsAs kind pretty input Writes
+
+-- what holds of the bytes of the output, if there is one and its bytes are known
+abbrev pub HoldsPut : (List ℕ → Option (List ℕ)) → Option (Bor (List ℕ)) → (List ℕ → Type 0) → Type 0
+HoldsPut holds output Is = IfSome output (λ name. IfSome (holds name.now) Is)
 
 -- the bytes hold no document of the kind that has a canonical form
 abbrev pub HasNoForm : Kind → List ℕ → Type 0

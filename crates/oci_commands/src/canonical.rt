@@ -7,7 +7,7 @@ ghost use Rattle.oci_schema.specs.Normalizes.{WritesPretty};
 ghost use Rattle.oci_schemas.specs.Kinds.{shape_of};
 ghost use Rattle.oci_findings.specs.Checks.{AllKept, IsKindIn};
 ghost use Rattle.oci_findings.specs.Forms.{IsForm};
-ghost use Rattle.oci_commands.specs.Formats.{Formats, FormatsAs, HasNoForm, IsSerDe, IsUnformatted, IsUnformattedAs, KeepsAll, LosesNothing, WouldLose};
+ghost use Rattle.oci_commands.specs.Formats.{Formats, FormatsAs, HasNoForm, IsSerDe, IsUnformatted, IsUnformattedAs, KeepsAll, LosesNothing, WouldLose, HoldsPut};
 ghost use Rattle.oci_commands.specs.Done.{IsStatus};
 
 use crate::asked::Format;
@@ -122,6 +122,7 @@ pub fn format<S: Files, W: Write, E: Write>(
     ensures untouched { asked.now.check ≡ true → Keeps (W.contents writer.old) (W.contents writer.new) × (S.holds store.new ≡ S.holds store.old) }
     ensures canonical { IfOk result (λ s. s ≡ 0 → asked.now.check ≡ true → IfSome (S.holds store.old asked.now.file.now) (λ bytes. Formats asked.now.kind asked.now.file.now asked.now.pretty (Some bytes) (λ t. t ≡ bytes))) }
     ensures written { IfOk result (λ s. s ≡ 0 → asked.now.check ≡ false → asked.now.output ≡ None → Formats asked.now.kind asked.now.file.now asked.now.pretty (S.holds store.old asked.now.file.now) (Appends (W.contents writer.old) (W.contents writer.new))) }
+    ensures put { IfOk result (λ s. s ≡ 0 → asked.now.check ≡ false → HoldsPut (S.holds store.new) asked.now.output (λ b. Formats asked.now.kind asked.now.file.now asked.now.pretty (S.holds store.old asked.now.file.now) (λ t. t ≡ b))) }
     ensures kept { IfOk result (λ s. s ≡ 0 → asked.now.check ≡ false → IsSome asked.now.output → asked.now.drop_unknown ≡ false → IfSome (S.holds store.old asked.now.file.now) (LosesNothing asked.now.kind asked.now.file.now)) }
     ensures refused { IfOk result (λ s. s ≡ 1 → IfSome (S.holds store.old asked.now.file.now) (IsUnformatted asked.now)) }
 {
@@ -171,6 +172,7 @@ impl<'a> Formatting<'a> {
         ensures untouched { self.now.asked.now.check ≡ true → Keeps (W.contents writer.old) (W.contents writer.new) × (S.holds store.new ≡ S.holds store.old) }
         ensures canonical { IfOk result (λ s. s ≡ 0 → self.now.asked.now.check ≡ true → Formats self.now.asked.now.kind self.now.asked.now.file.now self.now.asked.now.pretty (Some self.now.bytes.now) (λ t. t ≡ self.now.bytes.now)) }
         ensures written { IfOk result (λ s. s ≡ 0 → self.now.asked.now.check ≡ false → self.now.asked.now.output ≡ None → Formats self.now.asked.now.kind self.now.asked.now.file.now self.now.asked.now.pretty (Some self.now.bytes.now) (Appends (W.contents writer.old) (W.contents writer.new))) }
+        ensures put { IfOk result (λ s. s ≡ 0 → self.now.asked.now.check ≡ false → HoldsPut (S.holds store.new) self.now.asked.now.output (λ b. Formats self.now.asked.now.kind self.now.asked.now.file.now self.now.asked.now.pretty (Some self.now.bytes.now) (λ t. t ≡ b))) }
         ensures kept { IfOk result (λ s. s ≡ 0 → self.now.asked.now.check ≡ false → IsSome self.now.asked.now.output → self.now.asked.now.drop_unknown ≡ false → LosesNothing self.now.asked.now.kind self.now.asked.now.file.now self.now.bytes.now) }
         ensures refused { IfOk result (λ s. s ≡ 1 → IsUnformatted self.now.asked.now self.now.bytes.now) }
     {
@@ -242,6 +244,7 @@ impl<'a> Formatting<'a> {
         ensures untouched { self.now.asked.now.check ≡ true → Keeps (W.contents writer.old) (W.contents writer.new) × (S.holds store.new ≡ S.holds store.old) }
         ensures canonical { IfOk result (λ s. s ≡ 0 → self.now.asked.now.check ≡ true → FormatsAs found.kind self.now.asked.now.pretty (Some self.now.bytes.now) (λ t. t ≡ self.now.bytes.now)) }
         ensures written { IfOk result (λ s. s ≡ 0 → self.now.asked.now.check ≡ false → self.now.asked.now.output ≡ None → FormatsAs found.kind self.now.asked.now.pretty (Some self.now.bytes.now) (Appends (W.contents writer.old) (W.contents writer.new))) }
+        ensures put { IfOk result (λ s. s ≡ 0 → self.now.asked.now.check ≡ false → HoldsPut (S.holds store.new) self.now.asked.now.output (λ b. FormatsAs found.kind self.now.asked.now.pretty (Some self.now.bytes.now) (λ t. t ≡ b))) }
         ensures kept { IfOk result (λ s. s ≡ 0 → self.now.asked.now.check ≡ false → IsSome self.now.asked.now.output → self.now.asked.now.drop_unknown ≡ false → KeepsAll found.kind self.now.bytes.now) }
         ensures refused { IfOk result (λ s. s ≡ 1 → IsUnformattedAs found.kind self.now.asked.now self.now.bytes.now) }
     {
@@ -302,6 +305,7 @@ impl<'a> Formatting<'a> {
         ensures untouched { self.now.asked.now.check ≡ true → Keeps (W.contents writer.old) (W.contents writer.new) × (S.holds store.new ≡ S.holds store.old) }
         ensures same { IfOk result (λ s. s ≡ 0 → self.now.asked.now.check ≡ true → text.now ≡ self.now.bytes.now) }
         ensures written { IfOk result (λ s. s ≡ 0 → self.now.asked.now.check ≡ false → self.now.asked.now.output ≡ None → Appends (W.contents writer.old) (W.contents writer.new) text.now) }
+        ensures put { IfOk result (λ s. s ≡ 0 → self.now.asked.now.check ≡ false → HoldsPut (S.holds store.new) self.now.asked.now.output (λ b. b ≡ text.now)) }
         ensures kept { IfOk result (λ s. s ≡ 0 → self.now.asked.now.check ≡ false → IsSome self.now.asked.now.output → self.now.asked.now.drop_unknown ≡ false → KeepsAll kind self.now.bytes.now) }
         ensures refused { IfOk result (λ s. s ≡ 1 → WouldLose kind self.now.asked.now self.now.bytes.now ⊎ ((self.now.asked.now.check ≡ true) × (text.now ≢ self.now.bytes.now))) }
     {
@@ -386,6 +390,7 @@ impl<'a> Formatting<'a> {
         ensures untouched { self.now.asked.now.check ≡ true → Keeps (W.contents writer.old) (W.contents writer.new) × (S.holds store.new ≡ S.holds store.old) }
         ensures same { IfOk result (λ s. s ≡ 0 → self.now.asked.now.check ≡ true → text.now ≡ self.now.bytes.now) }
         ensures written { IfOk result (λ s. s ≡ 0 → self.now.asked.now.check ≡ false → self.now.asked.now.output ≡ None → Appends (W.contents writer.old) (W.contents writer.new) (text.now)) }
+        ensures put { IfOk result (λ s. s ≡ 0 → self.now.asked.now.check ≡ false → HoldsPut (S.holds store.new) self.now.asked.now.output (λ b. b ≡ text.now)) }
         ensures differs { IfOk result (λ s. s ≡ 1 → (self.now.asked.now.check ≡ true) × (text.now ≢ self.now.bytes.now)) }
     {
         if self.asked.check {

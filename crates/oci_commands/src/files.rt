@@ -1,5 +1,5 @@
 //! Where a command finds its input.
-ghost use Rattle.std.specs.Prelude.{◌≡◌, ℕ, List, Option, None, IfOk, IfSome};
+ghost use Rattle.std.specs.Prelude.{◌≡◌, ℕ, List, bytes_eq, false, Option, None, IfOk, IfSome, OnOk};
 ghost use Rattle.oci_content.specs.Content.{checksum_of};
 
 use oci_content::{Algorithm, Checksum};
@@ -41,5 +41,7 @@ pub trait Files {
 
     /// Puts these bytes under a name, in place of all that was there; nothing else is changed. Fails if they cannot be written, and
     /// then what was there is unchanged if the system allows.
-    fn replace(&mut self, alloc: Global, name: &str, bytes: &[u8]) -> io::Result<()>;
+    fn replace(&mut self, alloc: Global, name: &str, bytes: &[u8]) -> io::Result<()>
+        ensures put { OnOk result (IfSome (holds self.new name.now) (λ b. b ≡ bytes.now)) }
+        ensures others { (q : List ℕ) → bytes_eq q name.now ≡ false → holds self.new q ≡ holds self.old q };
 }

@@ -1,7 +1,7 @@
 //! A command's whole work.
 ghost use Rattle.std.specs.Prelude.{◌≡◌, IfOk};
 ghost use Rattle.std.specs.Io.KnownBytes.{Keeps};
-ghost use Rattle.oci_commands.specs.Done.{IsStatus, IsDone, IsRejected, IsSilent};
+ghost use Rattle.oci_commands.specs.Done.{IsStatus, IsDone, IsRejected, IsSilent, IsPut};
 
 use crate::asked::Asked;
 use crate::canonical::format;
@@ -30,6 +30,7 @@ pub fn run<S: Files, B: RuleBooks, W: Write, E: Write>(
 ) -> u8
     ensures status { IsStatus result }
     ensures done { result ≡ 0 → IsDone (B.rules books.now) (S.holds store.old) (W.contents writer.old) (W.contents writer.new) asked.now }
+    ensures put { result ≡ 0 → IsPut (S.holds store.old) (S.holds store.new) asked.now }
     ensures wrong { result ≡ 1 → IsRejected (B.rules books.now) (S.holds store.old) asked.now }
     ensures silent { IsSilent asked.now → Keeps (W.contents writer.old) (W.contents writer.new) × (S.holds store.new ≡ S.holds store.old) }
 {
@@ -52,6 +53,7 @@ fn perform<S: Files, B: RuleBooks, W: Write, E: Write>(
 ) -> Result<u8>
     ensures status { IfOk result IsStatus }
     ensures done { IfOk result (λ s. s ≡ 0 → IsDone (B.rules books.now) (S.holds store.old) (W.contents writer.old) (W.contents writer.new) asked.now) }
+    ensures put { IfOk result (λ s. s ≡ 0 → IsPut (S.holds store.old) (S.holds store.new) asked.now) }
     ensures wrong { IfOk result (λ s. s ≡ 1 → IsRejected (B.rules books.now) (S.holds store.old) asked.now) }
     ensures silent { IsSilent asked.now → Keeps (W.contents writer.old) (W.contents writer.new) × (S.holds store.new ≡ S.holds store.old) }
 {

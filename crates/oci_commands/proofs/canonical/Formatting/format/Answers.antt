@@ -2,8 +2,9 @@ use Rattle.std.proofs.Common.{◌≡◌, Some, rules}
 use Rattle.std.specs.Io.KnownBytes.{Appends}
 use Rattle.std.proofs.lemmas.Result.{IfOk-weaker}
 use Rattle.oci_findings.specs.Checks.{IsKindIn}
+use Rattle.oci_commands.specs.Formats.{FormatsAs, Formats}
 use Rattle.oci_commands.proofs.Forms.{unformatted_as}
-use Rattle.oci_commands.proofs.Held.{formats_asked}
+use Rattle.oci_commands.proofs.Held.{formats_asked, put_then}
 use Rattle.oci_commands.proofs.canonical.Formatting.format.Goals as goal
 
 pub returns-in-Some-clause-canonical : goal.returns-in-Some-clause-canonical
@@ -32,3 +33,14 @@ returns-in-Some-clause-kept g c =
     let a = c.args.self.now.asked.now in
     let fits : IsKindIn a.kind a.file.now (Some c.args.self.now.bytes.now) c.in-Some.found.kind = search rules in
     IfOk-weaker c.format_as.result _ _ (λ s keeps zero checks file unasked. (c.in-Some.found.kind, fits, keeps zero checks file unasked)) c.format_as.ensures.kept
+
+pub returns-in-Some-clause-put : goal.returns-in-Some-clause-put
+returns-in-Some-clause-put g c =
+    let a = c.args.self.now.asked.now in
+    let kind = c.in-Some.found.kind in
+    let input = Some c.args.self.now.bytes.now in
+    let fits : IsKindIn a.kind a.file.now input kind = search rules in
+    IfOk-weaker c.format_as.result _ _
+    (λ s put zero checks. put_then (g.S.Files.holds c.format_as.new.store) a.output (λ b. FormatsAs kind a.pretty input (λ t. t ≡ b)) (λ b. Formats a.kind a.file.now a.pretty input (λ t. t ≡ b))
+    (λ b made. formats_asked a.kind a.file.now kind a.pretty input (λ t. t ≡ b) fits made) (put zero checks))
+    c.format_as.ensures.put

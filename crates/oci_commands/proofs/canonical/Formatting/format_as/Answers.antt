@@ -3,7 +3,7 @@ use Rattle.std.specs.Io.KnownBytes.{Appends}
 use Rattle.std.proofs.lemmas.Result.{IfOk-weaker}
 use Rattle.oci_commands.specs.Formats.{FormatsAs}
 use Rattle.oci_commands.proofs.Forms.{not_compact}
-use Rattle.oci_commands.proofs.Held.{as_written}
+use Rattle.oci_commands.proofs.Held.{as_written, put_then}
 use Rattle.oci_commands.proofs.canonical.Formatting.format_as.Goals as goal
 
 pub returns-in-Ok-clause-canonical : goal.returns-in-Ok-clause-canonical
@@ -40,3 +40,14 @@ returns-in-Ok-clause-refused g c =
           )))
     ])
     c.finish.ensures.refused
+
+pub returns-in-Ok-clause-put : goal.returns-in-Ok-clause-put
+returns-in-Ok-clause-put g c =
+    let text = c.in-Ok.text.items in
+    let kind = c.args.found.kind in
+    let pretty = c.args.self.now.asked.now.pretty in
+    let input = Some c.args.self.now.bytes.now in
+    IfOk-weaker c.finish.result _ _
+    (λ s put zero checks. put_then (g.S.Files.holds c.finish.new.store) c.args.self.now.asked.now.output (λ b. b ≡ c.as_slice.result.now) (λ b. FormatsAs kind pretty input (λ t. t ≡ b))
+    (λ b is. as_written kind pretty input (λ t. t ≡ text) (λ t. t ≡ b) (λ t made. made ∙ sym c.as_slice.ensures.value ∙ sym is) c.in-Ok.ensures.ok) (put zero checks))
+    c.finish.ensures.put
