@@ -1,6 +1,6 @@
 //! From bytes to documents.
-ghost use Rattle.std.specs.Prelude.{◌≡◌, ◌+◌, ◌<◌, ◌≤◌, length, vec_len, take, drop, IfOk, IfErr, IfSome, OnOk};
-ghost use Rattle.std.specs.Io.KnownBytes.{Consumes, IsAtEnd};
+ghost use Rattle.std.specs.Prelude.{◌≡◌, ◌+◌, ◌<◌, ◌≤◌, ℕ, List, length, vec_len, take, drop, IfOk, IfErr, IfSome, OnOk, OnErr};
+ghost use Rattle.std.specs.Io.KnownBytes.{Consumes, Keeps, IsAtEnd};
 ghost use Rattle.oci_base.specs.Refused.{IsSchema, IsJson, IsMemoryOrSerDe, IsMemorySerDeOrIo, IsMemoryOrIo};
 ghost use Rattle.serde_json.specs.View.{view};
 ghost use Rattle.oci_json.specs.Engines.{ReadsAs, MeansBytes, IsNoJson, IsNoDocument};
@@ -48,9 +48,11 @@ pub fn value_from_slice(alloc: Global, bytes: &[u8]) -> Result<Value>
 }
 
 /// Reads to the end. Fails with the reader's first error, an interrupted read included, and with `Memory` if out of memory, as for
-/// a reader that never ends.
+/// a reader that never ends; then a beginning was read.
 pub fn bytes_from_reader<R: Read>(alloc: Global, reader: &mut R) -> Result<Vec<u8>>
     ensures ok { IfOk result (λ bytes. IfSome (R.remaining reader.old) (λ all. bytes.items ≡ all)) }
+    ensures end { OnOk result (IsAtEnd (R.remaining reader.new)) }
+    ensures begun { OnErr result ((begun : List ℕ) × Consumes (R.remaining reader.old) (R.remaining reader.new) begun) }
     ensures kind { IfErr result IsMemoryOrIo }
 {
     let mut bytes = Vec::new(alloc);
@@ -65,13 +67,14 @@ pub fn bytes_from_reader<R: Read>(alloc: Global, reader: &mut R) -> Result<Vec<u
     }
 }
 
-/// One read after the first `filled` bytes, which are kept. A full buffer grows first.
+/// One read after the first `filled` bytes, which are kept. A full buffer grows first. After an error nothing was read.
 fn read_more<R: Read>(reader: &mut R, bytes: &mut Vec<u8>, filled: usize) -> Result<usize>
     requires { filled ≤ vec_len bytes.old }
     ensures front { OnOk result (take filled bytes.new.items ≡ take filled bytes.old.items) }
     ensures fits { IfOk result (λ n. filled + n ≤ vec_len bytes.new) }
     ensures ok { IfOk result (λ n. Consumes (R.remaining reader.old) (R.remaining reader.new) (take n (drop filled bytes.new.items))) }
     ensures end { IfOk result (λ n. n ≡ 0 → IsAtEnd (R.remaining reader.new)) }
+    ensures unread { OnErr result (Keeps (R.remaining reader.old) (R.remaining reader.new)) }
     ensures kind { IfErr result IsMemoryOrIo }
 {
     grow_if_full(bytes, filled)?;
@@ -97,6 +100,7 @@ fn read_after<R: Read>(reader: &mut R, bytes: &mut [u8], at: usize) -> io::Resul
     ensures fits { IfOk result (λ n. at + n ≤ length bytes.new) }
     ensures ok { IfOk result (λ n. Consumes (R.remaining reader.old) (R.remaining reader.new) (take n (drop at bytes.new))) }
     ensures end { IfOk result (λ n. n ≡ 0 → IsAtEnd (R.remaining reader.new)) }
+    ensures unread { OnErr result (Keeps (R.remaining reader.old) (R.remaining reader.new)) }
 {
     reader.read(&mut bytes[at..])
 }
