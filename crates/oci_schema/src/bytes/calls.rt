@@ -7,7 +7,7 @@ ghost use Rattle.oci_model.specs.Plain.{Plain};
 ghost use Rattle.oci_model.specs.Value.{value as json_of};
 ghost use Rattle.oci_model.specs.WellFormed.{WellFormed};
 ghost use Rattle.oci_model.specs.Writable.{Writable};
-ghost use Rattle.oci_json.specs.Engines.{MeansBytes, ReadsAs, WritesDocument, IsNotNormalized, IsNoJson};
+ghost use Rattle.oci_json.specs.Engines.{MeansBytes, ReadsAs, WritesDocument, ReadsBackDocument, IsNotNormalized, IsNoJson};
 ghost use Rattle.oci_schema.specs.Shapes.{schema_shape};
 ghost use Rattle.oci_schema.specs.Violations.{reported, violations as all_violations};
 ghost use Rattle.oci_schema.specs.Canonical.{MakesText};
@@ -21,7 +21,7 @@ use serde_json::Value;
 use std::alloc::Global;
 
 /// Reads a document from bytes and appends its canonical (normal) form as compact JSON: unknown members are left out, the others
-/// are in byte order of their names.
+/// are in byte order of their names. The text is read back as the document.
 ///
 /// Fails with `SerDe(Json)` if the bytes are not JSON, with `SerDe(Schema)` if they are invalid or have no normal form, and with
 /// `Memory` if out of memory. Nothing is appended then.
@@ -35,15 +35,32 @@ pub fn normalize_bytes<T: Records>(
 ) -> Result<()>
     requires { WellFormed (schema_shape (T.shape_at records.now) schema.now) }
     ensures ok { OnOk result (WritesDocument (schema_shape (T.shape_at records.now) schema.now) (Some bytes.now) (λ text. out.new.items ≡ out.old.items ++ text)) }
+    ensures reads_back { OnOk result (ReadsBackDocument (schema_shape (T.shape_at records.now) schema.now) (Some bytes.now)) }
     ensures json { IfErr result (λ e. IsJson e → IsNoJson bytes.now) }
     ensures schema { IfErr result (λ e. IsSchema e → IsNotNormalized (schema_shape (T.shape_at records.now) schema.now) bytes.now) }
     ensures unchanged { OnErr result (out.new.items ≡ out.old.items) }
     ensures kind { IfErr result IsMemoryOrSerDe }
 {
+    let text = document_text(records, schema, alloc, bytes, workspace)?;
+    append(text.as_slice(), out)
+}
+
+/// Reads a document from bytes and returns the text of its normal form.
+pub fn document_text<T: Records>(
+    records: &T,
+    schema: &Schema,
+    alloc: Global,
+    bytes: &[u8],
+    workspace: &mut Workspace,
+) -> Result<Vec<u8>>
+    requires { WellFormed (schema_shape (T.shape_at records.now) schema.now) }
+    ensures makes { MakesText (schema_shape (T.shape_at records.now) schema.now) (Some bytes.now) result }
+    ensures kind { IfErr result IsMemoryOrSerDe }
+{
     let found = normal_text(records, schema, alloc, bytes, workspace)?;
     match found {
-        Some(text) => append(text.as_slice(), out),
-        None => normalize_by_value(records, schema, alloc, bytes, out),
+        Some(text) => Ok(text),
+        None => text_by_value(records, schema, alloc, bytes),
     }
 }
 
@@ -60,25 +77,6 @@ pub fn append(bytes: &[u8], out: &mut Vec<u8>) -> Result<()>
 }
 
 /// The same by a value.
-fn normalize_by_value<T: Records>(
-    records: &T,
-    schema: &Schema,
-    alloc: Global,
-    bytes: &[u8],
-    out: &mut Vec<u8>,
-) -> Result<()>
-    requires { WellFormed (schema_shape (T.shape_at records.now) schema.now) }
-    ensures ok { OnOk result (WritesDocument (schema_shape (T.shape_at records.now) schema.now) (Some bytes.now) (λ text. out.new.items ≡ out.old.items ++ text)) }
-    ensures json { IfErr result (λ e. IsJson e → IsNoJson bytes.now) }
-    ensures schema { IfErr result (λ e. IsSchema e → IsNotNormalized (schema_shape (T.shape_at records.now) schema.now) bytes.now) }
-    ensures unchanged { OnErr result (out.new.items ≡ out.old.items) }
-    ensures kind { IfErr result IsMemoryOrSerDe }
-{
-    let text = text_by_value(records, schema, alloc, bytes)?;
-    append(text.as_slice(), out)
-}
-
-/// Reads a document from bytes and returns the text of its normal form, by a value.
 pub fn text_by_value<T: Records>(
     records: &T,
     schema: &Schema,

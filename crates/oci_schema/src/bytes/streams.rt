@@ -1,14 +1,14 @@
 //! From a reader to a writer, straight from the bytes.
-ghost use Rattle.std.specs.Prelude.{Some, IfErr, OnOk};
-ghost use Rattle.oci_base.specs.Refused.{IsMemoryOrSerDe, IsMemorySerDeOrIo};
+ghost use Rattle.std.specs.Prelude.{IfErr, OnOk};
+ghost use Rattle.oci_base.specs.Refused.{IsMemorySerDeOrIo};
 ghost use Rattle.oci_model.specs.WellFormed.{WellFormed};
 ghost use Rattle.oci_json.specs.Engines.{WritesDocument, ReadsBackDocument};
 ghost use Rattle.oci_schema.specs.Normalizes.{Normalizes};
 ghost use Rattle.oci_schema.specs.Shapes.{schema_shape};
 ghost use Rattle.oci_schema.specs.Canonical.{MakesText};
 
-use crate::bytes::calls::text_by_value;
-use crate::bytes::lane::{Workspace, normal_text};
+use crate::bytes::calls::document_text;
+use crate::bytes::lane::Workspace;
 use crate::{Records, Schema};
 use oci_base::Result;
 use oci_json::{bytes_from_reader, write_text};
@@ -49,24 +49,6 @@ fn text_from_reader<T: Records, R: Read + Drop>(
     ensures kind { IfErr result IsMemorySerDeOrIo }
 {
     let bytes = bytes_from_reader(alloc, &mut reader)?;
-    document_text(records, schema, alloc, bytes.as_slice())
-}
-
-/// The text of the normal form of a document.
-fn document_text<T: Records>(
-    records: &T,
-    schema: &Schema,
-    alloc: Global,
-    bytes: &[u8],
-) -> Result<Vec<u8>>
-    requires { WellFormed (schema_shape (T.shape_at records.now) schema.now) }
-    ensures makes { MakesText (schema_shape (T.shape_at records.now) schema.now) (Some bytes.now) result }
-    ensures kind { IfErr result IsMemoryOrSerDe }
-{
     let mut workspace = Workspace::new(alloc);
-    let found = normal_text(records, schema, alloc, bytes, &mut workspace)?;
-    match found {
-        Some(text) => Ok(text),
-        None => text_by_value(records, schema, alloc, bytes),
-    }
+    document_text(records, schema, alloc, bytes.as_slice(), &mut workspace)
 }

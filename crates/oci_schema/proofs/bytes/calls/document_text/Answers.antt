@@ -5,7 +5,7 @@ use Rattle.oci_json.specs.Engines.{ReadsAs}
 use Rattle.oci_schema.specs.Canonical.{IsNormalText}
 use Rattle.oci_schema.specs.Shapes.{schema_shape}
 use Rattle.oci_schema.proofs.Documents.{document_text}
-use Rattle.oci_schema.proofs.bytes.streams.document_text.Goals as goal
+use Rattle.oci_schema.proofs.bytes.calls.document_text.Goals as goal
 
 pub returns-in-Some-clause-makes : goal.returns-in-Some-clause-makes
 returns-in-Some-clause-makes g c =
