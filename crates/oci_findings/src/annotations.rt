@@ -1,4 +1,4 @@
-//! Where the keys of annotations stand in documents. A key has to be unique there (image specification, "Annotations", "Rules").
+//! Where the keys of annotations are in documents. A key has to be unique there (image specification, "Annotations", "Rules").
 ghost use Rattle.std.specs.Prelude.{◌≡◌, drop, is_none};
 ghost use Rattle.oci_findings.specs.Annotations.{from_place, is_annotation as is_annotation_of, is_in_item as is_in, is_under as is_below, next_slash as place_of_slash};
 

@@ -15,7 +15,7 @@ use std::alloc::{AllocError, Global};
 /// How deep records nest at most.
 const DEPTH: usize = 16;
 
-/// What becomes of a member that is not in the canonical form as it stands in the document.
+/// What becomes of a member that the canonical form lacks, or has under another name.
 #[derive(Clone, Copy)]
 pub enum Change {
     /// It is left out.
@@ -26,7 +26,7 @@ pub enum Change {
     Repeated,
 }
 
-/// A member that is not in the canonical form as it stands in the document.
+/// A member that the canonical form lacks, or has under another name.
 #[derive(Drop)]
 pub struct LeftOut {
     /// Where it is, as a JSON pointer (RFC 6901).
@@ -188,7 +188,7 @@ fn add_members(
     Ok(())
 }
 
-/// The same of a member with this value, if a record lists it: it may be omitted, or stand under its alias.
+/// The same of a member with this value, if a record lists it: it may be omitted, or be there under its alias.
 #[cycle(left_out)]
 fn add_member(
     listed: Option<&'static Member>,
@@ -260,7 +260,7 @@ fn is_empty_array(value: &Element<'_, '_>) -> bool {
     }
 }
 
-/// Adds the members of each member of an object of objects, of which the names alone are written.
+/// Adds the members of each member of an object of objects: only the names of those are written.
 fn add_inner(
     element: &Element<'_, '_>,
     at: &Place<'_>,
