@@ -1,6 +1,5 @@
 //! Which members of a document its canonical form lacks, found in one walk by the schema over a tape of its text.
-ghost use Rattle.std.specs.Prelude.{◌≡◌, ◌++◌, ◌∷◌, [], OnOk, string_bytes};
-ghost use Rattle.oci_schema.specs.Places.{pointer as pointer_to};
+ghost use Rattle.std.specs.Prelude.{OnOk};
 ghost use Rattle.oci_findings.specs.LeftOut.{Adds};
 
 use crate::repeated::repeated_if_any;
