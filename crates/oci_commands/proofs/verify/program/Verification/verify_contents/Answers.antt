@@ -19,5 +19,5 @@ returns-in-Bytes g c =
 pub returns-in-Missing : goal.returns-in-Missing
 returns-in-Missing g c = unsound c.end_early.result _ c.end_early.ensures
 
-pub returns : goal.returns
-returns g c = unsound c.end_early-in-Unreadable.result _ c.end_early-in-Unreadable.ensures
+pub returns-in-Unreadable : goal.returns-in-Unreadable
+returns-in-Unreadable g c = unsound c.end_early-in-Unreadable.result _ c.end_early-in-Unreadable.ensures
