@@ -204,9 +204,7 @@ fn reason_text(reason: &Reason, alloc: Global) -> Result<String, AllocError> {
     match reason {
         Reason::Missing(name) => format!(in alloc; "/{name}: required member is missing"),
         Reason::Expected { key, expected } => format!(in alloc; "/{key}: expected {expected}"),
-        Reason::Empty(name) => {
-            format!(in alloc; "/{name}: expected a value that is not empty")
-        }
+        Reason::Empty(name) => { format!(in alloc; "/{name}: expected a value that is not empty") }
         Reason::Unknown(name) => format!(in alloc; "/{name}: unknown member"),
         Reason::NoTest => {
             String::from_str(alloc, "required member is missing (a test, as one_of)")
