@@ -1,0 +1,5 @@
+use Rattle.std.proofs.Common.{refl}
+use Rattle.oci_accounts.proofs.lines.group_in.Goals as goal
+
+pub returns-in_err-group-clause-none : goal.returns-in_err-group-clause-none
+returns-in_err-group-clause-none c = λ _ gid h. c.in_err-group.ensures.none refl c.args.name.now gid h.rest h.is_line
