@@ -1,0 +1,13 @@
+mod Again
+mod Commands
+mod Cuts
+mod Decided
+mod Joins
+mod Labels
+mod Mounted
+mod Mounts
+mod Refused
+mod Steps
+mod Twice
+mod UserParts
+mod Values

@@ -1,0 +1,10 @@
+pub mod Annotations
+pub mod Converts
+pub mod Maps
+pub mod Processes
+pub mod Refusals
+pub mod Refuses
+pub mod Texts
+pub mod Users
+pub mod Verbatim
+pub mod Volumes
