@@ -47,7 +47,8 @@ REASONS = {
         ("it refuses every key below org.opencontainers, also those that the specification lists",
          lambda d: any(key.startswith(DEFINED) for key in dig(d, "annotations") or {}))],
     ("annotation-key-reverse-domain", "theirs"): [
-        ("it wants two to six letters at the beginning", lambda d: any(not re.match(r"[A-Za-z]{2,6}\.", key) for key in dig(d, "annotations") or {}))],
+        ("it wants two to six letters at the beginning", lambda d: any(not re.match(r"[A-Za-z]{2,6}\.", key) for key in dig(d, "annotations") or {})),
+        ("it takes no `_`, as run.oci.keep_original_groups of crun has it", lambda d: any("_" in key for key in dig(d, "annotations") or {}))],
     ("hook-env", "ours"): [
         ("it does not look at the newer kinds of hooks", lambda d: any(items(it, "env") for it in hooks(d, NEW_HOOKS))),
         ("it takes an empty name", lambda d: any(env.startswith("=") for it in hooks(d, OLD_HOOKS) for env in texts(it, "env")))],

@@ -11,13 +11,13 @@ POSIX = tuple(it for it in PLATFORMS if it != "windows")
 
 
 class Line:
-    """A line of a book: a rule at one place with one test."""
+    """A line of a book: a rule at one place with one test, and what people read of it."""
 
-    def __init__(self, description, steps, test):
-        self.description, self.steps, self.test = description, steps, test
+    def __init__(self, description, steps, test, wanted):
+        self.description, self.steps, self.test, self.wanted = description, steps, test, wanted
 
     def beneath(self, steps):
-        return Line(self.description, (*steps, *self.steps), self.test)
+        return Line(self.description, (*steps, *self.steps), self.test, self.wanted)
 
 
 class Description:
@@ -26,7 +26,7 @@ class Description:
     def __init__(self, cells, reader):
         if len(cells) != 8:
             raise Wrong(f"{len(cells)} cells, not 8: {' | '.join(cells)[:100]}")
-        self.name, self.level, self.section, self.where, platforms, self.asked, self.peers, self.wanted = cells
+        self.name, self.level, self.section, self.where, platforms, self.asked, self.peers, wanted = cells
         if self.level not in LEVELS:
             raise Wrong(f"{self.name}: no level {self.level}")
         self.platforms = PLATFORMS if platforms == "-" else POSIX if platforms == "posix" else tuple(platforms.split())
@@ -34,9 +34,13 @@ class Description:
             raise Wrong(f"{self.name}: no platforms {platforms}")
         self.section = "common practice" if self.section == "-" else self.section
         self.peers = "" if self.peers == "-" else self.peers
+        self.wants = split(wanted)
         try:
             tests = [reader.test(parts(it)) for it in split(self.asked)]
-            self.lines = [Line(self, once((*place, *steps)), test) for steps, test in tests for place in places(self.where)]
+            if len(self.wants) not in (1, len(tests)):
+                raise Wrong(f"{len(tests)} tests, and {len(self.wants)} texts of what is wanted")
+            wants = self.wants if len(self.wants) > 1 else self.wants * len(tests)
+            self.lines = [Line(self, once((*place, *steps)), test, each) for (steps, test), each in zip(tests, wants) for place in places(self.where)]
         except (Wrong, IndexError, ValueError) as wrong:
             raise Wrong(f"{self.name}: {wrong}") from wrong
 
@@ -95,6 +99,7 @@ class Model:
     def __init__(self, folder):
         self.lists, self.grammars, self.groups, self.kinds, self.files = {}, {}, {}, {}, {}
         self.about, self.list_about, self.crate, self.beside = {}, {}, {}, []
+        self.versions = ""
         reader = Reader(self.lists, self.grammars)
         paths = sorted(glob.glob(os.path.join(folder, "*.rules")), key=lambda it: (os.path.basename(it) != "lists.rules", it))
         for path in paths:
@@ -131,6 +136,8 @@ class Model:
             self.list_about[name] = self.remark
         elif word == "crate":
             self.crate[file] = rest
+        elif word == "versions":
+            self.versions = rest
         elif word == "beside":
             self.beside += rest.split()
         elif word == "grammar":

@@ -17,9 +17,9 @@ Written by `tools/gen rules` from `tools/rules`; `tools/gen rules --check` compa
 What the specifications ask of a document beyond the types of its members, as far as the document alone shows it. A rule is listed where a
 part breaks it, with the part's JSON Pointer; a part of another type breaks none, since the schema rejects it.
 
-The rules hold to the image specification 1.1.1 (for artifact manifests to 1.1.0-rc2, the last one that has them) and to the runtime
-specification 1.2.1. Where another version says otherwise, theirs counts. Of the distribution specification no text was at hand: the rules of
-tags, repositories, errors and references are from its grammar as the original crate has it.
+The rules hold to these texts: {versions}. The older one is the last that has artifact manifests. Where
+another version says otherwise, theirs counts. Of the distribution specification no text was at hand: the rules of tags, repositories, errors
+and references are from its grammar as the original crate has it. `ciderglen rules` ends with these versions.
 
 - **Levels.** By the word of the sentence that a rule is from: `must` is MUST, REQUIRED and their negatives, `should` is SHOULD, RECOMMENDED,
   their negatives and what is deprecated, `stated` is a sentence without such a word that says as a fact what a document has, so that one
@@ -32,6 +32,8 @@ tags, repositories, errors and references are from its grammar as the original c
 - **Platforms.** A rule with none beside its place is for all. A configuration is for z/OS, Solaris or FreeBSD where it has the member of
   that platform, for Windows or a virtual machine where it has theirs and no `linux`, else for Linux: a Linux container on Windows has
   both `windows` and `linux`, and its paths are those of Linux.
+- **Docker's formats.** A manifest or a list whose `mediaType` is Docker's (version 2, schema 2) is read as an image manifest or index, and none
+  of the rules on media types is asked of it.
 - **Peers.** T: `oci-runtime-tool validate`, S: the JSON schemas of the specifications, V: the Go code beside them, R: runc, C: crun. E: it is
   refused, "warns": it is printed.
 """
@@ -48,7 +50,7 @@ def platforms(items):
 def row(it, first):
     where = " ".join(f"`{place}`" for place in it.where.split())
     by = first[it.name].said() if it.name in first else "-"
-    return f"| `{it.name}` | {where}{platforms(it.platforms)} | {it.level} | {cell(by)} | {it.section} | {cell(it.wanted)} | {cell(it.peers) or '-'} |\n"
+    return f"| `{it.name}` | {where}{platforms(it.platforms)} | {it.level} | {cell(by)} | {it.section} | {cell('; '.join(it.wants))} | {cell(it.peers) or '-'} |\n"
 
 
 def stands(model, group):
@@ -84,7 +86,7 @@ def table(model, file, first):
 
 def text(model, left_out, first):
     files = [it for it in TITLES if it in model.files]
-    out = HEAD + "\n| document | must | stated | should | host | together |\n|---|---|---|---|---|---|\n"
+    out = HEAD.replace("{versions}", model.versions) + "\n| document | must | stated | should | host | together |\n|---|---|---|---|---|---|\n"
     seen, every = set(), []
     for file in files:
         fresh = [it for group in model.files[file] for it in group.descriptions() if it.name not in seen]

@@ -60,7 +60,7 @@ macro_rules! rule {
 def rule(line, code):
     it = line.description
     steps = ", ".join(code.shown(tree.step(s)) for s in line.steps)
-    return (f"    rule! {{ {code.text(it.name)}, {LEVELS[it.level]}, {code.text(it.section)}, {code.text(it.wanted)}, {platforms(it.platforms)},\n"
+    return (f"    rule! {{ {code.text(it.name)}, {LEVELS[it.level]}, {code.text(it.section)}, {code.text(line.wanted)}, {platforms(it.platforms)},\n"
             f"        [{steps}],\n        {code.shown(tree.test(line.test))} }},\n")
 
 
@@ -124,7 +124,8 @@ def root(model, crate):
     """The root file of a crate of books."""
     words = sorted(it.word for it in books(model) if model.crate[it.file] == crate)
     out = f"//! {ABOUT[crate]}\n#![tactic(auto)]\n\n{MACRO}\n" + "".join(f"mod {it};\n" for it in sorted([*words, "lists"])) + "pub mod kinds;\n"
-    return out + "\npub use kinds::rules_of;\n"
+    out += "\npub use kinds::rules_of;\n"
+    return out + f'\n/// The specifications whose texts the rules hold to, with their versions.\npub const VERSIONS: &str = "{model.versions}";\n'
 
 
 def files(model):

@@ -57,6 +57,13 @@ def differing(rules, found):
             yield f"{name}: {lines[0].level}, and " + ("no sentence asks for it" if row.is_reason() else f"by its sentence {row.level()}")
 
 
+def of_other_versions(versions, found):
+    """The rules whose first sentence is of a version that is not among those which the rules hold to, a line each."""
+    listed = {name: row.version.partition("-")[::2] for name, row in first_rows(found).items() if not row.is_reason()}
+    held = set(versions.replace("(", " ").replace(")", " ").replace(",", " ").split())
+    return [f"{name}: its sentence is of {text} {version}, which the rules do not hold to" for name, (text, version) in listed.items() if not {text, version} <= held]
+
+
 def orphans(rules, found):
     """The rows of no rule, a line each."""
     return [f"{name}: a row of sources.rows, and no such rule" for name in dict.fromkeys(row.name for row in found) if name not in rules]

@@ -14,9 +14,9 @@ index_rules =
     record { name = codes "annotations-not-null"; level = must; section = codes "image annotations.md#rules"; platforms = every; place = here; test = not_null (codes "annotations") } ∷
     record { name = codes "index-schema-version"; level = must; section = codes "image image-index.md#image-index-property-descriptions"; platforms = every; place = under (codes "schemaVersion") here; test = within (pos 2) (pos 2) } ∷
     record { name = codes "index-media-type-there"; level = should; section = codes "image image-index.md#image-index-property-descriptions"; platforms = every; place = here; test = there (codes "mediaType") } ∷
-    record { name = codes "index-media-type"; level = must; section = codes "image image-index.md#image-index-property-descriptions"; platforms = every; place = under (codes "mediaType") here; test = one_of (codes "application/vnd.oci.image.index.v1+json" ∷ []) } ∷
+    record { name = codes "index-media-type"; level = must; section = codes "image image-index.md#image-index-property-descriptions"; platforms = every; place = under (codes "mediaType") (if_so (asks the_part [] false (is_text (codes "application/vnd.docker.distribution.manifest.list.v2+json" ∷ []))) here); test = one_of (codes "application/vnd.oci.image.index.v1+json" ∷ []) } ∷
     record { name = codes "index-artifact-type"; level = must; section = codes "image image-index.md#image-index-property-descriptions"; platforms = every; place = under (codes "artifactType") here; test = text MediaType } ∷
-    record { name = codes "index-manifest-type-known"; level = should; section = codes "image image-index.md#image-index-property-descriptions"; platforms = every; place = under (codes "manifests") (each_item (under (codes "mediaType") here)); test = one_of manifest_types } ∷
+    record { name = codes "index-manifest-type-known"; level = should; section = codes "image image-index.md#image-index-property-descriptions"; platforms = every; place = if_so (asks the_part (codes "mediaType" ∷ []) false (is_text (codes "application/vnd.docker.distribution.manifest.list.v2+json" ∷ []))) (under (codes "manifests") (each_item (under (codes "mediaType") here))); test = one_of manifest_types } ∷
     record { name = codes "descriptor-platform-there"; level = should; section = codes "image descriptor.md#properties"; platforms = every; place = under (codes "manifests") (each_item (if_so (asks the_part (codes "mediaType" ∷ []) true (is_text (codes "application/vnd.oci.image.manifest.v1+json" ∷ []))) (if_so (asks the_part (codes "artifactType" ∷ []) false is_there) here))); test = there (codes "platform") } ∷
     record { name = codes "platform-architecture-known"; level = should; section = codes "image image-index.md#image-index-property-descriptions"; platforms = every; place = under (codes "manifests") (each_item (under (codes "platform") (under (codes "architecture") here))); test = one_of goarch } ∷
     record { name = codes "platform-os-known"; level = should; section = codes "image image-index.md#image-index-property-descriptions"; platforms = every; place = under (codes "manifests") (each_item (under (codes "platform") (under (codes "os") here))); test = one_of goos } ∷

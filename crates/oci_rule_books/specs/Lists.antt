@@ -7,7 +7,7 @@ use Rattle.oci_rules.specs.Rules.{Platform, linux, solaris, vm, zos, freebsd}
 abbrev pub posix : List Platform
 posix = linux ∷ solaris ∷ vm ∷ zos ∷ freebsd ∷ []
 
--- Go's GOOS and GOARCH: `go tool dist list` of Go 1.19 and 1.24
+-- Go's GOOS and GOARCH: what `go tool dist list` of Go 1.19.8 prints and of 1.24.4 has (internal/platform/zosarch.go, without the broken ones), as Debian's packages golang-1.19-go and golang-1.24-src have them
 abbrev pub goos : List (List ℕ)
 goos =
     codes "aix" ∷
@@ -27,7 +27,7 @@ goos =
     codes "windows" ∷
     []
 
--- Go's GOOS and GOARCH: `go tool dist list` of Go 1.19 and 1.24
+-- Go's GOOS and GOARCH: what `go tool dist list` of Go 1.19.8 prints and of 1.24.4 has (internal/platform/zosarch.go, without the broken ones), as Debian's packages golang-1.19-go and golang-1.24-src have them
 abbrev pub goarch : List (List ℕ)
 goarch =
     codes "386" ∷
@@ -124,18 +124,7 @@ subject_types =
     codes "application/vnd.docker.distribution.manifest.list.v2+json" ∷
     []
 
--- image specification, "OCI Image Manifest Specification", and the types of its layers that are compressed otherwise
-abbrev pub image_layer_types : List (List ℕ)
-image_layer_types =
-    codes "application/vnd.oci.image.layer.v1.tar" ∷
-    codes "application/vnd.oci.image.layer.v1.tar+gzip" ∷
-    codes "application/vnd.oci.image.layer.v1.tar+zstd" ∷
-    codes "application/vnd.oci.image.layer.nondistributable.v1.tar" ∷
-    codes "application/vnd.oci.image.layer.nondistributable.v1.tar+gzip" ∷
-    codes "application/vnd.oci.image.layer.nondistributable.v1.tar+zstd" ∷
-    []
-
--- image specification, "Platform Variants"; where a row of its table goes on, values of Go 1.24's GOARM64, GOPPC64, GORISCV64 and GOAMD64
+-- image specification, "Platform Variants": a row of its table that is whole
 abbrev pub arm_variants : List (List ℕ)
 arm_variants =
     codes "v6" ∷
@@ -143,7 +132,7 @@ arm_variants =
     codes "v8" ∷
     []
 
--- image specification, "Platform Variants"; where a row of its table goes on, values of Go 1.24's GOARM64, GOPPC64, GORISCV64 and GOAMD64
+-- image specification, "Platform Variants"; where its row goes on, GOARM64 in Go 1.24.4 and 1.26.10 (internal/buildcfg/cfg.go, as Debian's packages golang-1.24-src and golang-1.26-src have it), and v9 beside v9.0 as the row has v8
 abbrev pub arm64_variants : List (List ℕ)
 arm64_variants =
     codes "v8" ∷
@@ -166,7 +155,7 @@ arm64_variants =
     codes "v9.5" ∷
     []
 
--- image specification, "Platform Variants"; where a row of its table goes on, values of Go 1.24's GOARM64, GOPPC64, GORISCV64 and GOAMD64
+-- image specification, "Platform Variants"; where its row goes on, GOPPC64 in Go 1.24.4 and 1.26.10 (the same file)
 abbrev pub ppc64le_variants : List (List ℕ)
 ppc64le_variants =
     codes "power8" ∷
@@ -174,7 +163,7 @@ ppc64le_variants =
     codes "power10" ∷
     []
 
--- image specification, "Platform Variants"; where a row of its table goes on, values of Go 1.24's GOARM64, GOPPC64, GORISCV64 and GOAMD64
+-- image specification, "Platform Variants"; where its row goes on, GORISCV64 in Go 1.26.10 (the same file; 1.24.4 lacks rva23u64)
 abbrev pub riscv64_variants : List (List ℕ)
 riscv64_variants =
     codes "rva20u64" ∷
@@ -182,7 +171,7 @@ riscv64_variants =
     codes "rva23u64" ∷
     []
 
--- image specification, "Platform Variants"; where a row of its table goes on, values of Go 1.24's GOARM64, GOPPC64, GORISCV64 and GOAMD64
+-- image specification, "Platform Variants"; where its row goes on, GOAMD64 in Go 1.19.8, 1.24.4 and 1.26.10 (the same file)
 abbrev pub amd64_variants : List (List ℕ)
 amd64_variants =
     codes "v1" ∷
@@ -302,7 +291,7 @@ seccomp_flags =
     codes "SECCOMP_FILTER_FLAG_WAIT_KILLABLE_RECV" ∷
     []
 
--- mount(8), "Filesystem-specific mount options", and the kernel's pages of them: tmpfs, devpts, proc and overlay
+-- of tmpfs, devpts, proc and overlay: mount(8) of util-linux 2.38.1, "Filesystem-specific mount options", tmpfs(5) of man-pages 6.03, and inode32, inode64, max, hidepid and subset by Documentation/filesystems of Linux 6.1 (tmpfs.rst, devpts.rst, proc.rst), as Debian 12 has them
 abbrev pub filesystem_options : List (List ℕ)
 filesystem_options =
     codes "size" ∷
@@ -329,6 +318,7 @@ filesystem_options =
     codes "nfs_export" ∷
     codes "xino" ∷
     codes "userxattr" ∷
+    codes "uuid" ∷
     codes "volatile" ∷
     []
 

@@ -2,9 +2,9 @@
 -- Image manifests (image specification, "OCI Image Manifest Specification").
 use Rattle.std.specs.Prelude.{List, [], ◌∷◌, map, codes, pos, true, false}
 use Rattle.oci_grammars.specs.declared.grammar.Grammar.TheVariants.{MediaType}
-use Rattle.oci_rules.specs.Rules.{Rule, must, stated, should, host, here, under, each_item, if_so, asks, the_part, is_there, is_text, has_item, text, one_of, none_of, within, there, absent, not_null, not_empty, beneath}
+use Rattle.oci_rules.specs.Rules.{Rule, must, stated, should, host, here, under, each_item, if_so, asks, the_part, is_there, is_text, text, one_of, none_of, within, there, absent, not_null, not_empty, beneath}
 use Rattle.oci_rules.specs.Platforms.{every}
-use Rattle.oci_rule_books.specs.Lists.{layer_types, nondistributable_types, subject_types, image_layer_types}
+use Rattle.oci_rule_books.specs.Lists.{layer_types, nondistributable_types, subject_types}
 use Rattle.oci_rule_books.specs.Annotations.{image_annotations_elsewhere_rules}
 use Rattle.oci_rule_books.specs.Descriptor.{bare_descriptor_rules}
 
@@ -14,10 +14,10 @@ manifest_rules =
     record { name = codes "annotations-not-null"; level = must; section = codes "image annotations.md#rules"; platforms = every; place = here; test = not_null (codes "annotations") } ∷
     record { name = codes "manifest-schema-version"; level = must; section = codes "image manifest.md#image-manifest-property-descriptions"; platforms = every; place = under (codes "schemaVersion") here; test = within (pos 2) (pos 2) } ∷
     record { name = codes "manifest-media-type-there"; level = should; section = codes "image manifest.md#image-manifest-property-descriptions"; platforms = every; place = here; test = there (codes "mediaType") } ∷
-    record { name = codes "manifest-media-type"; level = must; section = codes "image manifest.md#image-manifest-property-descriptions"; platforms = every; place = under (codes "mediaType") here; test = one_of (codes "application/vnd.oci.image.manifest.v1+json" ∷ []) } ∷
+    record { name = codes "manifest-media-type"; level = must; section = codes "image manifest.md#image-manifest-property-descriptions"; platforms = every; place = under (codes "mediaType") (if_so (asks the_part [] false (is_text (codes "application/vnd.docker.distribution.manifest.v2+json" ∷ []))) here); test = one_of (codes "application/vnd.oci.image.manifest.v1+json" ∷ []) } ∷
     record { name = codes "manifest-artifact-type"; level = must; section = codes "image manifest.md#image-manifest-property-descriptions"; platforms = every; place = under (codes "artifactType") here; test = text MediaType } ∷
     record { name = codes "manifest-artifact-type-there"; level = must; section = codes "image manifest.md#image-manifest-property-descriptions"; platforms = every; place = if_so (asks the_part (codes "config" ∷ codes "mediaType" ∷ []) true (is_text (codes "application/vnd.oci.empty.v1+json" ∷ []))) here; test = there (codes "artifactType") } ∷
-    record { name = codes "manifest-config-type-known"; level = should; section = codes "image manifest.md#image-manifest-property-descriptions"; platforms = every; place = if_so (asks the_part (codes "artifactType" ∷ []) false is_there) (if_so (asks the_part (codes "layers" ∷ []) true (has_item (codes "mediaType") image_layer_types [] [])) (under (codes "config") (under (codes "mediaType") here))); test = one_of (codes "application/vnd.oci.image.config.v1+json" ∷ []) } ∷
+    record { name = codes "manifest-config-type-known"; level = should; section = codes "image manifest.md#image-manifest-property-descriptions"; platforms = every; place = if_so (asks the_part (codes "mediaType" ∷ []) false (is_text (codes "application/vnd.docker.distribution.manifest.v2+json" ∷ []))) (if_so (asks the_part (codes "artifactType" ∷ []) false is_there) (under (codes "config") (under (codes "mediaType") here))); test = none_of (codes "application/vnd.docker.container.image.v1+json" ∷ []) } ∷
     record { name = codes "manifest-artifact-config-type"; level = must; section = codes "image manifest.md#guidelines-for-artifact-usage"; platforms = every; place = if_so (asks the_part (codes "artifactType" ∷ []) true is_there) (under (codes "config") (under (codes "mediaType") here)); test = none_of (codes "application/vnd.oci.image.config.v1+json" ∷ []) } ∷
     record { name = codes "manifest-layers-some"; level = should; section = codes "image manifest.md#image-manifest-property-descriptions"; platforms = every; place = under (codes "layers") here; test = not_empty } ∷
     record { name = codes "manifest-layer-type-known"; level = should; section = codes "image manifest.md#image-manifest-property-descriptions"; platforms = every; place = if_so (asks the_part (codes "config" ∷ codes "mediaType" ∷ []) true (is_text (codes "application/vnd.oci.image.config.v1+json" ∷ []))) (under (codes "layers") (each_item (under (codes "mediaType") here))); test = one_of layer_types } ∷

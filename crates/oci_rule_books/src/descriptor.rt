@@ -39,16 +39,16 @@ static RULES_3: [Rule<'static>; 3] = [
     rule! { "descriptor-digest-algorithm", Should, "image descriptor.md#registered-algorithms", "a digest by SHA-256", Platforms::Every,
         [Step::Member("digest")],
         Test::Begins("sha256:") },
-    rule! { "descriptor-empty", Stated, "image manifest.md#guidance-for-an-empty-descriptor", "the digest, size and data of {}", Platforms::Every,
+    rule! { "descriptor-empty", Stated, "image manifest.md#guidance-for-an-empty-descriptor", "the digest of {}, sha256:44136fa355b3678a1146ad16f7e8649e94fb4fc21fe77e8310c060f61caaff8a", Platforms::Every,
         [Step::When(Condition { origin: Origin::Part, way: &["mediaType"], holds: true, check: Predicate::OneOf(&["application/vnd.oci.empty.v1+json"]) }), Step::Member("digest")],
         Test::OneOf(&["sha256:44136fa355b3678a1146ad16f7e8649e94fb4fc21fe77e8310c060f61caaff8a"]) },
 ];
 
 static RULES_4: [Rule<'static>; 2] = [
-    rule! { "descriptor-empty", Stated, "image manifest.md#guidance-for-an-empty-descriptor", "the digest, size and data of {}", Platforms::Every,
+    rule! { "descriptor-empty", Stated, "image manifest.md#guidance-for-an-empty-descriptor", "the size of {}, 2", Platforms::Every,
         [Step::When(Condition { origin: Origin::Part, way: &["mediaType"], holds: true, check: Predicate::OneOf(&["application/vnd.oci.empty.v1+json"]) }), Step::Member("size")],
         Test::Within(2, 2) },
-    rule! { "descriptor-empty", Stated, "image manifest.md#guidance-for-an-empty-descriptor", "the digest, size and data of {}", Platforms::Every,
+    rule! { "descriptor-empty", Stated, "image manifest.md#guidance-for-an-empty-descriptor", "the base64 of {}, e30=", Platforms::Every,
         [Step::When(Condition { origin: Origin::Part, way: &["mediaType"], holds: true, check: Predicate::OneOf(&["application/vnd.oci.empty.v1+json"]) }), Step::Member("data")],
         Test::OneOf(&["e30="]) },
 ];

@@ -26,13 +26,13 @@ static RULES_1: [Rule<'static>; 3] = [
 
 static RULES_2: [Rule<'static>; 3] = [
     rule! { "index-media-type", Must, "image image-index.md#image-index-property-descriptions", "application/vnd.oci.image.index.v1+json", Platforms::Every,
-        [Step::Member("mediaType")],
+        [Step::Member("mediaType"), Step::When(Condition { origin: Origin::Part, way: &[], holds: false, check: Predicate::OneOf(&["application/vnd.docker.distribution.manifest.list.v2+json"]) })],
         Test::OneOf(&["application/vnd.oci.image.index.v1+json"]) },
     rule! { "index-artifact-type", Must, "image image-index.md#image-index-property-descriptions", "a media type (RFC 6838, section 4.2)", Platforms::Every,
         [Step::Member("artifactType")],
         Test::Text(Grammar::MediaType) },
     rule! { "index-manifest-type-known", Should, "image image-index.md#image-index-property-descriptions", "the media type of an image manifest or index", Platforms::Every,
-        [Step::Member("manifests"), Step::EachItem, Step::Member("mediaType")],
+        [Step::When(Condition { origin: Origin::Part, way: &["mediaType"], holds: false, check: Predicate::OneOf(&["application/vnd.docker.distribution.manifest.list.v2+json"]) }), Step::Member("manifests"), Step::EachItem, Step::Member("mediaType")],
         Test::OneOf(MANIFEST_TYPES) },
 ];
 

@@ -61,3 +61,7 @@ mod state;
 mod tags;
 
 pub use kinds::rules_of;
+
+/// The specifications whose texts the rules hold to, with their versions.
+pub const VERSIONS: &str =
+    "image specification 1.1.1 (artifact manifests 1.1.0-rc2), runtime specification 1.2.1";

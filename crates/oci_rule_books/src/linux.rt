@@ -48,10 +48,10 @@ static RULES_4: [Rule<'static>; 3] = [
     rule! { "device-path-absolute", Stated, "runtime config-linux.md#devices", "an absolute path", Platforms::Every,
         [Step::Member("linux"), Step::Member("devices"), Step::EachItem, Step::Member("path")],
         Test::Text(Grammar::AbsolutePath) },
-    rule! { "device-numbers-there", Must, "runtime config-linux.md#devices", "a major and a minor number, but for type p", Platforms::Every,
+    rule! { "device-numbers-there", Must, "runtime config-linux.md#devices", "a major number, but for type p", Platforms::Every,
         [Step::Member("linux"), Step::Member("devices"), Step::EachItem, Step::When(Condition { origin: Origin::Part, way: &["type"], holds: false, check: Predicate::OneOf(&["p"]) })],
         Test::There("major") },
-    rule! { "device-numbers-there", Must, "runtime config-linux.md#devices", "a major and a minor number, but for type p", Platforms::Every,
+    rule! { "device-numbers-there", Must, "runtime config-linux.md#devices", "a minor number, but for type p", Platforms::Every,
         [Step::Member("linux"), Step::Member("devices"), Step::EachItem, Step::When(Condition { origin: Origin::Part, way: &["type"], holds: false, check: Predicate::OneOf(&["p"]) })],
         Test::There("minor") },
 ];

@@ -26,43 +26,43 @@ static RULES_2: [Rule<'static>; 3] = [
     rule! { "block-weight-there", Must, "runtime config-linux.md#block-io", "a weight or a weight of leaves", Platforms::Every,
         [Step::Member("linux"), Step::Member("resources"), Step::Member("blockIO"), Step::Member("weightDevice"), Step::EachItem],
         Test::Either(&["weight", "leafWeight"]) },
-    rule! { "block-numbers-there", Must, "runtime config-linux.md#block-io", "a major and a minor number", Platforms::Every,
+    rule! { "block-numbers-there", Must, "runtime config-linux.md#block-io", "a major number", Platforms::Every,
         [Step::Member("linux"), Step::Member("resources"), Step::Member("blockIO"), Step::Member("weightDevice"), Step::EachItem],
         Test::There("major") },
 ];
 
 static RULES_3: [Rule<'static>; 3] = [
-    rule! { "block-numbers-there", Must, "runtime config-linux.md#block-io", "a major and a minor number", Platforms::Every,
+    rule! { "block-numbers-there", Must, "runtime config-linux.md#block-io", "a major number", Platforms::Every,
         [Step::Member("linux"), Step::Member("resources"), Step::Member("blockIO"), Step::Member("throttleReadBpsDevice"), Step::EachItem],
         Test::There("major") },
-    rule! { "block-numbers-there", Must, "runtime config-linux.md#block-io", "a major and a minor number", Platforms::Every,
+    rule! { "block-numbers-there", Must, "runtime config-linux.md#block-io", "a major number", Platforms::Every,
         [Step::Member("linux"), Step::Member("resources"), Step::Member("blockIO"), Step::Member("throttleWriteBpsDevice"), Step::EachItem],
         Test::There("major") },
-    rule! { "block-numbers-there", Must, "runtime config-linux.md#block-io", "a major and a minor number", Platforms::Every,
+    rule! { "block-numbers-there", Must, "runtime config-linux.md#block-io", "a major number", Platforms::Every,
         [Step::Member("linux"), Step::Member("resources"), Step::Member("blockIO"), Step::Member("throttleReadIOPSDevice"), Step::EachItem],
         Test::There("major") },
 ];
 
 static RULES_4: [Rule<'static>; 3] = [
-    rule! { "block-numbers-there", Must, "runtime config-linux.md#block-io", "a major and a minor number", Platforms::Every,
+    rule! { "block-numbers-there", Must, "runtime config-linux.md#block-io", "a major number", Platforms::Every,
         [Step::Member("linux"), Step::Member("resources"), Step::Member("blockIO"), Step::Member("throttleWriteIOPSDevice"), Step::EachItem],
         Test::There("major") },
-    rule! { "block-numbers-there", Must, "runtime config-linux.md#block-io", "a major and a minor number", Platforms::Every,
+    rule! { "block-numbers-there", Must, "runtime config-linux.md#block-io", "a minor number", Platforms::Every,
         [Step::Member("linux"), Step::Member("resources"), Step::Member("blockIO"), Step::Member("weightDevice"), Step::EachItem],
         Test::There("minor") },
-    rule! { "block-numbers-there", Must, "runtime config-linux.md#block-io", "a major and a minor number", Platforms::Every,
+    rule! { "block-numbers-there", Must, "runtime config-linux.md#block-io", "a minor number", Platforms::Every,
         [Step::Member("linux"), Step::Member("resources"), Step::Member("blockIO"), Step::Member("throttleReadBpsDevice"), Step::EachItem],
         Test::There("minor") },
 ];
 
 static RULES_5: [Rule<'static>; 3] = [
-    rule! { "block-numbers-there", Must, "runtime config-linux.md#block-io", "a major and a minor number", Platforms::Every,
+    rule! { "block-numbers-there", Must, "runtime config-linux.md#block-io", "a minor number", Platforms::Every,
         [Step::Member("linux"), Step::Member("resources"), Step::Member("blockIO"), Step::Member("throttleWriteBpsDevice"), Step::EachItem],
         Test::There("minor") },
-    rule! { "block-numbers-there", Must, "runtime config-linux.md#block-io", "a major and a minor number", Platforms::Every,
+    rule! { "block-numbers-there", Must, "runtime config-linux.md#block-io", "a minor number", Platforms::Every,
         [Step::Member("linux"), Step::Member("resources"), Step::Member("blockIO"), Step::Member("throttleReadIOPSDevice"), Step::EachItem],
         Test::There("minor") },
-    rule! { "block-numbers-there", Must, "runtime config-linux.md#block-io", "a major and a minor number", Platforms::Every,
+    rule! { "block-numbers-there", Must, "runtime config-linux.md#block-io", "a minor number", Platforms::Every,
         [Step::Member("linux"), Step::Member("resources"), Step::Member("blockIO"), Step::Member("throttleWriteIOPSDevice"), Step::EachItem],
         Test::There("minor") },
 ];

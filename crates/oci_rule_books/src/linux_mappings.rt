@@ -8,73 +8,73 @@ ghost use Rattle.oci_rule_books.specs.Linux as defined;
 use oci_rules::{Level, Platforms, Rule, Step, Test};
 
 static RULES_1: [Rule<'static>; 3] = [
-    rule! { "mapping-members-there", Must, "runtime config-linux.md#user-namespace-mappings", "the first IDs and the size", Platforms::Every,
+    rule! { "mapping-members-there", Must, "runtime config-linux.md#user-namespace-mappings", "the first ID in the container", Platforms::Every,
         [Step::Member("uidMappings"), Step::EachItem],
         Test::There("containerID") },
-    rule! { "mapping-members-there", Must, "runtime config-linux.md#user-namespace-mappings", "the first IDs and the size", Platforms::Every,
+    rule! { "mapping-members-there", Must, "runtime config-linux.md#user-namespace-mappings", "the first ID in the container", Platforms::Every,
         [Step::Member("gidMappings"), Step::EachItem],
         Test::There("containerID") },
-    rule! { "mapping-members-there", Must, "runtime config-linux.md#user-namespace-mappings", "the first IDs and the size", Platforms::Every,
+    rule! { "mapping-members-there", Must, "runtime config-linux.md#user-namespace-mappings", "the first ID in the container", Platforms::Every,
         [Step::Member("linux"), Step::Member("uidMappings"), Step::EachItem],
         Test::There("containerID") },
 ];
 
 static RULES_2: [Rule<'static>; 3] = [
-    rule! { "mapping-members-there", Must, "runtime config-linux.md#user-namespace-mappings", "the first IDs and the size", Platforms::Every,
+    rule! { "mapping-members-there", Must, "runtime config-linux.md#user-namespace-mappings", "the first ID in the container", Platforms::Every,
         [Step::Member("linux"), Step::Member("gidMappings"), Step::EachItem],
         Test::There("containerID") },
-    rule! { "mapping-members-there", Must, "runtime config-linux.md#user-namespace-mappings", "the first IDs and the size", Platforms::Every,
+    rule! { "mapping-members-there", Must, "runtime config-linux.md#user-namespace-mappings", "the first ID in the container", Platforms::Every,
         [Step::Member("mounts"), Step::EachItem, Step::Member("uidMappings"), Step::EachItem],
         Test::There("containerID") },
-    rule! { "mapping-members-there", Must, "runtime config-linux.md#user-namespace-mappings", "the first IDs and the size", Platforms::Every,
+    rule! { "mapping-members-there", Must, "runtime config-linux.md#user-namespace-mappings", "the first ID in the container", Platforms::Every,
         [Step::Member("mounts"), Step::EachItem, Step::Member("gidMappings"), Step::EachItem],
         Test::There("containerID") },
 ];
 
 static RULES_3: [Rule<'static>; 3] = [
-    rule! { "mapping-members-there", Must, "runtime config-linux.md#user-namespace-mappings", "the first IDs and the size", Platforms::Every,
+    rule! { "mapping-members-there", Must, "runtime config-linux.md#user-namespace-mappings", "the first ID on the host", Platforms::Every,
         [Step::Member("uidMappings"), Step::EachItem],
         Test::There("hostID") },
-    rule! { "mapping-members-there", Must, "runtime config-linux.md#user-namespace-mappings", "the first IDs and the size", Platforms::Every,
+    rule! { "mapping-members-there", Must, "runtime config-linux.md#user-namespace-mappings", "the first ID on the host", Platforms::Every,
         [Step::Member("gidMappings"), Step::EachItem],
         Test::There("hostID") },
-    rule! { "mapping-members-there", Must, "runtime config-linux.md#user-namespace-mappings", "the first IDs and the size", Platforms::Every,
+    rule! { "mapping-members-there", Must, "runtime config-linux.md#user-namespace-mappings", "the first ID on the host", Platforms::Every,
         [Step::Member("linux"), Step::Member("uidMappings"), Step::EachItem],
         Test::There("hostID") },
 ];
 
 static RULES_4: [Rule<'static>; 3] = [
-    rule! { "mapping-members-there", Must, "runtime config-linux.md#user-namespace-mappings", "the first IDs and the size", Platforms::Every,
+    rule! { "mapping-members-there", Must, "runtime config-linux.md#user-namespace-mappings", "the first ID on the host", Platforms::Every,
         [Step::Member("linux"), Step::Member("gidMappings"), Step::EachItem],
         Test::There("hostID") },
-    rule! { "mapping-members-there", Must, "runtime config-linux.md#user-namespace-mappings", "the first IDs and the size", Platforms::Every,
+    rule! { "mapping-members-there", Must, "runtime config-linux.md#user-namespace-mappings", "the first ID on the host", Platforms::Every,
         [Step::Member("mounts"), Step::EachItem, Step::Member("uidMappings"), Step::EachItem],
         Test::There("hostID") },
-    rule! { "mapping-members-there", Must, "runtime config-linux.md#user-namespace-mappings", "the first IDs and the size", Platforms::Every,
+    rule! { "mapping-members-there", Must, "runtime config-linux.md#user-namespace-mappings", "the first ID on the host", Platforms::Every,
         [Step::Member("mounts"), Step::EachItem, Step::Member("gidMappings"), Step::EachItem],
         Test::There("hostID") },
 ];
 
 static RULES_5: [Rule<'static>; 3] = [
-    rule! { "mapping-members-there", Must, "runtime config-linux.md#user-namespace-mappings", "the first IDs and the size", Platforms::Every,
+    rule! { "mapping-members-there", Must, "runtime config-linux.md#user-namespace-mappings", "the number of IDs", Platforms::Every,
         [Step::Member("uidMappings"), Step::EachItem],
         Test::There("size") },
-    rule! { "mapping-members-there", Must, "runtime config-linux.md#user-namespace-mappings", "the first IDs and the size", Platforms::Every,
+    rule! { "mapping-members-there", Must, "runtime config-linux.md#user-namespace-mappings", "the number of IDs", Platforms::Every,
         [Step::Member("gidMappings"), Step::EachItem],
         Test::There("size") },
-    rule! { "mapping-members-there", Must, "runtime config-linux.md#user-namespace-mappings", "the first IDs and the size", Platforms::Every,
+    rule! { "mapping-members-there", Must, "runtime config-linux.md#user-namespace-mappings", "the number of IDs", Platforms::Every,
         [Step::Member("linux"), Step::Member("uidMappings"), Step::EachItem],
         Test::There("size") },
 ];
 
 static RULES_6: [Rule<'static>; 3] = [
-    rule! { "mapping-members-there", Must, "runtime config-linux.md#user-namespace-mappings", "the first IDs and the size", Platforms::Every,
+    rule! { "mapping-members-there", Must, "runtime config-linux.md#user-namespace-mappings", "the number of IDs", Platforms::Every,
         [Step::Member("linux"), Step::Member("gidMappings"), Step::EachItem],
         Test::There("size") },
-    rule! { "mapping-members-there", Must, "runtime config-linux.md#user-namespace-mappings", "the first IDs and the size", Platforms::Every,
+    rule! { "mapping-members-there", Must, "runtime config-linux.md#user-namespace-mappings", "the number of IDs", Platforms::Every,
         [Step::Member("mounts"), Step::EachItem, Step::Member("uidMappings"), Step::EachItem],
         Test::There("size") },
-    rule! { "mapping-members-there", Must, "runtime config-linux.md#user-namespace-mappings", "the first IDs and the size", Platforms::Every,
+    rule! { "mapping-members-there", Must, "runtime config-linux.md#user-namespace-mappings", "the number of IDs", Platforms::Every,
         [Step::Member("mounts"), Step::EachItem, Step::Member("gidMappings"), Step::EachItem],
         Test::There("size") },
 ];

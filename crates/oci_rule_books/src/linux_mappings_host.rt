@@ -86,13 +86,13 @@ static RULES_7: [Rule<'static>; 3] = [
     rule! { "mapping-needs-user", Host, "runtime config-linux.md#user-namespace-mappings", "no mappings without a user namespace, where they have no effect", Platforms::Every,
         [Step::When(Condition { origin: Origin::Document, way: &["linux", "namespaces"], holds: false, check: Predicate::ListsItem("type", &["user"], &[], &[]) }), Step::Member("linux")],
         Test::Absent("gidMappings") },
-    rule! { "user-namespace-mapped", Host, "runtime config-linux.md#user-namespace-mappings", "mappings, where a new user namespace is asked for", Platforms::Every,
+    rule! { "user-namespace-mapped", Host, "runtime config-linux.md#user-namespace-mappings", "mappings of users, where a new user namespace is asked for", Platforms::Every,
         [Step::When(Condition { origin: Origin::Document, way: &["linux", "namespaces"], holds: true, check: Predicate::ListsItem("type", &["user"], &[], &["path"]) }), Step::Member("linux")],
         Test::There("uidMappings") },
 ];
 
 static RULES_8: [Rule<'static>; 3] = [
-    rule! { "user-namespace-mapped", Host, "runtime config-linux.md#user-namespace-mappings", "mappings, where a new user namespace is asked for", Platforms::Every,
+    rule! { "user-namespace-mapped", Host, "runtime config-linux.md#user-namespace-mappings", "mappings of groups, where a new user namespace is asked for", Platforms::Every,
         [Step::When(Condition { origin: Origin::Document, way: &["linux", "namespaces"], holds: true, check: Predicate::ListsItem("type", &["user"], &[], &["path"]) }), Step::Member("linux")],
         Test::There("gidMappings") },
     rule! { "user-namespace-one-way", Host, "runtime config-linux.md#user-namespace-mappings", "no mappings where a user namespace is joined, which has its own", Platforms::Every,

@@ -99,13 +99,13 @@ static RULES_8: [Rule<'static>; 3] = [
     rule! { "cpu-realtime", Host, "cgroup v1 cpu", "a runtime that is at most its period", Platforms::Every,
         [Step::Member("linux"), Step::Member("resources"), Step::Member("cpu")],
         Test::AtMost("realtimeRuntime", "realtimePeriod") },
-    rule! { "hugepage-there", Must, "runtime config-linux.md#huge-page-limits", "the size of the pages and a limit", Platforms::Every,
+    rule! { "hugepage-there", Must, "runtime config-linux.md#huge-page-limits", "the size of the pages", Platforms::Every,
         [Step::Member("linux"), Step::Member("resources"), Step::Member("hugepageLimits"), Step::EachItem],
         Test::There("pageSize") },
 ];
 
 static RULES_9: [Rule<'static>; 3] = [
-    rule! { "hugepage-there", Must, "runtime config-linux.md#huge-page-limits", "the size of the pages and a limit", Platforms::Every,
+    rule! { "hugepage-there", Must, "runtime config-linux.md#huge-page-limits", "a limit", Platforms::Every,
         [Step::Member("linux"), Step::Member("resources"), Step::Member("hugepageLimits"), Step::EachItem],
         Test::There("limit") },
     rule! { "hugepage-size", Stated, "runtime config-linux.md#huge-page-limits", "a size of pages, as 64KB, 2MB or 1GB", Platforms::Every,
@@ -120,10 +120,10 @@ static RULES_10: [Rule<'static>; 3] = [
     rule! { "hugepage-once", Host, "common practice", "each size of pages once", Platforms::Every,
         [Step::Member("linux"), Step::Member("resources"), Step::Member("hugepageLimits")],
         Test::Distinct(Key::Members(&[&["pageSize"]])) },
-    rule! { "network-priority-there", Must, "runtime config-linux.md#network", "the name of an interface and its priority", Platforms::Every,
+    rule! { "network-priority-there", Must, "runtime config-linux.md#network", "the name of an interface", Platforms::Every,
         [Step::Member("linux"), Step::Member("resources"), Step::Member("network"), Step::Member("priorities"), Step::EachItem],
         Test::There("name") },
-    rule! { "network-priority-there", Must, "runtime config-linux.md#network", "the name of an interface and its priority", Platforms::Every,
+    rule! { "network-priority-there", Must, "runtime config-linux.md#network", "the priority of the interface", Platforms::Every,
         [Step::Member("linux"), Step::Member("resources"), Step::Member("network"), Step::Member("priorities"), Step::EachItem],
         Test::There("priority") },
 ];

@@ -11,7 +11,7 @@ pub(crate) const POSIX: &[RuntimePlatform] = &[
     RuntimePlatform::FreeBsd,
 ];
 
-/// Go's GOOS and GOARCH: `go tool dist list` of Go 1.19 and 1.24
+/// Go's GOOS and GOARCH: what `go tool dist list` of Go 1.19.8 prints and of 1.24.4 has (internal/platform/zosarch.go, without the broken ones), as Debian's packages golang-1.19-go and golang-1.24-src have them
 pub(crate) const GOOS: &[&str] = &[
     "aix",
     "android",
@@ -30,7 +30,7 @@ pub(crate) const GOOS: &[&str] = &[
     "windows",
 ];
 
-/// Go's GOOS and GOARCH: `go tool dist list` of Go 1.19 and 1.24
+/// Go's GOOS and GOARCH: what `go tool dist list` of Go 1.19.8 prints and of 1.24.4 has (internal/platform/zosarch.go, without the broken ones), as Debian's packages golang-1.19-go and golang-1.24-src have them
 pub(crate) const GOARCH: &[&str] = &[
     "386", "amd64", "arm", "arm64", "loong64", "mips", "mips64", "mips64le", "mipsle", "ppc64",
     "ppc64le", "riscv64", "s390x", "wasm",
@@ -108,32 +108,22 @@ pub(crate) const SUBJECT_TYPES: &[&str] = &[
     "application/vnd.docker.distribution.manifest.list.v2+json",
 ];
 
-/// image specification, "OCI Image Manifest Specification", and the types of its layers that are compressed otherwise
-pub(crate) const IMAGE_LAYER_TYPES: &[&str] = &[
-    "application/vnd.oci.image.layer.v1.tar",
-    "application/vnd.oci.image.layer.v1.tar+gzip",
-    "application/vnd.oci.image.layer.v1.tar+zstd",
-    "application/vnd.oci.image.layer.nondistributable.v1.tar",
-    "application/vnd.oci.image.layer.nondistributable.v1.tar+gzip",
-    "application/vnd.oci.image.layer.nondistributable.v1.tar+zstd",
-];
-
-/// image specification, "Platform Variants"; where a row of its table goes on, values of Go 1.24's GOARM64, GOPPC64, GORISCV64 and GOAMD64
+/// image specification, "Platform Variants": a row of its table that is whole
 pub(crate) const ARM_VARIANTS: &[&str] = &["v6", "v7", "v8"];
 
-/// image specification, "Platform Variants"; where a row of its table goes on, values of Go 1.24's GOARM64, GOPPC64, GORISCV64 and GOAMD64
+/// image specification, "Platform Variants"; where its row goes on, GOARM64 in Go 1.24.4 and 1.26.10 (internal/buildcfg/cfg.go, as Debian's packages golang-1.24-src and golang-1.26-src have it), and v9 beside v9.0 as the row has v8
 pub(crate) const ARM64_VARIANTS: &[&str] = &[
     "v8", "v8.0", "v8.1", "v8.2", "v8.3", "v8.4", "v8.5", "v8.6", "v8.7", "v8.8", "v8.9", "v9",
     "v9.0", "v9.1", "v9.2", "v9.3", "v9.4", "v9.5",
 ];
 
-/// image specification, "Platform Variants"; where a row of its table goes on, values of Go 1.24's GOARM64, GOPPC64, GORISCV64 and GOAMD64
+/// image specification, "Platform Variants"; where its row goes on, GOPPC64 in Go 1.24.4 and 1.26.10 (the same file)
 pub(crate) const PPC64LE_VARIANTS: &[&str] = &["power8", "power9", "power10"];
 
-/// image specification, "Platform Variants"; where a row of its table goes on, values of Go 1.24's GOARM64, GOPPC64, GORISCV64 and GOAMD64
+/// image specification, "Platform Variants"; where its row goes on, GORISCV64 in Go 1.26.10 (the same file; 1.24.4 lacks rva23u64)
 pub(crate) const RISCV64_VARIANTS: &[&str] = &["rva20u64", "rva22u64", "rva23u64"];
 
-/// image specification, "Platform Variants"; where a row of its table goes on, values of Go 1.24's GOARM64, GOPPC64, GORISCV64 and GOAMD64
+/// image specification, "Platform Variants"; where its row goes on, GOAMD64 in Go 1.19.8, 1.24.4 and 1.26.10 (the same file)
 pub(crate) const AMD64_VARIANTS: &[&str] = &["v1", "v2", "v3", "v4"];
 
 /// POSIX, getrlimit
@@ -241,7 +231,7 @@ pub(crate) const SECCOMP_FLAGS: &[&str] = &[
     "SECCOMP_FILTER_FLAG_WAIT_KILLABLE_RECV",
 ];
 
-/// mount(8), "Filesystem-specific mount options", and the kernel's pages of them: tmpfs, devpts, proc and overlay
+/// of tmpfs, devpts, proc and overlay: mount(8) of util-linux 2.38.1, "Filesystem-specific mount options", tmpfs(5) of man-pages 6.03, and inode32, inode64, max, hidepid and subset by Documentation/filesystems of Linux 6.1 (tmpfs.rst, devpts.rst, proc.rst), as Debian 12 has them
 pub(crate) const FILESYSTEM_OPTIONS: &[&str] = &[
     "size",
     "nr_blocks",
@@ -267,6 +257,7 @@ pub(crate) const FILESYSTEM_OPTIONS: &[&str] = &[
     "nfs_export",
     "xino",
     "userxattr",
+    "uuid",
     "volatile",
 ];
 

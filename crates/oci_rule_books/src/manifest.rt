@@ -5,7 +5,7 @@ ghost use Rattle.std.specs.List.{flat_map};
 ghost use Rattle.oci_rules.specs.Tables.{rule_of};
 ghost use Rattle.oci_rule_books.specs.Manifest as defined;
 
-use crate::lists::{IMAGE_LAYER_TYPES, LAYER_TYPES, NONDISTRIBUTABLE_TYPES, SUBJECT_TYPES};
+use crate::lists::{LAYER_TYPES, NONDISTRIBUTABLE_TYPES, SUBJECT_TYPES};
 use oci_grammars::Grammar;
 use oci_rules::{Condition, Level, Origin, Platforms, Predicate, Rule, Step, Test};
 
@@ -23,7 +23,7 @@ static RULES_1: [Rule<'static>; 3] = [
 
 static RULES_2: [Rule<'static>; 3] = [
     rule! { "manifest-media-type", Must, "image manifest.md#image-manifest-property-descriptions", "application/vnd.oci.image.manifest.v1+json", Platforms::Every,
-        [Step::Member("mediaType")],
+        [Step::Member("mediaType"), Step::When(Condition { origin: Origin::Part, way: &[], holds: false, check: Predicate::OneOf(&["application/vnd.docker.distribution.manifest.v2+json"]) })],
         Test::OneOf(&["application/vnd.oci.image.manifest.v1+json"]) },
     rule! { "manifest-artifact-type", Must, "image manifest.md#image-manifest-property-descriptions", "a media type (RFC 6838, section 4.2)", Platforms::Every,
         [Step::Member("artifactType")],
@@ -34,9 +34,9 @@ static RULES_2: [Rule<'static>; 3] = [
 ];
 
 static RULES_3: [Rule<'static>; 3] = [
-    rule! { "manifest-config-type-known", Should, "image manifest.md#image-manifest-property-descriptions", "application/vnd.oci.image.config.v1+json, beside layers of an image", Platforms::Every,
-        [Step::When(Condition { origin: Origin::Part, way: &["artifactType"], holds: false, check: Predicate::There }), Step::When(Condition { origin: Origin::Part, way: &["layers"], holds: true, check: Predicate::ListsItem("mediaType", IMAGE_LAYER_TYPES, &[], &[]) }), Step::Member("config"), Step::Member("mediaType")],
-        Test::OneOf(&["application/vnd.oci.image.config.v1+json"]) },
+    rule! { "manifest-config-type-known", Should, "image manifest.md#image-manifest-property-descriptions", "application/vnd.oci.image.config.v1+json, of the configuration of a container image", Platforms::Every,
+        [Step::When(Condition { origin: Origin::Part, way: &["mediaType"], holds: false, check: Predicate::OneOf(&["application/vnd.docker.distribution.manifest.v2+json"]) }), Step::When(Condition { origin: Origin::Part, way: &["artifactType"], holds: false, check: Predicate::There }), Step::Member("config"), Step::Member("mediaType")],
+        Test::NoneOf(&["application/vnd.docker.container.image.v1+json"]) },
     rule! { "manifest-artifact-config-type", Must, "image manifest.md#guidelines-for-artifact-usage", "a type of the artifact's own or the empty one, not that of an image's configuration", Platforms::Every,
         [Step::When(Condition { origin: Origin::Part, way: &["artifactType"], holds: true, check: Predicate::There }), Step::Member("config"), Step::Member("mediaType")],
         Test::NoneOf(&["application/vnd.oci.image.config.v1+json"]) },

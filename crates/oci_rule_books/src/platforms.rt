@@ -50,10 +50,10 @@ static RULES_4: [Rule<'static>; 3] = [
     rule! { "windows-cpu-one", Stated, "runtime config-windows.md#cpu", "one of count, shares, maximum and affinity", Platforms::Every,
         [Step::Member("windows"), Step::Member("resources"), Step::Member("cpu"), Step::When(Condition { origin: Origin::Part, way: &["affinity"], holds: true, check: Predicate::There })],
         Test::Absent("maximum") },
-    rule! { "windows-cpu-affinity-there", Must, "runtime config-windows.md#cpu", "a mask and a group of processors", Platforms::Every,
+    rule! { "windows-cpu-affinity-there", Must, "runtime config-windows.md#cpu", "a mask of processors", Platforms::Every,
         [Step::Member("windows"), Step::Member("resources"), Step::Member("cpu"), Step::Member("affinity"), Step::EachItem],
         Test::There("mask") },
-    rule! { "windows-cpu-affinity-there", Must, "runtime config-windows.md#cpu", "a mask and a group of processors", Platforms::Every,
+    rule! { "windows-cpu-affinity-there", Must, "runtime config-windows.md#cpu", "a group of processors", Platforms::Every,
         [Step::Member("windows"), Step::Member("resources"), Step::Member("cpu"), Step::Member("affinity"), Step::EachItem],
         Test::There("group") },
 ];

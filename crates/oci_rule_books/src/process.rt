@@ -42,25 +42,25 @@ static RULES_3: [Rule<'static>; 3] = [
     rule! { "process-env-once", Host, "common practice", "each variable once", Platforms::Every,
         [Step::Member("process"), Step::Member("env")],
         Test::Distinct(Key::EntryName) },
-    rule! { "console-size-there", Must, "runtime config.md#process", "a height and a width", Platforms::Every,
+    rule! { "console-size-there", Must, "runtime config.md#process", "a height", Platforms::Every,
         [Step::Member("process"), Step::Member("consoleSize")],
         Test::There("height") },
 ];
 
 static RULES_4: [Rule<'static>; 3] = [
-    rule! { "console-size-there", Must, "runtime config.md#process", "a height and a width", Platforms::Every,
+    rule! { "console-size-there", Must, "runtime config.md#process", "a width", Platforms::Every,
         [Step::Member("process"), Step::Member("consoleSize")],
         Test::There("width") },
     rule! { "console-size-terminal", Host, "runtime config.md#process", "no size without a terminal", Platforms::Every,
         [Step::Member("process"), Step::When(Condition { origin: Origin::Part, way: &["terminal"], holds: false, check: Predicate::Boolean(true) })],
         Test::Absent("consoleSize") },
-    rule! { "user-ids-there", Must, "runtime config.md#posix-platform-user", "the ID of a user and that of a group", Platforms::These(POSIX),
+    rule! { "user-ids-there", Must, "runtime config.md#posix-platform-user", "the ID of a user", Platforms::These(POSIX),
         [Step::Member("process"), Step::Member("user")],
         Test::There("uid") },
 ];
 
 static RULES_5: [Rule<'static>; 3] = [
-    rule! { "user-ids-there", Must, "runtime config.md#posix-platform-user", "the ID of a user and that of a group", Platforms::These(POSIX),
+    rule! { "user-ids-there", Must, "runtime config.md#posix-platform-user", "the ID of a group", Platforms::These(POSIX),
         [Step::Member("process"), Step::Member("user")],
         Test::There("gid") },
     rule! { "user-umask", Host, "umask(2)", "permission bits, from 0 to 511", Platforms::Every,
@@ -75,10 +75,10 @@ static RULES_6: [Rule<'static>; 3] = [
     rule! { "user-name-windows", Host, "runtime config.md#windows-user", "no name of a user but on Windows", Platforms::These(POSIX),
         [Step::Member("process"), Step::Member("user")],
         Test::Absent("username") },
-    rule! { "rlimit-limits-there", Must, "runtime config.md#posix-process", "a soft and a hard limit", Platforms::Every,
+    rule! { "rlimit-limits-there", Must, "runtime config.md#posix-process", "a soft limit", Platforms::Every,
         [Step::Member("process"), Step::Member("rlimits"), Step::EachItem],
         Test::There("soft") },
-    rule! { "rlimit-limits-there", Must, "runtime config.md#posix-process", "a soft and a hard limit", Platforms::Every,
+    rule! { "rlimit-limits-there", Must, "runtime config.md#posix-process", "a hard limit", Platforms::Every,
         [Step::Member("process"), Step::Member("rlimits"), Step::EachItem],
         Test::There("hard") },
 ];
@@ -96,10 +96,10 @@ static RULES_7: [Rule<'static>; 3] = [
 ];
 
 static RULES_8: [Rule<'static>; 3] = [
-    rule! { "io-priority-there", Must, "runtime config.md#linux-process", "a class and a level", Platforms::Every,
+    rule! { "io-priority-there", Must, "runtime config.md#linux-process", "a class", Platforms::Every,
         [Step::Member("process"), Step::Member("ioPriority")],
         Test::There("class") },
-    rule! { "io-priority-there", Must, "runtime config.md#linux-process", "a class and a level", Platforms::Every,
+    rule! { "io-priority-there", Must, "runtime config.md#linux-process", "a level", Platforms::Every,
         [Step::Member("process"), Step::Member("ioPriority")],
         Test::There("priority") },
     rule! { "io-priority-range", Should, "runtime config.md#linux-process", "an integer from 0 to 7", Platforms::Every,

@@ -93,10 +93,10 @@ static RULES_7: [Rule<'static>; 3] = [
 ];
 
 static RULES_8: [Rule<'static>; 3] = [
-    rule! { "scheduler-deadline-order", Host, "sched_setattr(2)", "a runtime that is at most the deadline, and that at most the period", Platforms::Every,
+    rule! { "scheduler-deadline-order", Host, "sched_setattr(2)", "a runtime that is at most the deadline", Platforms::Every,
         [Step::Member("process"), Step::Member("scheduler")],
         Test::AtMost("runtime", "deadline") },
-    rule! { "scheduler-deadline-order", Host, "sched_setattr(2)", "a runtime that is at most the deadline, and that at most the period", Platforms::Every,
+    rule! { "scheduler-deadline-order", Host, "sched_setattr(2)", "a deadline that is at most the period", Platforms::Every,
         [Step::Member("process"), Step::Member("scheduler"), Step::When(Condition { origin: Origin::Part, way: &["period"], holds: true, check: Predicate::Within(1, 18446744073709551615) })],
         Test::AtMost("deadline", "period") },
     rule! { "scheduler-flags", Stated, "runtime config.md#linux-process", "a flag of the specification's list, as SCHED_FLAG_RESET_ON_FORK", Platforms::Every,

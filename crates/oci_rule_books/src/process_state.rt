@@ -12,13 +12,13 @@ use oci_rules::{
 };
 
 static RULES_1: [Rule<'static>; 3] = [
-    rule! { "process-state-members-there", Must, "runtime config-linux.md#the-container-process-state", "a version, the ID of a process and a state", Platforms::Every,
+    rule! { "process-state-members-there", Must, "runtime config-linux.md#the-container-process-state", "a version", Platforms::Every,
         [],
         Test::There("ociVersion") },
-    rule! { "process-state-members-there", Must, "runtime config-linux.md#the-container-process-state", "a version, the ID of a process and a state", Platforms::Every,
+    rule! { "process-state-members-there", Must, "runtime config-linux.md#the-container-process-state", "the ID of a process", Platforms::Every,
         [],
         Test::There("pid") },
-    rule! { "process-state-members-there", Must, "runtime config-linux.md#the-container-process-state", "a version, the ID of a process and a state", Platforms::Every,
+    rule! { "process-state-members-there", Must, "runtime config-linux.md#the-container-process-state", "a state", Platforms::Every,
         [],
         Test::There("state") },
 ];
@@ -39,19 +39,19 @@ static RULES_3: [Rule<'static>; 3] = [
     rule! { "process-state-seccomp-fd", Must, "runtime config-linux.md#seccomp", "seccompFd among the names", Platforms::Every,
         [Step::Member("fds")],
         Test::Lists(&["seccompFd"]) },
-    rule! { "state-members-there", Must, "runtime runtime.md#state", "a version, an ID, a status and a bundle", Platforms::Every,
+    rule! { "state-members-there", Must, "runtime runtime.md#state", "a version", Platforms::Every,
         [Step::Member("state")],
         Test::There("ociVersion") },
-    rule! { "state-members-there", Must, "runtime runtime.md#state", "a version, an ID, a status and a bundle", Platforms::Every,
+    rule! { "state-members-there", Must, "runtime runtime.md#state", "an ID", Platforms::Every,
         [Step::Member("state")],
         Test::There("id") },
 ];
 
 static RULES_4: [Rule<'static>; 3] = [
-    rule! { "state-members-there", Must, "runtime runtime.md#state", "a version, an ID, a status and a bundle", Platforms::Every,
+    rule! { "state-members-there", Must, "runtime runtime.md#state", "a status", Platforms::Every,
         [Step::Member("state")],
         Test::There("status") },
-    rule! { "state-members-there", Must, "runtime runtime.md#state", "a version, an ID, a status and a bundle", Platforms::Every,
+    rule! { "state-members-there", Must, "runtime runtime.md#state", "a bundle", Platforms::Every,
         [Step::Member("state")],
         Test::There("bundle") },
     rule! { "state-version", Host, "runtime runtime.md#state", "a version (SemVer 2.0.0)", Platforms::Every,

@@ -29,13 +29,13 @@ static RULES_2: [Rule<'static>; 3] = [
     rule! { "mount-source-windows", Stated, "runtime config.md#mounts", "a local directory", Platforms::These(&[RuntimePlatform::Windows]),
         [Step::Member("mounts"), Step::EachItem, Step::Member("source")],
         Test::Text(Grammar::LocalDirectory) },
-    rule! { "mount-mappings-both", Must, "runtime config.md#posix-platform-mounts", "mappings of users and of groups, or none", Platforms::Every,
+    rule! { "mount-mappings-both", Must, "runtime config.md#posix-platform-mounts", "mappings of groups, where those of users stand", Platforms::Every,
         [Step::Member("mounts"), Step::EachItem, Step::When(Condition { origin: Origin::Part, way: &["uidMappings"], holds: true, check: Predicate::There })],
         Test::There("gidMappings") },
 ];
 
 static RULES_3: [Rule<'static>; 3] = [
-    rule! { "mount-mappings-both", Must, "runtime config.md#posix-platform-mounts", "mappings of users and of groups, or none", Platforms::Every,
+    rule! { "mount-mappings-both", Must, "runtime config.md#posix-platform-mounts", "mappings of users, where those of groups stand", Platforms::Every,
         [Step::Member("mounts"), Step::EachItem, Step::When(Condition { origin: Origin::Part, way: &["gidMappings"], holds: true, check: Predicate::There })],
         Test::There("uidMappings") },
     rule! { "mount-mappings-option", Should, "runtime config.md#posix-platform-mounts", "the option idmap or ridmap, where mappings stand", Platforms::Every,
@@ -98,19 +98,19 @@ static RULES_8: [Rule<'static>; 3] = [
     rule! { "mount-default-filesystems", Should, "runtime config-linux.md#default-filesystems", "mounts of /proc, /sys, /dev/pts and /dev/shm", Platforms::These(&[RuntimePlatform::Linux]),
         [],
         Test::There("mounts") },
-    rule! { "mount-default-filesystems", Should, "runtime config-linux.md#default-filesystems", "mounts of /proc, /sys, /dev/pts and /dev/shm", Platforms::These(&[RuntimePlatform::Linux]),
+    rule! { "mount-default-filesystems", Should, "runtime config-linux.md#default-filesystems", "a mount of /proc", Platforms::These(&[RuntimePlatform::Linux]),
         [Step::Member("mounts")],
         Test::ListsItem("destination", "/proc") },
-    rule! { "mount-default-filesystems", Should, "runtime config-linux.md#default-filesystems", "mounts of /proc, /sys, /dev/pts and /dev/shm", Platforms::These(&[RuntimePlatform::Linux]),
+    rule! { "mount-default-filesystems", Should, "runtime config-linux.md#default-filesystems", "a mount of /sys", Platforms::These(&[RuntimePlatform::Linux]),
         [Step::Member("mounts")],
         Test::ListsItem("destination", "/sys") },
 ];
 
 static RULES_9: [Rule<'static>; 2] = [
-    rule! { "mount-default-filesystems", Should, "runtime config-linux.md#default-filesystems", "mounts of /proc, /sys, /dev/pts and /dev/shm", Platforms::These(&[RuntimePlatform::Linux]),
+    rule! { "mount-default-filesystems", Should, "runtime config-linux.md#default-filesystems", "a mount of /dev/pts", Platforms::These(&[RuntimePlatform::Linux]),
         [Step::Member("mounts")],
         Test::ListsItem("destination", "/dev/pts") },
-    rule! { "mount-default-filesystems", Should, "runtime config-linux.md#default-filesystems", "mounts of /proc, /sys, /dev/pts and /dev/shm", Platforms::These(&[RuntimePlatform::Linux]),
+    rule! { "mount-default-filesystems", Should, "runtime config-linux.md#default-filesystems", "a mount of /dev/shm", Platforms::These(&[RuntimePlatform::Linux]),
         [Step::Member("mounts")],
         Test::ListsItem("destination", "/dev/shm") },
 ];

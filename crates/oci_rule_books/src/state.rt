@@ -12,19 +12,19 @@ use oci_rules::{
 };
 
 static RULES_1: [Rule<'static>; 3] = [
-    rule! { "state-members-there", Must, "runtime runtime.md#state", "a version, an ID, a status and a bundle", Platforms::Every,
+    rule! { "state-members-there", Must, "runtime runtime.md#state", "a version", Platforms::Every,
         [],
         Test::There("ociVersion") },
-    rule! { "state-members-there", Must, "runtime runtime.md#state", "a version, an ID, a status and a bundle", Platforms::Every,
+    rule! { "state-members-there", Must, "runtime runtime.md#state", "an ID", Platforms::Every,
         [],
         Test::There("id") },
-    rule! { "state-members-there", Must, "runtime runtime.md#state", "a version, an ID, a status and a bundle", Platforms::Every,
+    rule! { "state-members-there", Must, "runtime runtime.md#state", "a status", Platforms::Every,
         [],
         Test::There("status") },
 ];
 
 static RULES_2: [Rule<'static>; 3] = [
-    rule! { "state-members-there", Must, "runtime runtime.md#state", "a version, an ID, a status and a bundle", Platforms::Every,
+    rule! { "state-members-there", Must, "runtime runtime.md#state", "a bundle", Platforms::Every,
         [],
         Test::There("bundle") },
     rule! { "state-version", Host, "runtime runtime.md#state", "a version (SemVer 2.0.0)", Platforms::Every,

@@ -38,8 +38,9 @@ pub fn platform_of_document(document: &Value) -> RuntimePlatform
     }
 }
 
-/// What breaks the rules for the platform in the JSON of the record. Members that are absent and have a default are there with it.
-/// Fails with `SerDe(Schema)` if the record is not serializable, else only with `Memory`.
+/// What breaks the rules for the platform in the JSON of the record. The rules are asked of what the record is written as: a member that was
+/// null or absent is there with its default or not at all, and an unknown one is gone. `broken` asks them of a value as it was read. Fails
+/// with `SerDe(Schema)` if the record is not serializable, else only with `Memory`.
 pub fn broken_in<'a, T: OciRecord>(
     rules: &'a [Rule<'a>],
     platform: RuntimePlatform,

@@ -48,16 +48,13 @@ pub fn ends_in(
     status(harness, words, &mut input, manner) == expected
 }
 
-/// Counts a command: it is refused, writes nothing and tells this.
+/// Whether a command is refused, writes nothing and tells this.
 pub fn tells(
     harness: &mut Harness<'_>,
-    case: &str,
-    place: usize,
     words: &[String],
     text: &[u8],
     manner: Manner,
     line: &str,
-) {
-    let kept = ends_in(harness, words, text, manner, 1) && harness.has_told(line);
-    harness.count(case, place, kept);
+) -> bool {
+    ends_in(harness, words, text, manner, 1) && harness.has_told(line)
 }

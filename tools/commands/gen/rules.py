@@ -1,8 +1,8 @@
 """Books of rules in crates/oci_rule_books and oci_rule_books, their golden rows and docs/RULES.md, from tools/rules/*.rules.
 
 It writes all files that are not up to date. With --check it prints each file that differs, is missing, or is no longer generated, each
-place that stands in no record, each rule without its golden rows, and each whose level is not that of its sentence in
-tools/rules/sources.rows. With --rows NAME it prints the skeleton of a rule's golden rows.
+place that stands in no record, each rule without its golden rows, each whose level or version is not that of its sentence in
+tools/rules/sources.rows, and each that wants several members by one text. With --rows NAME it prints the skeleton of a rule's golden rows.
 
 A rule is one line of a file of tools/rules, with eight cells between ` | `:
 
@@ -30,13 +30,14 @@ A rule is one line of a file of tools/rules, with eight cells between ` | `:
              joined KIND, namespace KIND (the document lists such a namespace: a new one, one to join by its path, any; an empty path
              is none). A way has slashes; `.` is the part itself. A LIST is [a b c] or the name of one
   PEERS      what others do: T runtime-tools, S the JSON schemas, V the Go code beside them, R runc, C crun; E: they refuse it
-  WANTED     what people read behind the colon
+  WANTED     what people read behind the colon: one text for all tests, or one for each of them, with ` ; ` between
 
 Other lines:
 
   crate NAME                 the crate of the file's books
   list NAME = TEXT..         a list of texts; the remark above it is its description
   grammar NAME = VARIANT     a grammar by its variant in oci_grammars
+  versions TEXT              the specifications that the rules hold to, with their versions, which `ciderglen rules` prints
   beside NAME..              members that the specifications have and the records do not; any place below one stands
   set NAME                   a set of rules begins, which stands wherever a line `include PLACE NAME` has it
   book NAME                  a book begins: one constant of the code, of at most some 40 rules
@@ -70,6 +71,16 @@ def misplaced(model):
     return out
 
 
+def vague(model):
+    """The rules that want several members by one text, so that the missing one is not named, a line each."""
+    for it in (each for found in model.rules().values() for each in found):
+        members = {}
+        for line in it.lines:
+            if line.test[0] == "there":
+                members.setdefault(line.wanted, set()).add(line.test[1])
+        yield from (f"{it.name}: one text for {', '.join(sorted(names))}" for names in members.values() if len(names) > 1)
+
+
 def options_of(parser):
     parser.add_argument("--rows", metavar="NAME", help="print the skeleton of a rule's golden rows")
 
@@ -81,6 +92,7 @@ def run(options):
         return 0
     found = sources.rows(TOP)
     wrong = misplaced(model) + list(sources.differing(model.rules(), found)) + sources.orphans(model.rules(), found)
+    wrong += [*sources.of_other_versions(model.versions, found), *vague(model)]
     files = {}
     for path, text in (specs.files(model) | source.files(model) | kinds.files(model)).items():
         files |= marked({path: text}, "rules", "tools/rules")

@@ -27,15 +27,8 @@ pub fn all(harness: &mut Harness<'_>, sample: &Sample<'_>, words: &[String]) {
 fn prefixes(harness: &mut Harness<'_>, text: &[u8], words: &[String]) {
     for count in 0..text.len() {
         let beginning = &text[..count];
-        tells(
-            harness,
-            "prefix",
-            count,
-            words,
-            beginning,
-            Manner::AMPLE,
-            "refused: Json\n",
-        );
+        let kept = tells(harness, words, beginning, Manner::AMPLE, "refused: Json\n");
+        harness.count("prefix", count, kept);
     }
 }
 

@@ -72,15 +72,8 @@ fn reads(harness: &mut Harness<'_>, text: &[u8], words: &[String], fault: Option
             fault,
             ..Manner::AMPLE
         };
-        tells(
-            harness,
-            "read",
-            before,
-            words,
-            text,
-            manner,
-            "refused: Io\n",
-        );
+        let kept = tells(harness, words, text, manner, "refused: Io\n");
+        harness.count("read", before, kept);
     }
 }
 
@@ -152,5 +145,6 @@ fn untold(
         ..Manner::AMPLE
     };
     done(harness, "untold", 0, sample, words, manner);
-    tells(harness, "untold", 1, words, b"", manner, "");
+    let kept = tells(harness, words, b"", manner, "");
+    harness.count("untold", 1, kept);
 }
