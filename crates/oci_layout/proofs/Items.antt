@@ -34,3 +34,6 @@ pub items_claim : (role : Role) (vs : List Value) (o : Option Items) → Some (i
     → map (λ v. claim_of role (view v)) vs ≡ map (claim_of role) (list_of (unwrap_or o no_items))
 items_claim role vs o found =
     each role vs ∙ ap (map (claim_of role)) (sym (list_of-items_view vs)) ∙ ap (λ i. map (claim_of role) (list_of (unwrap_or i no_items))) found
+
+pub items_seen : (vs : List Value) (o : Option Items) → Some (items_view vs) ≡ o → map view vs ≡ list_of (unwrap_or o no_items)
+items_seen vs o found = sym (list_of-items_view vs) ∙ ap (λ i. list_of (unwrap_or i no_items)) found

@@ -1,8 +1,12 @@
+pub mod Descriptors
 pub mod Findings
 pub mod Items
 pub mod Looks
+pub mod Names
+pub mod Once
 pub mod Paths
 pub mod Same
 pub mod Sound
+pub mod Tops
 pub mod Unambiguous
 pub mod Walks

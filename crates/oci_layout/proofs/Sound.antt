@@ -1,6 +1,7 @@
--- What a walk without a finding says.
-use Rattle.std.proofs.Common.{◌≡◌, ℕ, Bool, true, false, List, [], Option, None, Some, inl, inr, refl, sym, ap, subst, ◌∙◌, get_or, slice_get, arith}
+-- What a walk without a finding says, and where there is one.
+use Rattle.std.proofs.Common.{◌≡◌, ℕ, ◌<◌, Bool, true, false, List, [], ◌∷◌, length, IsSome, Option, None, Some, inl, inr, refl, sym, ap, subst, ◌∙◌, get_or, slice_get, true≢false, arith}
 use Rattle.std.specs.Prelude.{bytes_eq, codes, option_and_then, if◌then◌else◌}
+use Rattle.std.specs.List.{All, Contains}
 use Rattle.std.proofs.lemmas.Option.{slice_get-get_or}
 use Rattle.serde_json.specs.Data.{Data}
 use Rattle.serde_json.specs.Find.{as_str, get}
@@ -8,17 +9,18 @@ use Rattle.oci_model.specs.Shape.{Shape}
 use Rattle.oci_content.specs.Content.{Tells}
 use Rattle.oci_content.specs.declared.verdict.Verdict.{Verdict}
 use Rattle.oci_content.specs.declared.verdict.Verdict.TheVariants as verdict
-use Rattle.oci_layout.specs.Claims.{claims_of}
-use Rattle.oci_layout.specs.Documents.{compared, IsReadBy, IsAgainst}
+use Rattle.oci_layout.specs.Documents.{compared, IsReadBy, IsAgainst, IsTypedAgainst, type_fault}
 use Rattle.oci_layout.specs.Kinds.{document_shape, own_type}
-use Rattle.oci_layout.specs.Looks.{fault_of, IsJudgedBy, IsShown, Shows}
-use Rattle.oci_layout.specs.Sound.{IsFine, AreFine, IsSoundAt, IsSoundOrMissing}
-use Rattle.oci_layout.specs.Walk.{IsWalk, IsWithin, Reaches}
+use Rattle.oci_layout.specs.Looks.{fault_of, IsJudgedBy, IsShown, IsShownIn, IsSmall, Shows}
+use Rattle.oci_layout.specs.Sound.{IsFine, AreFine, IsSoundAt, IsSoundOrMissing, AreSoundFrom}
+use Rattle.oci_layout.specs.Walk.{IsWalk, IsWithin, Reaches, Show}
+use Rattle.oci_layout.specs.Walk.Reaches.{first, further}
 use Rattle.oci_layout.specs.declared.kind.Kind.{Kind}
 use Rattle.oci_layout.specs.declared.claim.Claim.{Claim}
 use Rattle.oci_layout.specs.declared.claim.Fault.{Fault}
 use Rattle.oci_layout.specs.declared.claim.Fault.TheVariants as fault
-use Rattle.oci_layout.proofs.Walks.{ShowsNoMore, has_all, none_within}
+use Rattle.oci_layout.proofs.Once.{shown_once}
+use Rattle.oci_layout.proofs.Walks.{ShowsNoMore, has_all, none_within, at_place}
 
 some : {X : Type 0} {x y : X} → Some x ≡ Some y → x ≡ y
 some e = cc
@@ -26,114 +28,184 @@ some e = cc
 nothing_within : (xs ys : List Claim) → ys ≡ [] → IsWithin ys xs
 nothing_within xs ys e = subst (λ l. IsWithin l xs) (sym e) (none_within xs)
 
--- where one document was found, no look finds more than it claims
-read_once : (o : Option Shape) (k : Kind) (bytes : List ℕ) (g : Option Fault) (xs ys : List Claim) → IsReadBy o k bytes None xs → IsReadBy o k bytes g ys
-    → IsWithin ys xs
-read_once None k bytes g xs ys h (q, e) = nothing_within xs ys e
-read_once (Some s) k bytes g xs ys (inl (d, r, inl doc)) (inl (e, t, inl other)) =
-    let same : e ≡ d = some (sym t.1 ∙ r.1) in
-    subst (λ l. IsWithin l xs) (sym (other.claimed ∙ ap (claims_of k) same ∙ sym doc.claimed)) (λ c i. i)
-read_once (Some s) k bytes g xs ys (inl (d, r, inl doc)) (inl (e, t, inr (bad, (q, none)))) = nothing_within xs ys none
-read_once (Some s) k bytes g xs ys (inl (d, r, inl doc)) (inr (n, (q, none))) = nothing_within xs ys none
-read_once (Some s) k bytes g xs ys (inl (d, r, inr (bad, (p, none)))) h = cc p
-read_once (Some s) k bytes g xs ys (inr (n, (p, none))) h = cc p
+-- ---- what is there is neither missing nor unreadable
 
-judged_once : (o p g : Option Fault) (k : Kind) (bytes : List ℕ) (xs ys : List Claim) → IsJudgedBy o k bytes None xs → IsJudgedBy p k bytes g ys → IsWithin ys xs
-judged_once None None g k bytes xs ys h i = read_once (document_shape k) k bytes g xs ys h i
-judged_once None (Some f) g k bytes xs ys h (q, none) = nothing_within xs ys none
-judged_once (Some f) p g k bytes xs ys (q, none) i = cc q
+-- what stands against a content that is not read
+abbrev outer : Fault → Bool
+outer fault.Missing = true
+outer fault.Unreadable = true
+outer _ = false
 
--- what is there is not missing
-compared_there : (a b : Option (List ℕ)) → Some fault.Missing ≡ compared a b → ⊥
-compared_there None b e = cc e
-compared_there (Some said) None e = cc e
-compared_there (Some said) (Some own) e = by (bytes_eq own said) e
+inner : (x y : Fault) → outer x ≡ true → outer y ≡ false → Some x ≡ Some y → ⊥
+inner x y h k e = true≢false (sym h ∙ ap outer (some e) ∙ k)
+
+compared_there : (x : Fault) (a b : Option (List ℕ)) → outer x ≡ true → Some x ≡ compared a b → ⊥
+compared_there x None b h e = cc e
+compared_there x (Some said) None h e = cc e
+compared_there x (Some said) (Some own) h e = by (bytes_eq own said) e
   where
-    by : (b : Bool) → Some fault.Missing ≡ (if b then None else Some fault.OtherType) → ⊥
+    by : (b : Bool) → Some x ≡ (if b then None else Some fault.OtherType) → ⊥
     by true k = cc k
-    by false k = cc k
+    by false k = inner x fault.OtherType h refl k
 
-against_there : (k : Kind) (d : Data) → IsAgainst k d (Some fault.Missing) → ⊥
-against_there k d (inl (m, e, a)) = cc e
-against_there k d (inr (u, e)) = compared_there (own_type k) (option_and_then as_str (get (codes "mediaType") d)) e
+typed_there : (x : Fault) (o : Option Fault) (k : Kind) (d : Data) (p q : Option (List ℕ)) → outer x ≡ true → o ≡ compared p q → IsTypedAgainst o k d (Some x) → ⊥
+typed_there x (Some f) k d p q h is e = compared_there x p q h (e ∙ is)
+typed_there x None k d p q h is (inl (all, e)) = cc e
+typed_there x None k d p q h is (inr (lacks, e)) = inner x fault.Embedded h refl e
 
-read_there : (o : Option Shape) (k : Kind) (bytes : List ℕ) (xs : List Claim) → IsReadBy o k bytes (Some fault.Missing) xs → ⊥
-read_there None k bytes xs (p, e) = cc p
-read_there (Some s) k bytes xs (inl (d, r, inl doc)) = against_there k d doc.against
-read_there (Some s) k bytes xs (inl (d, r, inr (bad, (p, none)))) = cc p
-read_there (Some s) k bytes xs (inr (n, (p, none))) = cc p
+against_there : (x : Fault) (k : Kind) (d : Data) → outer x ≡ true → IsAgainst k d (Some x) → ⊥
+against_there x k d h (inl (m, e, a)) = inner x (fault.Ambiguous m) h refl e
+against_there x k d h (inr (u, t)) = typed_there x (type_fault k d) k d (own_type k) (option_and_then as_str (get (codes "mediaType") d)) h refl t
 
-judged_there : (v : Verdict) (k : Kind) (bytes : List ℕ) (xs : List Claim) → IsJudgedBy (fault_of v) k bytes (Some fault.Missing) xs → ⊥
-judged_there verdict.Same k bytes xs h = read_there (document_shape k) k bytes xs h
-judged_there (verdict.Shorter n) k bytes xs (p, e) = cc p
-judged_there verdict.Longer k bytes xs (p, e) = cc p
-judged_there (verdict.OtherDigest sum) k bytes xs (p, e) = cc p
-judged_there verdict.Unjudged k bytes xs (p, e) = cc p
+read_there : (x : Fault) (o : Option Shape) (k : Kind) (bytes : List ℕ) (xs : List Claim) → outer x ≡ true → IsReadBy o k bytes (Some x) xs → ⊥
+read_there x None k bytes xs h (p, e) = cc p
+read_there x (Some s) k bytes xs h (inl (d, r, inl doc)) = against_there x k d h doc.against
+read_there x (Some s) k bytes xs h (inl (d, r, inr (bad, (p, none)))) = inner x fault.NoDocument h refl p
+read_there x (Some s) k bytes xs h (inr (n, (p, none))) = inner x fault.NoJson h refl p
 
-shown_there : (limit : ℕ) (bytes : List ℕ) (c : Claim) (xs : List Claim) → IsShown limit (Some bytes) c (Some fault.Missing) xs → ⊥
-shown_there limit bytes c xs (inl (inl (v, t, j))) = judged_there v c.kind bytes xs j
-shown_there limit bytes c xs (inl (inr (p, e))) = cc p
-shown_there limit bytes c xs (inr (k, more, (p, e))) = cc p
+judged_there : (x : Fault) (v : Verdict) (k : Kind) (bytes : List ℕ) (xs : List Claim) → outer x ≡ true → IsJudgedBy (fault_of v) k bytes (Some x) xs → ⊥
+judged_there x verdict.Same k bytes xs h j = read_there x (document_shape k) k bytes xs h j
+judged_there x (verdict.Shorter n) k bytes xs h (p, e) = inner x (fault.Shorter n) h refl p
+judged_there x verdict.Longer k bytes xs h (p, e) = inner x fault.Longer h refl p
+judged_there x (verdict.OtherDigest sum) k bytes xs h (p, e) = inner x (fault.OtherDigest sum) h refl p
+judged_there x verdict.Unjudged k bytes xs h (p, e) = inner x fault.Unjudged h refl p
 
--- at a sound claim no look finds more
-found_once : (limit : ℕ) (o : Option (List ℕ)) (c : Claim) (g : Option Fault) (xs ys : List Claim) → IsShown limit o c None xs → IsShown limit o c g ys → IsWithin ys xs
-found_once limit None c g xs ys (inl (p, e)) h = cc p
-found_once limit None c g xs ys (inr (p, e)) h = cc p
-found_once limit (Some bytes) c g xs ys (inl (inl (v, t, j))) (inl (inl (w, u, i))) = judged_once (fault_of v) (fault_of w) g c.kind bytes xs ys j i
-found_once limit (Some bytes) c g xs ys (inl (inl h)) (inl (inr (p, none))) = nothing_within xs ys none
-found_once limit (Some bytes) c g xs ys (inl (inl h)) (inr (k, more, (p, none))) = nothing_within xs ys none
-found_once limit (Some bytes) c g xs ys (inl (inr (p, e))) h = cc p
-found_once limit (Some bytes) c g xs ys (inr (k, more, (p, e))) h = cc p
+shown_there : (x : Fault) (limit : ℕ) (bytes : List ℕ) (c : Claim) (xs : List Claim) → outer x ≡ true → IsShown limit (Some bytes) c (Some x) xs → ⊥
+shown_there x limit bytes c xs h (inl (small, (v, t, j))) = judged_there x v c.kind bytes xs h j
+shown_there x limit bytes c xs h (inr (large, (p, e))) = inner x fault.TooLarge h refl p
 
-missing_once : (limit : ℕ) (o : Option (List ℕ)) (c : Claim) (g : Option Fault) (xs ys : List Claim) → IsShown limit o c (Some fault.Missing) xs → IsShown limit o c g ys → IsWithin ys xs
-missing_once limit None c g xs ys h (inl (p, none)) = nothing_within xs ys none
-missing_once limit None c g xs ys h (inr (p, none)) = nothing_within xs ys none
-missing_once limit (Some bytes) c g xs ys h i = absurd (shown_there limit bytes c xs h)
+-- what is shown is never that it cannot be read
+pub readable : (limit : ℕ) (there : Option (List ℕ)) (c : Claim) (f : Option Fault) (xs : List Claim) → IsShown limit there c f xs → ¬ (f ≡ Some fault.Unreadable)
+readable limit None c f xs (p, e) is = let same = some (sym p ∙ is) in cc same
+readable limit (Some bytes) c f xs h is = shown_there fault.Unreadable limit bytes c xs refl (subst (λ g. IsShown limit (Some bytes) c g xs) is h)
 
-shows_no_more : (limit : ℕ) (contents : List ℕ → Option (List ℕ)) → ShowsNoMore (Shows false limit (Some contents)) IsFine
-shows_no_more limit contents c f g xs ys (inl e) h i =
-    found_once limit (contents c.digest) c g xs ys (subst (λ x. IsShown limit (contents c.digest) c x xs) e h) i
-shows_no_more limit contents c f g xs ys (inr (e, may)) h i =
-    missing_once limit (contents c.digest) c g xs ys (subst (λ x. IsShown limit (contents c.digest) c x xs) e h) i
+-- ---- where reads may fail
+
+-- what is fine was read
+unfailing : (c : Claim) (f : Option Fault) → IsFine c f → f ≡ Some fault.Unreadable → ⊥
+unfailing c f (inl e) p = let same = sym e ∙ p in cc same
+unfailing c f (inr (e, may)) p = let same = some (sym e ∙ p) in cc same
+
+-- at a fine claim no look finds more
+shows_no_more : (steady : Bool) (limit : ℕ) (contents : List ℕ → Option (List ℕ)) → ShowsNoMore (Shows false steady limit (Some contents)) IsFine
+shows_no_more steady limit contents c f g xs ys fine (inl h) (inl i) =
+    subst (λ l. IsWithin l xs) (shown_once limit (contents c.digest) c f g xs ys h i).1 (λ x there. there)
+shows_no_more steady limit contents c f g xs ys fine (inl h) (inr (lacks, (q, none))) = nothing_within xs ys none
+shows_no_more steady limit contents c f g xs ys fine (inr (lacks, (p, none))) i = absurd (unfailing c f fine p)
 
 -- ---- what a sound claim has
 
-sound_judged : (contents : List ℕ → Option (List ℕ)) (c : Claim) (bytes : List ℕ) (v : Verdict) (claims : List Claim) → contents c.digest ≡ Some bytes
-    → Tells c.digest c.size bytes v → IsJudgedBy (fault_of v) c.kind bytes None claims → IsSoundAt contents c
-sound_judged contents c bytes verdict.Same claims there (size, digest) h =
-    record { bytes = bytes; there = there; size = size; digest = digest; claims = claims; document = h }
-sound_judged contents c bytes (verdict.Shorter n) claims there t (p, e) = cc p
-sound_judged contents c bytes verdict.Longer claims there t (p, e) = cc p
-sound_judged contents c bytes (verdict.OtherDigest sum) claims there t (p, e) = cc p
-sound_judged contents c bytes verdict.Unjudged claims there t (p, e) = cc p
+sound_judged : (limit : ℕ) (contents : List ℕ → Option (List ℕ)) (c : Claim) (bytes : List ℕ) (v : Verdict) (claims : List Claim) → contents c.digest ≡ Some bytes
+    → IsSmall limit c → Tells c.digest c.size bytes v → IsJudgedBy (fault_of v) c.kind bytes None claims → IsSoundAt limit contents c
+sound_judged limit contents c bytes verdict.Same claims there small (size, digest) h =
+    record { bytes = bytes; there = there; small = small; size = size; digest = digest; claims = claims; document = h }
+sound_judged limit contents c bytes (verdict.Shorter n) claims there small t (p, e) = cc p
+sound_judged limit contents c bytes verdict.Longer claims there small t (p, e) = cc p
+sound_judged limit contents c bytes (verdict.OtherDigest sum) claims there small t (p, e) = cc p
+sound_judged limit contents c bytes verdict.Unjudged claims there small t (p, e) = cc p
 
 sound_found : (limit : ℕ) (contents : List ℕ → Option (List ℕ)) (c : Claim) (o : Option (List ℕ)) (claims : List Claim) → contents c.digest ≡ o
-    → IsShown limit o c None claims → IsSoundAt contents c
-sound_found limit contents c None claims e (inl (p, none)) = cc p
-sound_found limit contents c None claims e (inr (p, none)) = cc p
-sound_found limit contents c (Some bytes) claims e (inl (inl (v, t, j))) = sound_judged contents c bytes v claims e t j
-sound_found limit contents c (Some bytes) claims e (inl (inr (p, none))) = cc p
-sound_found limit contents c (Some bytes) claims e (inr (k, more, (p, none))) = cc p
+    → IsShown limit o c None claims → IsSoundAt limit contents c
+sound_found limit contents c None claims e (p, none) = cc p
+sound_found limit contents c (Some bytes) claims e (inl (small, (v, t, j))) = sound_judged limit contents c bytes v claims e small t j
+sound_found limit contents c (Some bytes) claims e (inr (large, (p, none))) = cc p
 
 absent : (limit : ℕ) (contents : List ℕ → Option (List ℕ)) (c : Claim) (o : Option (List ℕ)) (claims : List Claim) → contents c.digest ≡ o
     → IsShown limit o c (Some fault.Missing) claims → contents c.digest ≡ None
 absent limit contents c None claims e h = e
-absent limit contents c (Some bytes) claims e h = absurd (shown_there limit bytes c claims h)
+absent limit contents c (Some bytes) claims e h = absurd (shown_there fault.Missing limit bytes c claims refl h)
 
-sound_shown : (limit : ℕ) (contents : List ℕ → Option (List ℕ)) (c : Claim) (f : Option Fault) (claims : List Claim) → IsFine c f
-    → Shows false limit (Some contents) c f claims → IsSoundOrMissing contents c
-sound_shown limit contents c f claims (inl e) h =
+sound_shown : (steady : Bool) (limit : ℕ) (contents : List ℕ → Option (List ℕ)) (c : Claim) (f : Option Fault) (claims : List Claim) → IsFine c f
+    → Shows false steady limit (Some contents) c f claims → IsSoundOrMissing limit contents c
+sound_shown steady limit contents c f claims (inl e) (inl h) =
     inl (sound_found limit contents c (contents c.digest) claims refl (subst (λ x. IsShown limit (contents c.digest) c x claims) e h))
-sound_shown limit contents c f claims (inr (e, may)) h =
+sound_shown steady limit contents c f claims (inr (e, may)) (inl h) =
     inr (absent limit contents c (contents c.digest) claims refl (subst (λ x. IsShown limit (contents c.digest) c x claims) e h), may)
+sound_shown steady limit contents c f claims fine (inr (lacks, (p, none))) = absurd (unfailing c f fine p)
 
-pub sound_where_reached : (limit : ℕ) (contents : List ℕ → Option (List ℕ)) (start all : List Claim) (faults : List (Option Fault))
-    → IsWalk (Shows false limit (Some contents)) start all faults → AreFine all faults
-    → (c : Claim) → Reaches (Shows false limit (Some contents)) start c → IsSoundOrMissing contents c
-sound_where_reached limit contents start all faults w fine c r =
-    let (k, below, at) = has_all (Shows false limit (Some contents)) IsFine start all faults (shows_no_more limit contents) w fine c r in
+-- what is reached where one shows what the other does
+reaches_by : (shows other : Show) → ((c : Claim) (f : Option Fault) (xs : List Claim) → shows c f xs → other c f xs) → (start : List Claim) (c : Claim) → Reaches shows start c
+    → Reaches other start c
+reaches_by shows other to start c (first h) = first h
+reaches_by shows other to start d (further {c} f claims r shown h) = further f claims (reaches_by shows other to start c r) (to c f claims shown) h
+
+pub sound_where_reached : (limit : ℕ) (steady : Bool) (contents : List ℕ → Option (List ℕ)) (start all : List Claim) (faults : List (Option Fault))
+    → IsWalk (Shows false steady limit (Some contents)) start all faults → AreFine all faults → AreSoundFrom limit contents start
+sound_where_reached limit steady contents start all faults w fine c r =
+    let reached = reaches_by (IsShownIn limit contents) (Shows false steady limit (Some contents)) (λ d f xs h. inl h) start c r in
+    let (k, below, at) = has_all (Shows false steady limit (Some contents)) IsFine start all faults (shows_no_more steady limit contents) w fine c reached in
     let here : slice_get all k ≡ Some c = slice_get-get_or all k c below ∙ ap Some at in
     let each = w.each in
     let told : slice_get faults k ≡ Some (get_or faults k None) = slice_get-get_or faults k None (omega arith) in
     let l = w.looked k c (get_or faults k None) here told in
-    sound_shown limit contents c (get_or faults k None) l.claims (fine k c (get_or faults k None) here told) l.shown
+    sound_shown steady limit contents c (get_or faults k None) l.claims (fine k c (get_or faults k None) here told) l.shown
+
+-- ---- where no read fails
+
+pub steady_shows : (limit : ℕ) (contents : List ℕ → Option (List ℕ)) (c : Claim) (f : Option Fault) (xs : List Claim) → Shows false true limit (Some contents) c f xs
+    → IsShownIn limit contents c f xs
+steady_shows limit contents c f xs (inl h) = h
+steady_shows limit contents c f xs (inr (lacks, e)) = absurd (true≢false lacks)
+
+-- at a sound claim nothing else is found
+fine_shown : (limit : ℕ) (contents : List ℕ → Option (List ℕ)) (c : Claim) (f : Option Fault) (xs : List Claim) → IsSoundOrMissing limit contents c
+    → IsShownIn limit contents c f xs → IsFine c f
+fine_shown limit contents c f xs (inl s) h =
+    inl (shown_once limit (contents c.digest) c f None xs s.claims h
+    (subst (λ o. IsShown limit o c None s.claims) (sym s.there) (inl (s.small, (verdict.Same, (s.size, s.digest), s.document))))).0
+fine_shown limit contents c f xs (inr (none, may)) h =
+    inr ((shown_once limit (contents c.digest) c f (Some fault.Missing) xs [] h (subst (λ o. IsShown limit o c (Some fault.Missing) []) (sym none) (refl, refl))).0, may)
+
+pub fine_where_sound : (limit : ℕ) (contents : List ℕ → Option (List ℕ)) (start all : List Claim) (faults : List (Option Fault))
+    → IsWalk (Shows false true limit (Some contents)) start all faults → AreSoundFrom limit contents start → AreFine all faults
+fine_where_sound limit contents start all faults w sound i c f e g =
+    let l = w.looked i c f e g in
+    let reached = reaches_by (Shows false true limit (Some contents)) (IsShownIn limit contents) (steady_shows limit contents) start c (w.reached c (at_place all i c e)) in
+    fine_shown limit contents c f l.claims (sound c reached) (steady_shows limit contents c f l.claims l.shown)
+
+-- ---- what is missing, and may be
+
+pub reached_of : (limit : ℕ) (contents : List ℕ → Option (List ℕ)) (start all : List Claim) (faults : List (Option Fault))
+    → IsWalk (Shows false true limit (Some contents)) start all faults → (c : Claim) → Contains all c → Reaches (IsShownIn limit contents) start c
+reached_of limit contents start all faults w c h =
+    reaches_by (Shows false true limit (Some contents)) (IsShownIn limit contents) (steady_shows limit contents) start c (w.reached c h)
+
+pub contained : (limit : ℕ) (contents : List ℕ → Option (List ℕ)) (start all : List Claim) (faults : List (Option Fault))
+    → IsWalk (Shows false true limit (Some contents)) start all faults → AreFine all faults → (c : Claim) → Reaches (IsShownIn limit contents) start c → Contains all c
+contained limit contents start all faults w fine c r =
+    let shows = Shows false true limit (Some contents) in
+    has_all shows IsFine start all faults (shows_no_more true limit contents) w fine c (reaches_by (IsShownIn limit contents) shows (λ d f xs h. inl h) start c r)
+
+-- where nothing was found, all is there
+pub there_where_found : (limit : ℕ) (contents : List ℕ → Option (List ℕ)) (start all : List Claim) (faults : List (Option Fault))
+    → IsWalk (Shows false true limit (Some contents)) start all faults → All (λ f. f ≡ None) faults → (c : Claim) → Contains all c → IsSome (contents c.digest)
+there_where_found limit contents start all faults w none c (k, below, at) =
+    let here : slice_get all k ≡ Some c = slice_get-get_or all k c below ∙ ap Some at in
+    let each = w.each in
+    let within : k < length faults = omega arith in
+    let told : slice_get faults k ≡ Some (get_or faults k None) = slice_get-get_or faults k None within in
+    let l = w.looked k c (get_or faults k None) here told in
+    let shown = steady_shows limit contents c (get_or faults k None) l.claims l.shown in
+    let sound = sound_found limit contents c (contents c.digest) l.claims refl (subst (λ f. IsShown limit (contents c.digest) c f l.claims) (none k None within) shown) in
+    subst IsSome (sym sound.there) refl
+
+one_at : {X : Type 0} (xs : List X) (k : ℕ) → k < length xs → (x : X) × (slice_get xs k ≡ Some x)
+one_at [] k below = absurd (omega arith)
+one_at (x ∷ xs) k below = (get_or (x ∷ xs) k x, slice_get-get_or (x ∷ xs) k x below)
+
+-- where all is there, nothing was found
+pub found_where_there : (limit : ℕ) (contents : List ℕ → Option (List ℕ)) (start all : List Claim) (faults : List (Option Fault))
+    → IsWalk (Shows false true limit (Some contents)) start all faults → AreFine all faults → ((c : Claim) → Contains all c → IsSome (contents c.digest))
+    → All (λ f. f ≡ None) faults
+found_where_there limit contents start all faults w fine there k d below =
+    let each = w.each in
+    let (c, here) = one_at all k (omega arith) in
+    let told : slice_get faults k ≡ Some (get_or faults k d) = slice_get-get_or faults k d below in
+    let l = w.looked k c (get_or faults k d) here told in
+    by c (get_or faults k d) l.claims (fine k c (get_or faults k d) here told) (steady_shows limit contents c (get_or faults k d) l.claims l.shown) (there c (at_place all k c here))
+  where
+    by : (c : Claim) (f : Option Fault) (xs : List Claim) → IsFine c f → IsShownIn limit contents c f xs → IsSome (contents c.digest) → f ≡ None
+    by c f xs (inl e) h is = e
+    by c f xs (inr (e, may)) h is =
+        let none = absent limit contents c (contents c.digest) xs refl (subst (λ g. IsShown limit (contents c.digest) c g xs) e h) in
+        absurd (true≢false (sym (subst IsSome none is)))

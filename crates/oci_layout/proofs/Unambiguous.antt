@@ -22,6 +22,7 @@ unread kind.DockerManifest d e = cc e
 unread kind.Artifact d e = cc e
 unread kind.Config d e = cc e
 unread kind.DockerConfig d e = cc e
+unread kind.Empty d e = cc e
 unread kind.Opaque d e = All-nil (λ m. ¬ HasMember m d)
 
 against_none : (k : Kind) (d : Data) → IsAgainst k d None → IsUnambiguous k d

@@ -69,3 +69,30 @@ claims_of kind.Manifest d = manifest_claims d
 claims_of kind.DockerManifest d = manifest_claims d
 claims_of kind.Artifact d = artifact_claims d
 claims_of _ d = []
+
+-- the descriptor under a name, if there is one
+abbrev pub one_item : Option Data → List Data
+one_item None = []
+one_item (Some d) = d ∷ []
+
+abbrev pub item_at : List ℕ → Data → List Data
+item_at name d = one_item (option_and_then unless_null (get name d))
+
+-- the descriptors of documents, in the order of what they claim
+abbrev pub index_descriptors : Data → List Data
+index_descriptors d = items_at (codes "manifests") d ++ item_at (codes "subject") d
+
+abbrev pub manifest_descriptors : Data → List Data
+manifest_descriptors d = item_at (codes "config") d ++ items_at (codes "layers") d ++ item_at (codes "subject") d
+
+abbrev pub artifact_descriptors : Data → List Data
+artifact_descriptors d = items_at (codes "blobs") d ++ item_at (codes "subject") d
+
+-- those of a document of a kind
+abbrev pub descriptors_of : Kind → Data → List Data
+descriptors_of kind.Index d = index_descriptors d
+descriptors_of kind.DockerList d = index_descriptors d
+descriptors_of kind.Manifest d = manifest_descriptors d
+descriptors_of kind.DockerManifest d = manifest_descriptors d
+descriptors_of kind.Artifact d = artifact_descriptors d
+descriptors_of _ d = []

@@ -1,12 +1,12 @@
 -- What the contents of an image layout are read as (image specification, "Media Types", "Compatibility Matrix").
 use Rattle.std.specs.Prelude.{ℕ, List, [], ◌∷◌, codes, bytes_eq, Bool, ◌||◌, if◌then◌else◌, Option, Some, None}
-use Rattle.oci_model.specs.Shape.{Shape}
+use Rattle.oci_model.specs.Shape.{Shape, free_map}
 use Rattle.oci_shapes.specs.ArtifactManifest.{artifact_manifest}
 use Rattle.oci_shapes.specs.ImageConfiguration.{image_configuration}
 use Rattle.oci_shapes.specs.ImageIndex.{image_index}
 use Rattle.oci_shapes.specs.ImageManifest.{image_manifest}
 use Rattle.oci_layout.specs.declared.kind.Kind.{Kind}
-use Rattle.oci_layout.specs.declared.kind.Kind.TheVariants.{Index, DockerList, Manifest, DockerManifest, Artifact, Config, DockerConfig, Opaque}
+use Rattle.oci_layout.specs.declared.kind.Kind.TheVariants.{Index, DockerList, Manifest, DockerManifest, Artifact, Config, DockerConfig, Empty, Opaque}
 use Rattle.oci_layout.specs.declared.member.OtherMember.{OtherMember}
 use Rattle.oci_layout.specs.declared.member.OtherMember.TheVariants as member
 
@@ -20,7 +20,8 @@ kind_of type =
     else (if bytes_eq type (codes "application/vnd.oci.artifact.manifest.v1+json") then Artifact
     else (if bytes_eq type (codes "application/vnd.oci.image.config.v1+json") then Config
     else (if bytes_eq type (codes "application/vnd.docker.container.image.v1+json") then DockerConfig
-    else Opaque))))))
+    else (if bytes_eq type (codes "application/vnd.oci.empty.v1+json") then Empty
+    else Opaque)))))))
 
 -- the media type of a document that can say it itself
 abbrev pub own_type : Kind → Option (List ℕ)
@@ -40,6 +41,8 @@ document_shape DockerManifest = Some image_manifest
 document_shape Artifact = Some artifact_manifest
 document_shape Config = Some image_configuration
 document_shape DockerConfig = Some image_configuration
+-- an object, of which no member is asked for
+document_shape Empty = Some free_map
 document_shape Opaque = None
 
 -- the name of a member

@@ -1,9 +1,11 @@
 pub mod Claims
 pub mod Documents
+pub mod Holds
 pub mod Kinds
 pub mod Looks
 pub mod Marker
 pub mod Memory
+pub mod Names
 pub mod Paths
 pub mod Shelf
 pub mod Sound

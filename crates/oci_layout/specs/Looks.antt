@@ -1,5 +1,5 @@
 -- What is found at a claim, where the contents of a store are known.
-use Rattle.std.specs.Prelude.{◌≡◌, ◌⊎◌, ℕ, ◌<◌, length, List, Bool, true, false, ◌||◌, Option, Some, None, IsSome, IfSome, ⊤}
+use Rattle.std.specs.Prelude.{◌≡◌, ◌⊎◌, ℕ, ◌<◌, ◌≤◌, length, List, Bool, true, false, ◌||◌, Option, Some, None, IsSome, IfSome, ⊤}
 use Rattle.oci_content.specs.Content.{Tells}
 use Rattle.oci_content.specs.declared.verdict.Verdict.{Verdict}
 use Rattle.oci_content.specs.declared.verdict.Verdict.TheVariants as verdict
@@ -39,20 +39,32 @@ IsJudgedBy (Some f) kind bytes found claims = IsFault f found claims
 abbrev pub IsVerified : List ℕ → Claim → Option Fault → List Claim → Type 0
 IsVerified bytes claim found claims = (v : Verdict) × Tells claim.digest claim.size bytes v × IsJudgedBy (fault_of v) claim.kind bytes found claims
 
+-- the claim is of no document, or of one that is said to be no larger than the limit
+abbrev pub IsSmall : ℕ → Claim → Type 0
+IsSmall limit claim = IsSome (document_shape claim.kind) → claim.size ≤ limit
+
 -- a document that is said to be larger than the limit
 abbrev pub IsTooLarge : ℕ → Claim → Option Fault → List Claim → Type 0
-IsTooLarge limit claim found claims = IsSome (document_shape claim.kind) × (limit < claim.size) × IsFault fault.TooLarge found claims
+IsTooLarge limit claim found claims = (¬ IsSmall limit claim) × IsFault fault.TooLarge found claims
 
-abbrev pub IsVerifiedOrUnreadable : List ℕ → Claim → Option Fault → List Claim → Type 0
-IsVerifiedOrUnreadable bytes claim found claims = IsVerified bytes claim found claims ⊎ IsFault fault.Unreadable found claims
-
--- what is found at a claim of some bytes
-abbrev pub IsFound : ℕ → List ℕ → Claim → Option Fault → List Claim → Type 0
-IsFound limit bytes claim found claims = IsVerifiedOrUnreadable bytes claim found claims ⊎ IsTooLarge limit claim found claims
-
+-- what is found at a claim, by what is there: one thing alone, since no claim is both small and too large, and bytes have one verdict
 abbrev pub IsShown : ℕ → Option (List ℕ) → Claim → Option Fault → List Claim → Type 0
-IsShown limit None claim found claims = IsFault fault.Missing found claims ⊎ IsFault fault.Unreadable found claims
-IsShown limit (Some bytes) claim found claims = IsFound limit bytes claim found claims
+IsShown limit None claim found claims = IsFault fault.Missing found claims
+IsShown limit (Some bytes) claim found claims = (IsSmall limit claim × IsVerified bytes claim found claims) ⊎ IsTooLarge limit claim found claims
+
+-- the same, where contents are known
+abbrev pub IsShownIn : ℕ → (List ℕ → Option (List ℕ)) → Claim → Option Fault → List Claim → Type 0
+IsShownIn limit contents claim found claims = IsShown limit (contents claim.digest) claim found claims
+
+-- where reads can fail, a content may be unreadable
+abbrev pub MayFail : Bool → Option Fault → List Claim → Type 0
+MayFail steady found claims = (steady ≡ false) × IsFault fault.Unreadable found claims
+
+abbrev pub IsVerifiedOrFails : Bool → List ℕ → Claim → Option Fault → List Claim → Type 0
+IsVerifiedOrFails steady bytes claim found claims = IsVerified bytes claim found claims ⊎ MayFail steady found claims
+
+abbrev pub IsShownOrFails : Bool → ℕ → Option (List ℕ) → Claim → Option Fault → List Claim → Type 0
+IsShownOrFails steady limit there claim found claims = IsShown limit there claim found claims ⊎ MayFail steady found claims
 
 -- the contents of a store by digest, where they are known
 abbrev pub Contents : Type 0
@@ -62,16 +74,16 @@ Contents = Option (List ℕ → Option (List ℕ))
 abbrev pub IsCut : List ℕ → List ℕ → ℕ → Type 0
 IsCut bytes all size = (bytes ≡ all) ⊎ ((size < length bytes) × (size < length all))
 
--- what a store shows at a claim. Of a quick look, which leaves contents that are no documents unread, nothing is said
-abbrev pub Shows : Bool → ℕ → Contents → Claim → Option Fault → List Claim → Type 0
-Shows quick limit None claim found claims = ⊤
-Shows true limit (Some contents) claim found claims = ⊤
-Shows false limit (Some contents) claim found claims = IsShown limit (contents claim.digest) claim found claims
+-- what a store shows at a claim; `steady` says that its reads do not fail. Of a quick look, which leaves contents that are no documents unread, nothing is said
+abbrev pub Shows : Bool → Bool → ℕ → Contents → Claim → Option Fault → List Claim → Type 0
+Shows quick steady limit None claim found claims = ⊤
+Shows true steady limit (Some contents) claim found claims = ⊤
+Shows false steady limit (Some contents) claim found claims = IsShownOrFails steady limit (contents claim.digest) claim found claims
 
--- what a store gives for a digest: nothing, or a reader of the content with its length, where that is known beforehand
-abbrev pub Gives : {B : Type 0} → (B → Option (List ℕ)) → Contents → List ℕ → Opened B → Type 0
-Gives remaining None digest opened = ⊤
-Gives remaining (Some contents) digest Missing = contents digest ≡ None
-Gives remaining (Some contents) digest Unreadable = ⊤
-Gives remaining (Some contents) digest (Content blob size) = (bytes : List ℕ) × (remaining blob ≡ Some bytes) × (contents digest ≡ Some bytes)
+-- what a store gives for a digest: nothing, or a reader of the content with its length, where that is known beforehand; or what cannot be read, unless it is steady
+abbrev pub Gives : {B : Type 0} → (B → Option (List ℕ)) → Bool → Contents → List ℕ → Opened B → Type 0
+Gives remaining steady None digest opened = ⊤
+Gives remaining steady (Some contents) digest Missing = contents digest ≡ None
+Gives remaining steady (Some contents) digest Unreadable = steady ≡ false
+Gives remaining steady (Some contents) digest (Content blob size) = (bytes : List ℕ) × (remaining blob ≡ Some bytes) × (contents digest ≡ Some bytes)
     × IfSome size (λ n. n ≡ length bytes)

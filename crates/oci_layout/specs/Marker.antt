@@ -1,5 +1,5 @@
 -- The file that marks a folder as an image layout (image specification, "Image Layout", "oci-layout file").
-use Rattle.std.specs.Prelude.{◌≡◌, ⊤, ℕ, List, codes, Option, Some, None, option_and_then}
+use Rattle.std.specs.Prelude.{◌≡◌, ◌≤◌, ⊤, ℕ, List, codes, length, Option, Some, None, option_and_then}
 use Rattle.serde_json.specs.Data.{Data}
 use Rattle.serde_json.specs.Find.{as_str, get}
 use Rattle.oci_json.specs.Engines.{ReadsAs}
@@ -25,7 +25,14 @@ abbrev pub IsMarkerIn : Top → Type 0
 IsMarkerIn (Bytes bytes) = IsMarker bytes.items
 IsMarkerIn _ = ⊥
 
--- the layout has one, where its files beside `blobs` are known
-abbrev pub IsMarked : Contents → Type 0
-IsMarked None = ⊤
-IsMarked (Some tops) = (bytes : List ℕ) × (tops (codes "oci-layout") ≡ Some bytes) × IsMarker bytes
+-- the layout has one, no larger than the limit, by its files beside `blobs`
+pub record HasMarker (limit : ℕ) (tops : List ℕ → Option (List ℕ)) : Type 0 where
+  pub bytes : List ℕ
+  pub there : tops (codes "oci-layout") ≡ Some bytes
+  pub small : length bytes ≤ limit
+  pub marker : IsMarker bytes
+
+-- where these are known
+abbrev pub IsMarked : ℕ → Contents → Type 0
+IsMarked limit None = ⊤
+IsMarked limit (Some tops) = HasMarker limit tops

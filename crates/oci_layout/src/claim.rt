@@ -74,6 +74,8 @@ pub enum Fault {
     OtherType,
     /// It is a document that clients may take for one of another kind, by this member.
     Ambiguous(OtherMember),
+    /// It is a document of which a descriptor holds itself what is not its content.
+    Embedded,
 }
 
 /// What is found of the content that a descriptor holds itself.

@@ -1,9 +1,13 @@
 //! What descriptors claim.
-ghost use Rattle.std.specs.Prelude.{◌≡◌, ◌++◌, ◌∷◌, [], IfOk, OnOk, map, codes, option_and_then, option_map};
+ghost use Rattle.std.specs.Prelude.{◌≡◌, ◌↔◌, ◌++◌, ◌∷◌, [], true, IsTrue, IfOk, OnOk, map, codes, option_and_then, option_map};
 ghost use Rattle.serde_json.specs.Find.{as_array, as_str, get};
 ghost use Rattle.serde_json.specs.View.{view, items_view};
 ghost use Rattle.oci_content.specs.Embedded.{TellsData};
-ghost use Rattle.oci_layout.specs.Claims.{claim_of, claim_at, claims_at, claims_of, string_at, number_at, items_at, has_some};
+ghost use Rattle.oci_model.specs.Means.{unless_null};
+ghost use Rattle.std.specs.List.{All};
+ghost use Rattle.oci_layout.specs.Claims.{claim_of, claim_at, claims_at, claims_of, index_claims, manifest_claims, artifact_claims, string_at, number_at, items_at, has_some};
+ghost use Rattle.oci_layout.specs.Claims.{item_at, descriptors_of, index_descriptors, manifest_descriptors, artifact_descriptors};
+ghost use Rattle.oci_layout.specs.Holds.{is_held, HoldsContent, HoldContents, StaysEmpty};
 
 use crate::claim::{Claim, Held, Role};
 use crate::kind::{Kind, is_nondistributable_type};
@@ -51,6 +55,16 @@ fn items_under<'a>(value: &'a Value, name: &str) -> Option<&'a Vec<Value>>
     value.get(name).and_then(Value::as_array)
 }
 
+/// The descriptor under a name, if there is one.
+fn descriptor_under<'a>(value: &'a Value, name: &str) -> Option<&'a Value>
+    ensures { option_map (λ v. view v.now) result ≡ option_and_then unless_null (get name.now (view value.now)) }
+{
+    match value.get(name) {
+        Some(Value::Null) | None => None,
+        Some(descriptor) => Some(descriptor),
+    }
+}
+
 fn has_urls(value: &Value) -> bool
     ensures { result ≡ has_some (items_at (codes "urls") (view value.now)) }
 {
@@ -70,7 +84,21 @@ fn embedded_in(alloc: Global, claim: &Claim, value: &Value) -> Result<Embedded, 
     }
 }
 
-/// What the descriptors of a document claim, and what is found of the content that each holds itself.
+/// Whether a descriptor holds nothing itself, or its content.
+fn is_held(embedded: Embedded) -> bool
+    ensures { result ≡ is_held embedded }
+{
+    match embedded {
+        Embedded::Absent => true,
+        Embedded::NotBase64 => false,
+        Embedded::Content(verdict) => match verdict {
+            Verdict::Same => true,
+            _ => false,
+        },
+    }
+}
+
+/// What the descriptors of a document claim, and what is found of each that holds itself what is not its content.
 #[derive(Debug, Drop)]
 pub struct Claimed {
     pub claims: Vec<Claim>,
@@ -78,20 +106,34 @@ pub struct Claimed {
 }
 
 impl Claimed {
+    /// Whether no descriptor holds what is not its content.
+    pub fn is_held(&self) -> bool
+        ensures { IsTrue result ↔ (self.now.held.items ≡ []) }
+    {
+        self.held.is_empty()
+    }
+
     fn add(&mut self, alloc: Global, role: Role, value: &Value) -> Result<(), AllocError>
-        ensures { OnOk result (self.new.claims.items ≡ self.old.claims.items ++ claim_of role (view value.now) ∷ []) }
+        ensures claims { OnOk result (self.new.claims.items ≡ self.old.claims.items ++ claim_of role (view value.now) ∷ []) }
+        ensures held { OnOk result (StaysEmpty self.old.held.items self.new.held.items (HoldsContent (view value.now))) }
     {
         let claim = claim_of_value(alloc, role, value)?;
         let embedded = embedded_in(alloc, &claim, value)?;
-        match embedded {
-            Embedded::Absent | Embedded::Content(Verdict::Same) => {}
-            other => self.held.push(Held {
-                role,
-                at: self.claims.len(),
-                embedded: other,
-            })?,
-        }
+        self.add_held(role, embedded)?;
         self.claims.push(claim)?;
+        Ok(())
+    }
+
+    /// Adds what is found of the content that the next descriptor holds itself, if that is another.
+    fn add_held(&mut self, role: Role, embedded: Embedded) -> Result<(), AllocError>
+        ensures claims { self.new.claims ≡ self.old.claims }
+        ensures held { OnOk result (StaysEmpty self.old.held.items self.new.held.items (is_held embedded ≡ true)) }
+    {
+        if is_held(embedded) {
+            return Ok(());
+        }
+        let at = self.claims.len();
+        self.held.push(Held { role, at, embedded })?;
         Ok(())
     }
 
@@ -103,11 +145,15 @@ impl Claimed {
         value: &Value,
         name: &str,
     ) -> Result<(), AllocError>
-        ensures { OnOk result (self.new.claims.items ≡ self.old.claims.items ++ claim_at name.now role (view value.now)) }
+        ensures claims { OnOk result (self.new.claims.items ≡ self.old.claims.items ++ claim_at name.now role (view value.now)) }
+        ensures held { OnOk result (StaysEmpty self.old.held.items self.new.held.items (All HoldsContent (item_at name.now (view value.now)))) }
     {
-        match value.get(name) {
-            Some(Value::Null) | None => Ok(()),
-            Some(descriptor) => self.add(alloc, role, descriptor),
+        match descriptor_under(value, name) {
+            Some(descriptor) => {
+                self.add(alloc, role, descriptor)?;
+                Ok(())
+            }
+            None => Ok(()),
         }
     }
 
@@ -119,47 +165,84 @@ impl Claimed {
         value: &Value,
         name: &str,
     ) -> Result<(), AllocError>
-        ensures { OnOk result (self.new.claims.items ≡ self.old.claims.items ++ claims_at name.now role (view value.now)) }
+        ensures claims { OnOk result (self.new.claims.items ≡ self.old.claims.items ++ claims_at name.now role (view value.now)) }
+        ensures held { OnOk result (StaysEmpty self.old.held.items self.new.held.items (All HoldsContent (items_at name.now (view value.now)))) }
     {
         match items_under(value, name) {
-            Some(items) => self.add_each(alloc, role, items),
+            Some(items) => {
+                self.add_each(alloc, role, items)?;
+                Ok(())
+            }
             None => Ok(()),
         }
     }
 
     fn add_each(&mut self, alloc: Global, role: Role, items: &Vec<Value>) -> Result<(), AllocError>
-        ensures { OnOk result (self.new.claims.items ≡ self.old.claims.items ++ map (λ v. claim_of role (view v)) items.now.items) }
+        ensures claims { OnOk result (self.new.claims.items ≡ self.old.claims.items ++ map (λ v. claim_of role (view v)) items.now.items) }
+        ensures held { OnOk result (StaysEmpty self.old.held.items self.new.held.items (All (λ v. HoldsContent (view v)) items.now.items)) }
     {
         'each: for item in items {
             self.add(alloc, role, item)?;
         }
         Ok(())
     }
+
+    /// Adds the descriptors of an index.
+    fn add_index(&mut self, alloc: Global, value: &Value) -> Result<(), AllocError>
+        ensures claims { OnOk result (self.new.claims.items ≡ self.old.claims.items ++ index_claims (view value.now)) }
+        ensures held { OnOk result (StaysEmpty self.old.held.items self.new.held.items (All HoldsContent (index_descriptors (view value.now)))) }
+    {
+        self.add_listed(alloc, Role::Manifest, value, "manifests")?;
+        self.add_under(alloc, Role::Subject, value, "subject")?;
+        Ok(())
+    }
+
+    /// Adds the descriptors of a manifest.
+    fn add_manifest(&mut self, alloc: Global, value: &Value) -> Result<(), AllocError>
+        ensures claims { OnOk result (self.new.claims.items ≡ self.old.claims.items ++ manifest_claims (view value.now)) }
+        ensures held { OnOk result (StaysEmpty self.old.held.items self.new.held.items (All HoldsContent (manifest_descriptors (view value.now)))) }
+    {
+        self.add_under(alloc, Role::Config, value, "config")?;
+        self.add_listed(alloc, Role::Layer, value, "layers")?;
+        self.add_under(alloc, Role::Subject, value, "subject")?;
+        Ok(())
+    }
+
+    /// Adds the descriptors of an artifact manifest.
+    fn add_artifact(&mut self, alloc: Global, value: &Value) -> Result<(), AllocError>
+        ensures claims { OnOk result (self.new.claims.items ≡ self.old.claims.items ++ artifact_claims (view value.now)) }
+        ensures held { OnOk result (StaysEmpty self.old.held.items self.new.held.items (All HoldsContent (artifact_descriptors (view value.now)))) }
+    {
+        self.add_listed(alloc, Role::Blob, value, "blobs")?;
+        self.add_under(alloc, Role::Subject, value, "subject")?;
+        Ok(())
+    }
+
+    /// Adds the descriptors of a document of a kind.
+    fn add_document(&mut self, alloc: Global, kind: Kind, value: &Value) -> Result<(), AllocError>
+        ensures claims { OnOk result (self.new.claims.items ≡ self.old.claims.items ++ claims_of kind (view value.now)) }
+        ensures held { OnOk result (StaysEmpty self.old.held.items self.new.held.items (All HoldsContent (descriptors_of kind (view value.now)))) }
+    {
+        match kind {
+            Kind::Index => self.add_index(alloc, value),
+            Kind::DockerList => self.add_index(alloc, value),
+            Kind::Manifest => self.add_manifest(alloc, value),
+            Kind::DockerManifest => self.add_manifest(alloc, value),
+            Kind::Artifact => self.add_artifact(alloc, value),
+            Kind::Config | Kind::DockerConfig | Kind::Empty | Kind::Opaque => Ok(()),
+        }
+    }
 }
 
 /// What a document of a kind claims: a value that the schema of the kind allows. Fails if out of memory.
 pub fn claims_of_document(alloc: Global, kind: Kind, value: &Value) -> Result<Claimed, AllocError>
-    ensures { IfOk result (λ c. c.claims.items ≡ claims_of kind (view value.now)) }
+    ensures claims { IfOk result (λ c. c.claims.items ≡ claims_of kind (view value.now)) }
+    ensures held { IfOk result (λ c. (c.held.items ≡ []) ↔ HoldContents kind (view value.now)) }
 {
     let mut claimed = Claimed {
         claims: Vec::new(alloc),
         held: Vec::new(alloc),
     };
-    match kind {
-        Kind::Index | Kind::DockerList => {
-            claimed.add_listed(alloc, Role::Manifest, value, "manifests")?;
-            claimed.add_under(alloc, Role::Subject, value, "subject")?;
-        }
-        Kind::Manifest | Kind::DockerManifest => {
-            claimed.add_under(alloc, Role::Config, value, "config")?;
-            claimed.add_listed(alloc, Role::Layer, value, "layers")?;
-            claimed.add_under(alloc, Role::Subject, value, "subject")?;
-        }
-        Kind::Artifact => {
-            claimed.add_listed(alloc, Role::Blob, value, "blobs")?;
-            claimed.add_under(alloc, Role::Subject, value, "subject")?;
-        }
-        Kind::Config | Kind::DockerConfig | Kind::Opaque => {}
-    }
+    claimed.add_document(alloc, kind, value)?;
     Ok(claimed)
 }

@@ -1,9 +1,10 @@
 //! What is found in the bytes of documents.
-ghost use Rattle.std.specs.Prelude.{◌≡◌, IfOk};
+ghost use Rattle.std.specs.Prelude.{◌≡◌, ◌↔◌, IfOk, IsTrue};
 ghost use Rattle.serde_json.specs.View.{view};
 ghost use Rattle.oci_schema.specs.Shapes.{schema_shape, shape_at};
 ghost use Rattle.oci_schemas.specs.Table.{shapes};
-ghost use Rattle.oci_layout.specs.Documents.{IsRead, IsJudged, IsAgainst, type_fault};
+ghost use Rattle.oci_layout.specs.Holds.{HoldContents};
+ghost use Rattle.oci_layout.specs.Documents.{IsRead, IsJudged, IsAgainst, IsTypedAgainst, type_fault};
 
 use crate::claim::{Detail, Fault, Seen};
 use crate::descriptor::claims_of_document;
@@ -93,7 +94,7 @@ fn read_value(alloc: Global, kind: Kind, schema: &Schema, value: &Value) -> Resu
     }
     let claimed = claims_of_document(alloc, kind, value)?;
     Ok(Seen {
-        fault: fault_against(kind, value),
+        fault: fault_against(kind, value, claimed.is_held()),
         claims: claimed.claims,
         detail: Detail {
             held: claimed.held,
@@ -103,13 +104,25 @@ fn read_value(alloc: Global, kind: Kind, schema: &Schema, value: &Value) -> Resu
     })
 }
 
-/// What stands against a document that its schema allows.
-fn fault_against(kind: Kind, value: &Value) -> Option<Fault>
+/// What stands against a document that its schema allows, by whether its descriptors hold nothing but their contents.
+fn fault_against(kind: Kind, value: &Value, is_held: bool) -> Option<Fault>
+    requires { IsTrue is_held ↔ HoldContents kind (view value.now) }
     ensures { IsAgainst kind (view value.now) result }
 {
     match other_member(kind, value) {
         Some(member) => Some(Fault::Ambiguous(member)),
-        None => own_type_fault(kind, value),
+        None => unambiguous_fault(kind, value, is_held),
+    }
+}
+
+/// The same of one that clients cannot take for one of another kind.
+fn unambiguous_fault(kind: Kind, value: &Value, is_held: bool) -> Option<Fault>
+    requires { IsTrue is_held ↔ HoldContents kind (view value.now) }
+    ensures { IsTypedAgainst (type_fault kind (view value.now)) kind (view value.now) result }
+{
+    match own_type_fault(kind, value) {
+        Some(fault) => Some(fault),
+        None => { if is_held { None } else { Some(Fault::Embedded) } }
     }
 }
 

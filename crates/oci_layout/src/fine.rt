@@ -1,5 +1,6 @@
 //! Whether nothing stands against the claims of a walk.
 ghost use Rattle.std.specs.Prelude.{◌≡◌, ◌↔◌, None, IsTrue};
+ghost use Rattle.std.specs.List.{All};
 ghost use Rattle.oci_layout.specs.Sound.{IsFine, AreFine};
 
 use crate::claim::{Claim, Fault};
@@ -36,4 +37,16 @@ pub fn is_sound_walk(fault: Option<Fault>, walk: &Walk) -> bool
         None => are_fine(walk.claims.as_slice(), walk.faults.as_slice()),
         Some(_) => false,
     }
+}
+
+/// Whether nothing was found at any of these claims, not even that a content is missing which may be.
+pub fn are_found(faults: &[Option<Fault>]) -> bool
+    ensures { IsTrue result ↔ All (λ f. f ≡ None) faults.now }
+{
+    'each: for place in 0..faults.len() {
+        if faults[place].is_some() {
+            return false;
+        }
+    }
+    true
 }

@@ -1,13 +1,15 @@
 //! A folder as an image layout. What files hold no contract can say.
-ghost use Rattle.std.specs.Prelude.{None};
+ghost use Rattle.std.specs.Prelude.{None, false, ⊤};
 
 use crate::path::blob_path;
+use crate::pieces::read_sized;
 use crate::store::{ImageLayout, Listed, Opened, Store};
+use oci_content::{Verdict, verify_reader_bytes};
 use oci_text::Digest;
 use std::alloc::{AllocError, Global};
-use std::fs;
 use std::io::ErrorKind;
 use std::rt::Files;
+use std::{fs, io};
 
 /// The folder of an image layout, by its path.
 #[derive(Clone, Copy)]
@@ -21,14 +23,38 @@ impl<'a, R: Files> Store for Folder<'a, R> {
 
     ghost contents = { λ _. None };
 
+    ghost steady = { λ _. false };
+
     fn open(&self, alloc: Global, digest: &Digest) -> Result<Opened<R::File>, AllocError> {
         let path = blob_path(alloc, digest)?;
         open_file(self.rt, alloc, self.root, path.as_str())
+    }
+
+    fn verify(
+        &self,
+        blob: &mut R::File,
+        digest: &str,
+        size: u64,
+        buffer: &mut [u8],
+    ) -> io::Result<Verdict> {
+        verify_reader_bytes(digest, size, blob, buffer)
+    }
+
+    fn read(
+        &self,
+        alloc: Global,
+        blob: &mut R::File,
+        size: u64,
+        buffer: &mut [u8],
+    ) -> Result<Option<Vec<u8>>, AllocError> {
+        read_sized(alloc, blob, size, buffer)
     }
 }
 
 impl<'a, R: Files + AllocGlobal + Clone + Drop> ImageLayout for Folder<'a, R> {
     ghost tops = { λ _. None };
+
+    ghost names = { λ _ _. ⊤ };
 
     fn top(&self, alloc: Global, name: &str) -> Result<Opened<R::File>, AllocError> {
         open_file(self.rt, alloc, self.root, name)

@@ -3,9 +3,10 @@ ghost use Rattle.std.specs.Prelude.{◌≡◌, option_map};
 ghost use Rattle.oci_layout.specs.Kinds.{kind_of, own_type, document_shape, other_members, is_nondistributable};
 ghost use Rattle.oci_schema.specs.Shapes.{schema_shape, shape_at};
 ghost use Rattle.oci_schemas.specs.Table.{shapes};
+ghost use Rattle.oci_model.specs.Shape.{free_map};
 
 use crate::member::OtherMember;
-use oci_schema::Schema;
+use oci_schema::{Part, Scalar, Schema};
 use oci_schemas::image::image_configuration;
 use oci_schemas::image_manifest::{artifact_manifest, image_index, image_manifest};
 
@@ -26,8 +27,19 @@ pub enum Kind {
     Config,
     /// Docker's image configuration, which is read as an image configuration.
     DockerConfig,
+    /// The content of the empty type: an object (image specification, "Image Manifest", "Guidance for an Empty Descriptor").
+    Empty,
     /// Bytes that are not read, as layers.
     Opaque,
+}
+
+/// An object, of which no member is asked for.
+static EMPTY: Schema = Schema::One(Part::Scalar(Scalar::FreeValues));
+
+fn empty_object() -> &'static Schema
+    ensures { schema_shape (shape_at shapes) result.now ≡ free_map }
+{
+    &EMPTY
 }
 
 impl Kind {
@@ -43,6 +55,7 @@ impl Kind {
             "application/vnd.oci.artifact.manifest.v1+json" => Kind::Artifact,
             "application/vnd.oci.image.config.v1+json" => Kind::Config,
             "application/vnd.docker.container.image.v1+json" => Kind::DockerConfig,
+            "application/vnd.oci.empty.v1+json" => Kind::Empty,
             _ => Kind::Opaque,
         }
     }
@@ -57,7 +70,7 @@ impl Kind {
             Kind::Manifest => Some("application/vnd.oci.image.manifest.v1+json"),
             Kind::DockerManifest => Some("application/vnd.docker.distribution.manifest.v2+json"),
             Kind::Artifact => Some("application/vnd.oci.artifact.manifest.v1+json"),
-            Kind::Config | Kind::DockerConfig | Kind::Opaque => None,
+            Kind::Config | Kind::DockerConfig | Kind::Empty | Kind::Opaque => None,
         }
     }
 
@@ -70,6 +83,7 @@ impl Kind {
             Kind::Manifest | Kind::DockerManifest => Some(image_manifest()),
             Kind::Artifact => Some(artifact_manifest()),
             Kind::Config | Kind::DockerConfig => Some(image_configuration()),
+            Kind::Empty => Some(empty_object()),
             Kind::Opaque => None,
         }
     }
@@ -87,7 +101,7 @@ impl Kind {
             Kind::Manifest | Kind::DockerManifest => {
                 &[OtherMember::Manifests, OtherMember::FsLayers]
             }
-            Kind::Artifact | Kind::Config | Kind::DockerConfig | Kind::Opaque => &[],
+            Kind::Artifact | Kind::Config | Kind::DockerConfig | Kind::Empty | Kind::Opaque => &[],
         }
     }
 }

@@ -1,15 +1,14 @@
 //! Looking at claims in a store of contents.
-ghost use Rattle.std.specs.Prelude.{◌≡◌, ◌<◌, ℕ, List, length, None, IfOk, IfSome};
+ghost use Rattle.std.specs.Prelude.{◌≡◌, ◌↔◌, ◌<◌, ℕ, List, length, false, None, Some, IfOk, IfSome, IsTrue};
 ghost use Rattle.oci_layout.specs.Kinds.{document_shape};
-ghost use Rattle.oci_layout.specs.Looks.{Shows, IsFound, IsVerified, IsVerifiedOrUnreadable, IsJudgedBy, IsCut, fault_of};
+ghost use Rattle.oci_layout.specs.Looks.{Shows, IsShownOrFails, IsSmall, IsVerified, IsVerifiedOrFails, IsJudgedBy, fault_of};
 
 use crate::claim::{Claim, Fault, Seen, Shown};
 use crate::document::read_document;
 use crate::kind::Kind;
 use crate::store::{Opened, Store};
-use oci_content::{Verdict, verify_bytes, verify_reader_bytes};
+use oci_content::{Verdict, verify_bytes};
 use std::alloc::{AllocError, Global};
-use std::io::Read;
 
 /// A store whose contents are looked at.
 pub struct Layout<'a, S> {
@@ -31,22 +30,53 @@ impl<'a, S> Drop for Layout<'a, S> {
 }
 
 impl<'a, S: Store> Shown for Layout<'a, S> {
-    ghost shows = { λ l. Shows l.quick l.limit (S.contents l.store.now) };
+    ghost shows = { λ l. Shows l.quick (S.steady l.store.now) l.limit (S.contents l.store.now) };
 
     fn look(&self, alloc: Global, claim: &Claim, buffer: &mut [u8]) -> Result<Seen, AllocError> {
         match self.store.open(alloc, &claim.digest)? {
             Opened::Missing => Ok(Seen::of_fault(alloc, Fault::Missing)),
             Opened::Unreadable => Ok(Seen::of_fault(alloc, Fault::Unreadable)),
             Opened::Content(mut blob, size) => {
-                if let Some(seen) = look_at_size(alloc, claim, size) {
-                    return Ok(seen);
-                }
-                if self.quick && claim.kind.schema().is_none() {
-                    return Ok(Seen::nothing(alloc));
-                }
-                look_at(alloc, claim, self.limit, &mut blob, buffer)
+                self.look_into(alloc, claim, &mut blob, size, buffer)
             }
         }
+    }
+}
+
+impl<'a, S: Store> Layout<'a, S> {
+    /// What is found at a claim of what is left to read, whose length is known beforehand or not.
+    fn look_into(
+        &self,
+        alloc: Global,
+        claim: &Claim,
+        blob: &mut S::Blob,
+        size: Option<u64>,
+        buffer: &mut [u8],
+    ) -> Result<Seen, AllocError>
+        requires { 0 < length buffer.old }
+        ensures { IfOk result (λ s. (bytes : List ℕ) → S.Blob.remaining blob.old ≡ Some bytes → IfSome size (λ n. n ≡ length bytes) → self.now.quick ≡ false
+            → IsShownOrFails (S.steady self.now.store.now) self.now.limit (Some bytes) claim.now s.fault s.claims.items) }
+    {
+        if !is_small(claim, self.limit) {
+            return Ok(Seen::of_fault(alloc, Fault::TooLarge));
+        }
+        if let Some(seen) = look_at_size(alloc, claim, size) {
+            return Ok(seen);
+        }
+        if self.quick && claim.kind.schema().is_none() {
+            return Ok(Seen::nothing(alloc));
+        }
+        look_at(self.store, alloc, claim, blob, buffer)
+    }
+}
+
+/// Whether a claim is of no document, or of one that is said to be no larger than the limit.
+fn is_small(claim: &Claim, limit: u64) -> bool
+    ensures { IsTrue result ↔ IsSmall limit claim.now }
+{
+    match claim.kind.schema() {
+        Some(_) => claim.size <= limit,
+        None => true,
     }
 }
 
@@ -65,55 +95,51 @@ fn look_at_size(alloc: Global, claim: &Claim, size: Option<u64>) -> Option<Seen>
 }
 
 /// What is found at a claim of what is left to read.
-fn look_at<R: Read>(
+fn look_at<S: Store>(
+    store: &S,
     alloc: Global,
     claim: &Claim,
-    limit: u64,
-    blob: &mut R,
+    blob: &mut S::Blob,
     buffer: &mut [u8],
 ) -> Result<Seen, AllocError>
     requires { 0 < length buffer.old }
-    ensures { IfOk result (λ s. IfSome (R.remaining blob.old) (λ bytes. IsFound limit bytes claim.now s.fault s.claims.items)) }
+    ensures { IfOk result (λ s. IfSome (S.Blob.remaining blob.old) (λ bytes. IsVerifiedOrFails (S.steady store.now) bytes claim.now s.fault s.claims.items)) }
 {
     match claim.kind.schema() {
-        None => look_at_bytes(alloc, claim, blob, buffer),
-        Some(_) => {
-            if claim.size > limit {
-                Ok(Seen::of_fault(alloc, Fault::TooLarge))
-            } else {
-                look_at_document(alloc, claim, blob, buffer)
-            }
-        }
+        None => look_at_bytes(store, alloc, claim, blob, buffer),
+        Some(_) => look_at_document(store, alloc, claim, blob, buffer),
     }
 }
 
 /// What is found at a claim of bytes that are no document.
-fn look_at_bytes<R: Read>(
+fn look_at_bytes<S: Store>(
+    store: &S,
     alloc: Global,
     claim: &Claim,
-    blob: &mut R,
+    blob: &mut S::Blob,
     buffer: &mut [u8],
 ) -> Result<Seen, AllocError>
     requires { 0 < length buffer.old }
-    ensures { document_shape claim.now.kind ≡ None → IfOk result (λ s. IfSome (R.remaining blob.old) (λ bytes. IsVerifiedOrUnreadable bytes claim.now s.fault s.claims.items)) }
+    ensures { document_shape claim.now.kind ≡ None → IfOk result (λ s. IfSome (S.Blob.remaining blob.old) (λ bytes. IsVerifiedOrFails (S.steady store.now) bytes claim.now s.fault s.claims.items)) }
 {
-    match verify_reader_bytes(claim.digest.as_ref(), claim.size, blob, buffer) {
+    match store.verify(blob, claim.digest.as_ref(), claim.size, buffer) {
         Ok(verdict) => judged(alloc, verdict, claim.kind, &[]),
         Err(_) => Ok(Seen::of_fault(alloc, Fault::Unreadable)),
     }
 }
 
 /// What is found at a claim of a document.
-fn look_at_document<R: Read>(
+fn look_at_document<S: Store>(
+    store: &S,
     alloc: Global,
     claim: &Claim,
-    blob: &mut R,
+    blob: &mut S::Blob,
     buffer: &mut [u8],
 ) -> Result<Seen, AllocError>
     requires { 0 < length buffer.old }
-    ensures { IfOk result (λ s. IfSome (R.remaining blob.old) (λ bytes. IsVerifiedOrUnreadable bytes claim.now s.fault s.claims.items)) }
+    ensures { IfOk result (λ s. IfSome (S.Blob.remaining blob.old) (λ bytes. IsVerifiedOrFails (S.steady store.now) bytes claim.now s.fault s.claims.items)) }
 {
-    let Some(bytes) = read_sized(alloc, blob, claim.size, buffer)? else {
+    let Some(bytes) = store.read(alloc, blob, claim.size, buffer)? else {
         return Ok(Seen::of_fault(alloc, Fault::Unreadable));
     };
     let verdict = verify_bytes(claim.digest.as_ref(), claim.size, bytes.as_slice());
@@ -141,30 +167,4 @@ fn judged(alloc: Global, verdict: Verdict, kind: Kind, bytes: &[u8]) -> Result<S
         None => read_document(alloc, kind, bytes),
         Some(fault) => Ok(Seen::of_fault(alloc, fault)),
     }
-}
-
-/// All that is left to read, or a beginning of it that is longer than `size`; none where a read fails. Fails if out of memory.
-pub fn read_sized<R: Read>(
-    alloc: Global,
-    reader: &mut R,
-    size: u64,
-    buffer: &mut [u8],
-) -> Result<Option<Vec<u8>>, AllocError>
-    requires { 0 < length buffer.old }
-    ensures { IfOk result (λ read. IfSome read (λ bytes. IfSome (R.remaining reader.old) (λ all. IsCut bytes.items all size))) }
-{
-    let mut bytes = Vec::new(alloc);
-    'pieces: loop {
-        let Ok(count) = reader.read(buffer) else {
-            return Ok(None);
-        };
-        if count == 0 {
-            break;
-        }
-        bytes.extend_from_slice(&buffer[..count])?;
-        if bytes.len() as u64 > size {
-            break;
-        }
-    }
-    Ok(Some(bytes))
 }

@@ -13,6 +13,7 @@ pub mod layout;
 pub mod member;
 pub mod memory;
 pub mod path;
+pub mod pieces;
 pub mod shelf;
 pub mod store;
 pub mod top;
@@ -20,7 +21,7 @@ pub mod walk;
 
 pub use claim::{Claim, Detail, Fault, Held, Role, Seen, Shown};
 pub use document::read_document;
-pub use fine::is_sound_walk;
+pub use fine::{are_found, is_sound_walk};
 pub use folder::Folder;
 pub use kind::Kind;
 pub use layout::Layout;

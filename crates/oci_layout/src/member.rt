@@ -1,8 +1,8 @@
 //! Members by which clients may take a document for one of another kind.
 ghost use Rattle.std.specs.Prelude.{◌≡◌, ◌↔◌, None, IsTrue, IfSome};
-ghost use Rattle.std.specs.List.{All, Contains};
+ghost use Rattle.std.specs.List.{All};
 ghost use Rattle.serde_json.specs.View.{view};
-ghost use Rattle.oci_layout.specs.Documents.{HasMember, IsAmbiguous, IsUnambiguous};
+ghost use Rattle.oci_layout.specs.Documents.{HasMember, IsAmbiguous, IsFirstOf, IsUnambiguous};
 ghost use Rattle.oci_layout.specs.Kinds.{member_name};
 
 use crate::kind::Kind;
@@ -45,7 +45,7 @@ impl OtherMember {
     }
 }
 
-/// A member by which clients may take the document for one of another kind; none if there is none.
+/// The first member by which clients may take the document for one of another kind; none if there is none.
 pub fn other_member(kind: Kind, value: &Value) -> Option<OtherMember>
     ensures some { IfSome result (IsAmbiguous kind (view value.now)) }
     ensures none { result ≡ None → IsUnambiguous kind (view value.now) }
@@ -55,7 +55,7 @@ pub fn other_member(kind: Kind, value: &Value) -> Option<OtherMember>
 
 /// The first of these members that a document has.
 fn first_of(members: &[OtherMember], value: &Value) -> Option<OtherMember>
-    ensures some { IfSome result (λ m. Contains members.now m × HasMember m (view value.now)) }
+    ensures some { IfSome result (IsFirstOf members.now (view value.now)) }
     ensures none { result ≡ None → All (λ m. ¬ HasMember m (view value.now)) members.now }
 {
     'each: for place in 0..members.len() {

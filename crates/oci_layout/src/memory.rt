@@ -1,12 +1,16 @@
 //! A store in memory.
-ghost use Rattle.std.specs.Prelude.{◌≡◌, ◌≢◌, Some, option_map, IfOk};
-ghost use Rattle.oci_layout.specs.Looks.{Gives};
+ghost use Rattle.std.specs.Prelude.{◌≡◌, ◌≢◌, Some, true, option_map, IfOk, IfSome, OnOk, IsOk, IsSome};
+ghost use Rattle.oci_content.specs.Content.{Tells};
+ghost use Rattle.oci_layout.specs.Looks.{Gives, IsCut};
 ghost use Rattle.oci_layout.specs.Memory.{content_of};
+ghost use Rattle.oci_layout.specs.Names.{AddsName, IsKeptAt, IsListing};
 
 use crate::path::blob_path;
 use crate::store::{ImageLayout, Listed, Opened, Store};
-use oci_text::Digest;
+use oci_content::{Verdict, verify_bytes};
+use oci_text::{Digest, is_digest};
 use std::alloc::{AllocError, Global};
+use std::io;
 
 /// A content and the name under which it is kept: the text of a digest, which need not be its own, or the name of a file beside
 /// `blobs`.
@@ -35,14 +39,16 @@ pub fn find<'a>(kept: &'a [Kept<'a>], name: &str) -> Option<&'a [u8]>
 }
 
 impl<'a> Store for Memory<'a> {
-    ghost use Rattle.std.specs.Prelude.{Some};
+    ghost use Rattle.std.specs.Prelude.{Some, true};
 
     type Blob = &'a [u8];
 
     ghost contents = { λ s. Some (content_of s.kept.now) };
 
+    ghost steady = { λ _. true };
+
     fn open(&self, _alloc: Global, digest: &Digest) -> Result<Opened<&'a [u8]>, AllocError>
-        ensures gives { IfOk result (Gives (λ blob. Some blob.now) (Some (content_of self.now.kept.now)) digest.now) }
+        ensures gives { IfOk result (Gives (λ blob. Some blob.now) true (Some (content_of self.now.kept.now)) digest.now) }
         ensures readable { IfOk result (λ o. o ≢ Opened.Unreadable) }
     {
         match find(self.kept, digest.as_ref()) {
@@ -50,15 +56,55 @@ impl<'a> Store for Memory<'a> {
             None => Ok(Opened::Missing),
         }
     }
+
+    fn verify(
+        &self,
+        blob: &mut &'a [u8],
+        digest: &str,
+        size: u64,
+        _buffer: &mut [u8],
+    ) -> io::Result<Verdict>
+        ensures tells { IfOk result (Tells digest.now size blob.old.now) }
+        ensures sure { IsOk result }
+    {
+        Ok(verify_bytes(digest, size, *blob))
+    }
+
+    fn read(
+        &self,
+        alloc: Global,
+        blob: &mut &'a [u8],
+        size: u64,
+        _buffer: &mut [u8],
+    ) -> Result<Option<Vec<u8>>, AllocError>
+        ensures cut { IfOk result (λ read. IfSome read (λ bytes. IsCut bytes.items blob.old.now size)) }
+        ensures sure { IfOk result IsSome }
+    {
+        Ok(Some(Vec::from_slice(alloc, cut_off(*blob, size))?))
+    }
+}
+
+/// All the bytes, or the first of them, one more than `size`.
+fn cut_off(bytes: &[u8], size: u64) -> &[u8]
+    ensures { IsCut result.now bytes.now size }
+{
+    if bytes.len() as u64 > size {
+        &bytes[..size as usize + 1]
+    } else {
+        bytes
+    }
 }
 
 impl<'a> ImageLayout for Memory<'a> {
     ghost use Rattle.std.specs.Prelude.{Some};
+    ghost use Rattle.oci_layout.specs.Names.{IsKeptAt};
 
     ghost tops = { λ s. Some (content_of s.kept.now) };
 
+    ghost names = { λ s. IsKeptAt s.kept.now };
+
     fn top(&self, _alloc: Global, name: &str) -> Result<Opened<&'a [u8]>, AllocError>
-        ensures gives { IfOk result (Gives (λ blob. Some blob.now) (Some (content_of self.now.kept.now)) name.now) }
+        ensures gives { IfOk result (Gives (λ blob. Some blob.now) true (Some (content_of self.now.kept.now)) name.now) }
         ensures readable { IfOk result (λ o. o ≢ Opened.Unreadable) }
     {
         match find(self.kept, name) {
@@ -68,16 +114,37 @@ impl<'a> ImageLayout for Memory<'a> {
     }
 
     fn list(&self, alloc: Global) -> Result<Vec<Listed>, AllocError> {
-        let mut listed = Vec::new(alloc);
-        for kept in self.kept {
-            if let Ok(digest) = Digest::from_str(alloc, kept.name) {
-                listed.push(Listed {
-                    path: blob_path(alloc, &digest)?,
-                    size: Some(kept.bytes.len() as u64),
-                    cut: false,
-                })?;
-            }
-        }
-        Ok(listed)
+        list_kept(self.kept, alloc)
     }
+}
+
+/// The paths of what is kept under digests.
+fn list_kept(kept: &[Kept<'_>], alloc: Global) -> Result<Vec<Listed>, AllocError>
+    ensures { IfOk result (λ v. IsListing true (IsKeptAt kept.now) v.items) }
+{
+    let mut listed = Vec::new(alloc);
+    'each: for place in 0..kept.len() {
+        add_listed(&kept[place], &mut listed, alloc)?;
+    }
+    Ok(listed)
+}
+
+/// Adds the path of a content, if it is kept under a digest.
+fn add_listed(kept: &Kept<'_>, listed: &mut Vec<Listed>, alloc: Global) -> Result<(), AllocError>
+    ensures { OnOk result (AddsName kept.now.name.now listed.old.items listed.new.items) }
+{
+    if !is_digest(kept.name) {
+        return Ok(());
+    }
+    let Ok(digest) = Digest::from_str(alloc, kept.name) else {
+        return Err(AllocError);
+    };
+    let path = blob_path(alloc, &digest)?;
+    let size = Some(kept.bytes.len() as u64);
+    listed.push(Listed {
+        path,
+        size,
+        cut: false,
+    })?;
+    Ok(())
 }

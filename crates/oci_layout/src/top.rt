@@ -2,7 +2,6 @@
 ghost use Rattle.std.specs.Prelude.{◌<◌, length, IfOk};
 ghost use Rattle.oci_layout.specs.Sound.{IsTop};
 
-use crate::layout::read_sized;
 use crate::store::{ImageLayout, Opened};
 use std::alloc::{AllocError, Global};
 
@@ -28,12 +27,12 @@ pub fn read_top<L: ImageLayout>(
     buffer: &mut [u8],
 ) -> Result<Top, AllocError>
     requires { 0 < length buffer.old }
-    ensures { IfOk result (IsTop limit (L.tops layout.now) name.now) }
+    ensures { IfOk result (IsTop limit (L.steady layout.now) (L.tops layout.now) name.now) }
 {
     match layout.top(alloc, name)? {
         Opened::Missing => Ok(Top::Missing),
         Opened::Unreadable => Ok(Top::Unreadable),
-        Opened::Content(mut blob, _) => match read_sized(alloc, &mut blob, limit, buffer)? {
+        Opened::Content(mut blob, _) => match layout.read(alloc, &mut blob, limit, buffer)? {
             None => Ok(Top::Unreadable),
             Some(bytes) => {
                 if bytes.len() as u64 > limit {

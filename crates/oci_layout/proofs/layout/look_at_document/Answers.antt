@@ -6,12 +6,12 @@ use Rattle.oci_layout.proofs.layout.look_at_document.Goals as goal
 
 pub returns : goal.returns
 returns g c =
-    let known = g.R.Read.remaining c.args.blob.now in
+    let known = g.S.Blob.Read.remaining c.args.blob.now in
     let claim = c.args.claim.now in
     let v = c.verify_bytes-verdict.result in
     let bytes = c.in-Some.bytes.items in
-    document_verified known claim v bytes c.judged.result
-    (subst (λ o. IfSome o (λ read. IfSome known (λ all. IsCut read.items all claim.size))) c.in-Some.is c.in_ok-bytes.ensures)
+    document_verified (g.S.Store.steady c.args.store.now) known claim v bytes c.judged.result
+    (subst (λ o. IfSome o (λ read. IfSome known (λ all. IsCut read.items all claim.size))) c.in-Some.is c.in_ok-bytes.ensures.cut)
     (subst (λ l. Tells claim.digest claim.size l v) c.as_slice.ensures.value
     (subst (λ d. Tells d claim.size c.as_slice.result.now v) c.as_ref.ensures.value c.verify_bytes-verdict.ensures))
     (subst (λ l. IfOk c.judged.result (λ s. IsJudgedBy (fault_of v) claim.kind l s.fault s.claims.items)) c.as_slice-2.ensures.value c.judged.ensures)

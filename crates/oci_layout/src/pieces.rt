@@ -1,0 +1,32 @@
+//! Reading what is no larger than is said.
+ghost use Rattle.std.specs.Prelude.{◌<◌, length, IfOk, IfSome};
+ghost use Rattle.oci_layout.specs.Looks.{IsCut};
+
+use std::alloc::{AllocError, Global};
+use std::io::Read;
+
+/// All that is left to read, or a beginning of it that is longer than `size`; none where a read fails. Fails if out of memory.
+pub fn read_sized<R: Read>(
+    alloc: Global,
+    reader: &mut R,
+    size: u64,
+    buffer: &mut [u8],
+) -> Result<Option<Vec<u8>>, AllocError>
+    requires { 0 < length buffer.old }
+    ensures { IfOk result (λ read. IfSome read (λ bytes. IfSome (R.remaining reader.old) (λ all. IsCut bytes.items all size))) }
+{
+    let mut bytes = Vec::new(alloc);
+    'pieces: loop {
+        let Ok(count) = reader.read(buffer) else {
+            return Ok(None);
+        };
+        if count == 0 {
+            break;
+        }
+        bytes.extend_from_slice(&buffer[..count])?;
+        if bytes.len() as u64 > size {
+            break;
+        }
+    }
+    Ok(Some(bytes))
+}
