@@ -8,8 +8,9 @@ use Rattle.std.proofs.lemmas.List.Elements.{filter-append}
 use Rattle.json.specs.Json.{Json, document}
 use Rattle.oci_schema.specs.Twice.{repeated}
 use Rattle.oci_schemas.specs.declared.kind.Kind.{Kind}
+use Rattle.oci_findings.specs.declared.asked.Check.{Check}
 use Rattle.oci_findings.specs.declared.finding.Finding.{Finding}
-use Rattle.oci_findings.specs.Annotations.{is_annotation}
+use Rattle.oci_findings.specs.Asked.{is_wrong_twice}
 use Rattle.oci_findings.specs.Checks.{HasKeysOnce, HasNamesOnce}
 use Rattle.oci_findings.specs.Repeated.{AreRepeated}
 use Rattle.oci_findings.proofs.Each.{one_more, map_both}
@@ -68,15 +69,15 @@ module _ (p : List ℕ → Bool) where
   pub keys_all : (xs : List (String Global)) (i : ℕ) (n : ℕ) → length xs ≤ i → n ≡ length (filter p (map string_bytes (take i xs))) → n ≡ length (filter p (map string_bytes xs))
   keys_all xs i n over before = before ∙ ap (λ q. length (filter p (map string_bytes q))) (take_all i xs over)
 
-keys_once : (kind : Kind) (bytes : List ℕ) (v : List (String Global)) → AreRepeated bytes v → (filter (is_annotation kind) (map string_bytes v) ≡ []) ↔ HasKeysOnce kind bytes
-keys_once kind bytes v (inl (once, none)) = ((λ e. inl once), (λ h. passed_of_none (is_annotation kind) v none))
-keys_once kind bytes v (inr (none, listed)) =
-    ((λ e. inr (of_list (is_annotation kind) (document bytes) v listed e)), (λ h. elim h [ inl once ↦ passed_of_none (is_annotation kind) v (none once) | inr keys ↦ to_list (is_annotation kind) (document bytes) v listed keys ]))
+keys_once : (a : Check) (kind : Kind) (bytes : List ℕ) (v : List (String Global)) → AreRepeated bytes v → (filter (is_wrong_twice a kind) (map string_bytes v) ≡ []) ↔ HasKeysOnce a kind bytes
+keys_once a kind bytes v (inl (once, none)) = ((λ e. inl once), (λ h. passed_of_none (is_wrong_twice a kind) v none))
+keys_once a kind bytes v (inr (none, listed)) =
+    ((λ e. inr (of_list (is_wrong_twice a kind) (document bytes) v listed e)), (λ h. elim h [ inl once ↦ passed_of_none (is_wrong_twice a kind) v (none once) | inr keys ↦ to_list (is_wrong_twice a kind) (document bytes) v listed keys ]))
 
--- an error of each: there is none exactly if no key stands twice
-pub keys_found : (kind : Kind) (bytes : List ℕ) (v : List (String Global)) (found : List Finding) → AreRepeated bytes v → length found ≡ length (filter (is_annotation kind) (map string_bytes v))
-    → (found ≡ []) ↔ HasKeysOnce kind bytes
-keys_found kind bytes v found are count =
-    let once = keys_once kind bytes v are in
-    let same = none_of_both found (filter (is_annotation kind) (map string_bytes v)) count in
+-- a finding of each that is wrong: there is none exactly if no key stands twice that may not
+pub keys_found : (a : Check) (kind : Kind) (bytes : List ℕ) (v : List (String Global)) (found : List Finding) → AreRepeated bytes v → length found ≡ length (filter (is_wrong_twice a kind) (map string_bytes v))
+    → (found ≡ []) ↔ HasKeysOnce a kind bytes
+keys_found a kind bytes v found are count =
+    let once = keys_once a kind bytes v are in
+    let same = none_of_both found (filter (is_wrong_twice a kind) (map string_bytes v)) count in
     ((λ e. once.0 (same.0 e)), (λ h. same.1 (once.1 h)))

@@ -1,5 +1,5 @@
 -- Which documents pass.
-use Rattle.std.specs.Prelude.{◌≡◌, ◌⊎◌, ◌++◌, ◌&&◌, ℕ, List, [], map, Bool, true, false, Option, Some, None, IfSome, IsSomeAnd}
+use Rattle.std.specs.Prelude.{◌≡◌, ◌⊎◌, ◌++◌, ◌&&◌, ◌||◌, ℕ, List, [], map, Bool, true, false, if◌then◌else◌, codes, Option, Some, None, IfSome, IsSomeAnd}
 use Rattle.std.specs.List.{filter}
 use Rattle.json.specs.Json.{document}
 use Rattle.json.specs.Strict.{HasUniqueKeys}
@@ -19,11 +19,9 @@ use Rattle.oci_rules.specs.Rules as rules
 use Rattle.oci_rules.specs.Rules.{Level, must, stated, should, host}
 use Rattle.oci_rules.specs.Tables.{level_of, platform_of, rule_of}
 use Rattle.oci_rules.specs.declared.rule.RuntimePlatform.{RuntimePlatform}
-use Rattle.oci_findings.specs.Annotations.{is_annotation}
+use Rattle.oci_findings.specs.Asked.{asks, denies, ignores, is_wrong_twice}
 use Rattle.oci_findings.specs.FoundKind.{kind_for}
 use Rattle.oci_findings.specs.declared.asked.Check.{Check}
-use Rattle.oci_findings.specs.declared.asked.Unknown.{Unknown}
-use Rattle.oci_findings.specs.declared.asked.Unknown.TheVariants.{Deny, Warn, Allow}
 use Rattle.oci_findings.specs.declared.inspect.Reading.{Reading}
 use Rattle.oci_findings.specs.declared.inspect.Reading.TheVariants as reading
 
@@ -44,9 +42,13 @@ IsKindIn None name held kind = IfSome held (λ bytes. (d : Data) × ReadsAs byte
 abbrev pub IsAllowed : Option Kind → List ℕ → List ℕ → Type 0
 IsAllowed asked name bytes = (kind : Kind) × (d : Data) × IsAsked asked name d kind × ReadsAs bytes d × ((p : Plain) × Means (shape_of kind) d p)
 
--- they are no JSON, or a value of which no kind is found
+-- they are a value of which no kind is found
+abbrev pub IsOpen : Option Kind → List ℕ → List ℕ → Type 0
+IsOpen asked name bytes = (d : Data) × ReadsAs bytes d × (kind_for asked name d ≡ None)
+
+-- they are no JSON, or such a value
 abbrev pub HasNoKind : Option Kind → List ℕ → List ℕ → Type 0
-HasNoKind asked name bytes = IsNoJson bytes ⊎ ((d : Data) × ReadsAs bytes d × (kind_for asked name d ≡ None))
+HasNoKind asked name bytes = IsNoJson bytes ⊎ IsOpen asked name bytes
 
 -- what bytes hold: a value of the kind that is asked for, or of the one that is found; or a fault
 abbrev pub IsReading : Option Kind → List ℕ → List ℕ → Reading → Type 0
@@ -62,10 +64,6 @@ AllListed kind d = unknown (shape_of kind) [] d ≡ []
 -- the bytes are JSON in which no object has two members of one name
 abbrev pub HasNamesOnce : List ℕ → Type 0
 HasNamesOnce bytes = IsSomeAnd (document bytes) HasUniqueKeys
-
--- no key stands twice among the annotations of the JSON in the bytes: no name does at all, or those that do are elsewhere
-abbrev pub HasKeysOnce : Kind → List ℕ → Type 0
-HasKeysOnce kind bytes = HasNamesOnce bytes ⊎ IfSome (document bytes) (λ j. filter (is_annotation kind) (repeated [] j) ≡ [])
 
 -- all members of the document in the bytes, of which this is the value, are in its canonical form
 abbrev pub AllKept : Kind → Data → List ℕ → Type 0
@@ -91,9 +89,13 @@ binds stated = true
 binds should = false
 binds host = false
 
--- what breaks a rule of the level (second) makes the document wrong, where the levels from the first on count
-abbrev pub is_error : Level → Level → Bool
-is_error asked level = counts asked level && binds level
+-- something is said of a document that breaks the rule
+abbrev pub is_heard : Check → rules.Rule → Bool
+is_heard a r = asks a r.name && counts (level_of a.level) r.level
+
+-- a document that breaks it is wrong: by the rule's level, or since warnings count too
+abbrev pub is_error : Check → rules.Rule → Bool
+is_error a r = is_heard a r && (a.strict || binds r.level)
 
 abbrev pub rules_if : Bool → List rules.Rule → List rules.Rule
 rules_if true rs = rs
@@ -108,24 +110,38 @@ abbrev pub platform_asked : Option RuntimePlatform → Data → rules.Platform
 platform_asked (Some platform) d = platform_of platform
 platform_asked None d = platform_in d
 
--- what breaks the rules that bind, of the levels that count
+-- what breaks rules and makes the document wrong
 abbrev pub counted : (Kind → List rules.Rule) → Check → Kind → Data → List Told
-counted books a kind d = filter (λ x. is_error (level_of a.level) x.0.level) (all_broken (asked_rules books a kind) (platform_asked a.platform d) d)
+counted books a kind d = filter (λ x. is_error a x.0) (all_broken (asked_rules books a kind) (platform_asked a.platform d) d)
 
 -- the members that the schema does not list, where they are wrong
-abbrev pub denied : Unknown → Kind → Data → List Report
-denied Deny kind d = unknown (shape_of kind) [] d
-denied Warn kind d = []
-denied Allow kind d = []
+abbrev pub denied : Check → Kind → Data → List Report
+denied a kind d = if denies a then unknown (shape_of kind) [] d else []
 
--- a value is a document of the kind, no rule is broken that binds and counts, and no member is denied
+-- a value is a document of the kind, unless violations of the schema are ignored
+abbrev pub HasShape : Check → Kind → Data → Type 0
+HasShape a kind d = ignores a (codes "schema") ≡ false → (p : Plain) × Means (shape_of kind) d p
+
+-- no member of the JSON in the bytes is wrong since an earlier one has its name: no name stands twice at all, or those that do may
+abbrev pub HasKeysOnce : Check → Kind → List ℕ → Type 0
+HasKeysOnce a kind bytes = HasNamesOnce bytes ⊎ IfSome (document bytes) (λ j. filter (is_wrong_twice a kind) (repeated [] j) ≡ [])
+
+-- a value is of the shape that is asked for, breaks no rule that makes it wrong, and has no member that is denied
 abbrev pub IsRightValue : (Kind → List rules.Rule) → Check → Kind → Data → Type 0
-IsRightValue books a kind d = ((p : Plain) × Means (shape_of kind) d p) × ((counted books a kind d ≡ []) × (denied a.unknown kind d ≡ []))
+IsRightValue books a kind d = HasShape a kind d × ((counted books a kind d ≡ []) × (denied a kind d ≡ []))
 
--- the bytes of a file of this name are such a value, of the kind that is asked for, or of the one that is found, and no key of an annotation stands twice
+-- no kind of the bytes is found, and what has none is to be passed over
+abbrev pub IsPassedOver : Check → List ℕ → List ℕ → Type 0
+IsPassedOver a name bytes = (a.skip_unknown ≡ true) × IsOpen a.kind name bytes
+
+-- the bytes of a file of this name are such a value, of the kind that is asked for, or of the one that is found, and no key stands twice that may not
+abbrev pub IsRightDocument : (Kind → List rules.Rule) → Check → List ℕ → List ℕ → Type 0
+IsRightDocument books a name bytes = (kind : Kind) × (d : Data) × IsAsked a.kind name d kind × ReadsAs bytes d × IsRightValue books a kind d × HasKeysOnce a kind bytes
+
+-- they are, or they are passed over
 abbrev pub IsRight : (Kind → List rules.Rule) → Check → List ℕ → List ℕ → Type 0
-IsRight books a name bytes = (kind : Kind) × (d : Data) × IsAsked a.kind name d kind × ReadsAs bytes d × IsRightValue books a kind d × HasKeysOnce kind bytes
+IsRight books a name bytes = IsRightDocument books a name bytes ⊎ IsPassedOver a name bytes
 
--- they are not
+-- they are neither
 abbrev pub IsWrong : (Kind → List rules.Rule) → Check → List ℕ → List ℕ → Type 0
 IsWrong books a name bytes = IsRight books a name bytes → ⊥

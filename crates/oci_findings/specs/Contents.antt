@@ -66,7 +66,8 @@ violation_fact v = ((reported v).0, Some (violated (reported v).1))
 abbrev pub held_fact : Held → List ℕ × Option Fact
 held_fact h = (descriptor_pointer h.role h.at ++ codes "/data", Some (held h.embedded))
 
--- what stands against a document as a whole, or a member by which it may be taken for another. What its schema does not allow is said by the violations
+-- what stands against a document as a whole, or a member by which it may be taken for another. What its schema does not allow is said by the violations, and what
+-- its descriptors hold by themselves
 abbrev pub document_fault : Option Fault → List (List ℕ × Option Fact)
 document_fault (Some fault.NoJson) = ([], Some (against fault.NoJson)) ∷ []
 document_fault (Some fault.OtherType) = (codes "/mediaType", Some (against fault.OtherType)) ∷ []
@@ -84,6 +85,7 @@ content_fault (Some fault.NoJson) = []
 content_fault (Some fault.NoDocument) = []
 content_fault (Some fault.OtherType) = []
 content_fault (Some (fault.Ambiguous member)) = []
+content_fault (Some fault.Embedded) = []
 content_fault (Some f) = ([], Some (against f)) ∷ []
 
 -- what one fault of a file says of the whole of it, if there is one

@@ -1,10 +1,12 @@
 pub mod Annotations
+pub mod Asked
 pub mod Checks
 pub mod Contents
 pub mod Files
 pub mod Findings
 pub mod Forms
 pub mod FoundKind
+pub mod Github
 pub mod Kinds
 pub mod Known
 pub mod LeftOut

@@ -1,5 +1,5 @@
 -- What is written of findings.
-use Rattle.std.specs.Prelude.{◌≡◌, ◌⊎◌, ℕ, zero, suc, List, [], ◌∷◌, ◌++◌, Option, Bool, true, false, not}
+use Rattle.std.specs.Prelude.{◌≡◌, ◌⊎◌, ℕ, zero, suc, List, [], ◌++◌, Option, Bool, true, false, not}
 use Rattle.std.specs.Io.KnownBytes.{Appends}
 use Rattle.oci_base.specs.Escaped.{IsLine}
 use Rattle.oci_findings.specs.declared.finding.Finding.{Finding}

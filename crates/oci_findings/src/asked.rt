@@ -1,4 +1,7 @@
 //! What is checked.
+ghost use Rattle.std.specs.Prelude.{◌≡◌};
+ghost use Rattle.oci_findings.specs.Asked.{asks, denies, ignores};
+
 use crate::Style;
 use oci_rules::{Level, Rule, RuntimePlatform};
 use oci_schemas::Kind;
@@ -29,10 +32,46 @@ pub struct Check<'a> {
     pub platform: Option<RuntimePlatform>,
     /// What is done with members that the schema does not list.
     pub unknown: Unknown,
+    /// Whether nothing is said of JSON of which no kind of documents is found.
+    pub skip_unknown: bool,
+    /// Whether warnings make a document wrong too.
+    pub strict: bool,
+    /// The rules, by their names, of which nothing is said where they are broken.
+    pub ignore: &'a [&'a str],
+    /// The only rules of the specifications and of the policy that are checked, by their names; all of them, where none is named.
+    pub only: &'a [&'a str],
     /// How findings are written.
     pub style: Style,
     /// Whether findings are not written at all.
     pub quiet: bool,
     /// The files to check.
     pub files: &'a [&'a str],
+}
+
+impl<'a> Check<'a> {
+    /// Whether nothing is said where the rule of this name is broken.
+    pub fn ignores(&self, rule: &str) -> bool
+        ensures { result ≡ ignores self.now rule.now }
+    {
+        self.ignore.contains(&rule)
+    }
+
+    /// Whether the rule of this name, one of the specifications or of the policy, is checked.
+    pub fn asks(&self, rule: &str) -> bool
+        ensures { result ≡ asks self.now rule.now }
+    {
+        !self.ignores(rule) && (self.only.is_empty() || self.only.contains(&rule))
+    }
+
+    /// Whether a member that the schema does not list makes a document wrong.
+    pub fn denies(&self) -> bool
+        ensures { result ≡ denies self.now }
+    {
+        let is_wrong = match self.unknown {
+            Unknown::Deny => true,
+            Unknown::Warn => self.strict,
+            Unknown::Allow => false,
+        };
+        is_wrong && !self.ignores("unknown")
+    }
 }

@@ -212,7 +212,11 @@ fn file_fault(claim: &Claim, fault: Fault, alloc: Global) -> Result<Option<FileF
             FileFault::Digest(String::from_str(alloc, claim.digest.as_ref())?, found)
         }
         Fault::Unjudged => FileFault::Unjudged,
-        Fault::NoJson | Fault::NoDocument | Fault::OtherType | Fault::Ambiguous(_) => {
+        Fault::NoJson
+        | Fault::NoDocument
+        | Fault::OtherType
+        | Fault::Ambiguous(_)
+        | Fault::Embedded => {
             return Ok(None);
         }
     }))

@@ -1,23 +1,24 @@
 //! What is wrong with the bytes of a document, beside its schema too: rules, and members that the schema does not list.
-ghost use Rattle.std.specs.Prelude.{◌≡◌, ◌↔◌, ◌++◌, ◌+◌, ◌∷◌, [], Some, map, length, IfOk, IsUtf8, OnOk};
+ghost use Rattle.std.specs.Prelude.{◌≡◌, ◌↔◌, ◌++◌, ◌+◌, ◌∷◌, [], Some, map, length, true, false, IfOk, IsUtf8, OnOk};
 ghost use Rattle.std.specs.List.{filter, flat_map};
 ghost use Rattle.serde_json.specs.View.{view};
 ghost use Rattle.oci_schemas.specs.Kinds.{shape_of};
 ghost use Rattle.oci_schema.specs.Unknown.{unknown as all_unknown};
 ghost use Rattle.oci_rules.specs.Listed.{all_broken};
-ghost use Rattle.oci_rules.specs.Tables.{level_of, platform_of, rule_of, told as broken_told};
+ghost use Rattle.oci_rules.specs.Tables.{platform_of, rule_of, told as broken_told};
 ghost use Rattle.oci_findings.specs.Findings.{breach};
-ghost use Rattle.oci_findings.specs.Checks.{AllKept, HasKeysOnce, IsRight, IsRightValue, IsWrong, asked_rules, platform_asked, counts as does_count, binds as does_bind, is_error as makes_wrong, counted, denied, rules_if};
+ghost use Rattle.oci_findings.specs.Checks.{AllKept, HasKeysOnce, HasShape, IsPassedOver, IsRight, IsRightValue, IsWrong, asked_rules, platform_asked, is_error as makes_wrong, counted, denied, rules_if};
 
 use crate::asked::{Check, Unknown};
-use crate::inspect::{Reading, faulty, read_value, schema_errors};
+use crate::inspect::{Reading, faulty, kind_of, read_value, schema_errors};
+use crate::levels::{binds, is_error, is_heard};
 use crate::quick::is_right;
 use crate::repeated::{key_errors, repeated_findings, repeated_if_any, warn_of_repeated};
 use crate::rulebooks::RuleBooks;
 use crate::shown::{name_at, shown_at};
 use crate::{Cause, Finding, Report, Severity};
 use json::Error;
-use oci_rules::{Broken, Level, Rule, RuntimePlatform, Step, broken, platform_of_document};
+use oci_rules::{Broken, Rule, RuntimePlatform, Step, broken, platform_of_document};
 use oci_schema::bytes::Workspace;
 use oci_schema::{UnknownMember, suggestion, unknown_members};
 use oci_schemas::{Kind, OciRecords};
@@ -43,7 +44,7 @@ pub fn examine<'a, B: RuleBooks>(
 }
 
 /// The same by way of a value.
-#[tactic(auto, using(crate::proofs::Allowed::right_of, crate::proofs::Allowed::wrong_of, crate::proofs::Allowed::wrong_of_no_kind))]
+#[tactic(auto, using(crate::proofs::Allowed::passed_over, crate::proofs::Allowed::right_of, crate::proofs::Allowed::wrong_of, crate::proofs::Allowed::wrong_of_no_kind))]
 fn examine_read<'a, B: RuleBooks>(
     books: &B,
     asked: &Check<'a>,
@@ -64,7 +65,36 @@ fn examine_read<'a, B: RuleBooks>(
             };
             examination.report(name, &value, bytes)
         }
-        Reading::Fault(fault) => faulty(fault, alloc),
+        Reading::Fault(fault) => {
+            if is_passed_over(asked, name, bytes, alloc)? {
+                return Report::new(Vec::new(alloc), Vec::new(alloc), bytes, alloc);
+            }
+            faulty(fault, alloc)
+        }
+    }
+}
+
+/// Whether nothing is said of bytes since no kind of documents is found of them.
+#[tactic(auto, using(crate::proofs::Allowed::open_read, crate::proofs::Allowed::not_open_of_kind, crate::proofs::Allowed::not_open_of_no_json, crate::proofs::Allowed::not_asked_to))]
+fn is_passed_over(
+    asked: &Check<'_>,
+    name: &str,
+    bytes: &[u8],
+    alloc: Global,
+) -> Result<bool, AllocError>
+    ensures yes { IfOk result (λ b. b ≡ true → IsPassedOver asked.now name.now bytes.now) }
+    ensures no { IfOk result (λ b. b ≡ false → ¬ IsPassedOver asked.now name.now bytes.now) }
+{
+    if !asked.skip_unknown {
+        return Ok(false);
+    }
+    match Value::from_slice(alloc, bytes) {
+        Ok(value) => match kind_of(asked.kind, name, &value) {
+            Some(_) => Ok(false),
+            None => Ok(true),
+        },
+        Err(fault) if fault.is_memory() => Err(AllocError),
+        Err(_) => Ok(false),
     }
 }
 
@@ -90,13 +120,13 @@ impl<'e, 'a, B> Drop for Examination<'e, 'a, B> {
 impl<'e, 'a, B: RuleBooks> Examination<'e, 'a, B> {
     /// The report on a value that was read from these bytes.
     fn report(&self, name: &str, value: &Value, bytes: &[u8]) -> Result<Report<'a>, AllocError>
-        ensures { IfOk result (λ r. IsUtf8 bytes.now → (r.errors.items ≡ []) ↔ (IsRightValue (B.rules self.now.books.now) self.now.asked.now self.now.kind (view value.now) × HasKeysOnce self.now.kind bytes.now)) }
+        ensures { IfOk result (λ r. IsUtf8 bytes.now → (r.errors.items ≡ []) ↔ (IsRightValue (B.rules self.now.books.now) self.now.asked.now self.now.kind (view value.now) × HasKeysOnce self.now.asked.now self.now.kind bytes.now)) }
     {
-        let mut warnings = warnings_of(self.asked.unknown, self.kind, value, self.alloc)?;
+        let mut warnings = warnings_of(self.asked, self.kind, value, self.alloc)?;
         let of_value = self.errors(name, value, &mut warnings)?;
         let repeated = repeated_if_any(bytes, self.alloc)?;
-        let of_keys = key_errors(self.kind, &repeated, self.alloc)?;
-        warn_of_repeated(self.kind, &repeated, &mut warnings, self.alloc)?;
+        let of_keys = key_errors(self.asked, self.kind, &repeated, self.alloc)?;
+        warn_of_repeated(self.asked, self.kind, &repeated, &mut warnings, self.alloc)?;
         let errors = joined(of_value, of_keys)?;
         Report::new(errors, warnings, bytes, self.alloc)
     }
@@ -110,9 +140,21 @@ impl<'e, 'a, B: RuleBooks> Examination<'e, 'a, B> {
     ) -> Result<Vec<Finding<'a>>, AllocError>
         ensures { IfOk result (λ v. (v.items ≡ []) ↔ IsRightValue (B.rules self.now.books.now) self.now.asked.now self.now.kind (view value.now)) }
     {
-        let of_schema = schema_errors(self.kind, name, value, self.alloc)?;
+        let of_schema = self.errors_by_schema(name, value)?;
         let of_asked = self.errors_asked(value, warnings)?;
         joined(of_schema, of_asked)
+    }
+
+    /// What the schema does not allow, unless that is ignored.
+    #[tactic(auto, using(crate::proofs::Allowed::shape_ignored, crate::proofs::Allowed::shape_asked))]
+    fn errors_by_schema(&self, name: &str, value: &Value) -> Result<Vec<Finding<'a>>, AllocError>
+        ensures { IfOk result (λ v. (v.items ≡ []) ↔ HasShape self.now.asked.now self.now.kind (view value.now)) }
+    {
+        if self.asked.ignores("schema") {
+            return Ok(Vec::new(self.alloc));
+        }
+        let found = schema_errors(self.kind, name, value, self.alloc)?;
+        Ok(found)
     }
 
     /// What is wrong with a value beside its schema.
@@ -121,10 +163,10 @@ impl<'e, 'a, B: RuleBooks> Examination<'e, 'a, B> {
         value: &Value,
         warnings: &mut Vec<Finding<'a>>,
     ) -> Result<Vec<Finding<'a>>, AllocError>
-        ensures { IfOk result (λ v. (v.items ≡ []) ↔ ((counted (B.rules self.now.books.now) self.now.asked.now self.now.kind (view value.now) ≡ []) × (denied self.now.asked.now.unknown self.now.kind (view value.now) ≡ []))) }
+        ensures { IfOk result (λ v. (v.items ≡ []) ↔ ((counted (B.rules self.now.books.now) self.now.asked.now self.now.kind (view value.now) ≡ []) × (denied self.now.asked.now self.now.kind (view value.now) ≡ []))) }
     {
         let of_rules = self.rule_findings(value, warnings)?;
-        let of_members = denied_findings(self.asked.unknown, self.kind, value, self.alloc)?;
+        let of_members = denied_findings(self.asked, self.kind, value, self.alloc)?;
         joined(of_rules, of_members)
     }
 
@@ -138,14 +180,7 @@ impl<'e, 'a, B: RuleBooks> Examination<'e, 'a, B> {
     {
         let listed = self.asked_books()?;
         let platform = platform_for(self.asked.platform, value);
-        findings_by(
-            &listed,
-            self.asked.level,
-            platform,
-            value,
-            warnings,
-            self.alloc,
-        )
+        findings_by(&listed, self.asked, platform, value, warnings, self.alloc)
     }
 
     /// The books that are asked for: those of the kind, and the policy's.
@@ -169,21 +204,21 @@ fn joined<'a>(
     Ok(first)
 }
 
-/// What is wrong with a value by the rules of books, of the levels that count.
+/// What is wrong with a value by the rules of books.
 fn findings_by<'a>(
     books: &Vec<&'a [Rule<'a>]>,
-    level: Level,
+    asked: &Check<'_>,
     platform: RuntimePlatform,
     value: &Value,
     warnings: &mut Vec<Finding<'a>>,
     alloc: Global,
 ) -> Result<Vec<Finding<'a>>, AllocError>
-    ensures { IfOk result (λ v. map breach v.items ≡ map Some (filter (λ x. makes_wrong (level_of level) x.0.level) (all_broken (flat_map (λ b. map rule_of b.now) books.now.items) (platform_of platform) (view value.now)))) }
+    ensures { IfOk result (λ v. map breach v.items ≡ map Some (filter (λ x. makes_wrong asked.now x.0) (all_broken (flat_map (λ b. map rule_of b.now) books.now.items) (platform_of platform) (view value.now)))) }
 {
     let mut found = Vec::new(alloc);
     for book in books {
         let listed = broken(book, platform, value, alloc)?;
-        add_counted(&listed, level, value, &mut found, warnings, alloc)?;
+        add_counted(&listed, asked, value, &mut found, warnings, alloc)?;
     }
     Ok(found)
 }
@@ -214,37 +249,37 @@ fn platform_for(asked: Option<RuntimePlatform>, value: &Value) -> RuntimePlatfor
     }
 }
 
-/// Adds those that are of a level that counts: those that bind to what was found, and the others to the warnings.
+/// Adds those that make a document wrong to what was found, and those that are worth a warning to the warnings.
 fn add_counted<'a>(
     listed: &Vec<Broken<'a>>,
-    level: Level,
+    asked: &Check<'_>,
     value: &Value,
     found: &mut Vec<Finding<'a>>,
     warnings: &mut Vec<Finding<'a>>,
     alloc: Global,
 ) -> Result<(), AllocError>
-    ensures { OnOk result (map breach found.new.items ≡ map breach found.old.items ++ map Some (filter (λ x. makes_wrong (level_of level) x.0.level) (map broken_told listed.now.items))) }
+    ensures { OnOk result (map breach found.new.items ≡ map breach found.old.items ++ map Some (filter (λ x. makes_wrong asked.now x.0) (map broken_told listed.now.items))) }
 {
     for item in listed {
-        if is_error(level, item.rule.level) {
-            add_rule_finding(item, value, false, found, alloc)?;
+        if is_error(asked, item.rule) {
+            add_rule_finding(item, value, found, alloc)?;
         } else {
-            warn_if_counted(item, level, value, warnings, alloc)?;
+            warn_if_heard(item, asked, value, warnings, alloc)?;
         }
     }
     Ok(())
 }
 
-/// Adds a warning, if the level of the broken rule counts.
-fn warn_if_counted<'a>(
+/// Adds a warning, if something is said of the broken rule.
+fn warn_if_heard<'a>(
     item: &Broken<'a>,
-    level: Level,
+    asked: &Check<'_>,
     value: &Value,
     warnings: &mut Vec<Finding<'a>>,
     alloc: Global,
 ) -> Result<(), AllocError> {
-    if counts(level, item.rule.level) {
-        add_rule_finding(item, value, true, warnings, alloc)?;
+    if is_heard(asked, item.rule) {
+        add_rule_finding(item, value, warnings, alloc)?;
     }
     Ok(())
 }
@@ -252,51 +287,19 @@ fn warn_if_counted<'a>(
 fn add_rule_finding<'a>(
     item: &Broken<'a>,
     value: &Value,
-    is_warning: bool,
     found: &mut Vec<Finding<'a>>,
     alloc: Global,
 ) -> Result<(), AllocError>
     ensures { OnOk result (map breach found.new.items ≡ map breach found.old.items ++ Some (broken_told item.now) ∷ []) }
 {
-    let finding = rule_finding(item, value, is_warning, alloc)?;
+    let finding = rule_finding(item, value, alloc)?;
     found.push(finding)?;
     Ok(())
-}
-
-/// Whether a document that breaks a rule of the second level is wrong, where the levels from the first on count.
-fn is_error(asked: Level, level: Level) -> bool
-    ensures { result ≡ makes_wrong (level_of asked) (level_of level) }
-{
-    counts(asked, level) && binds(level)
-}
-
-/// Whether a document that breaks a rule of this level is wrong.
-fn binds(level: Level) -> bool
-    ensures { result ≡ does_bind (level_of level) }
-{
-    match level {
-        Level::Must | Level::Stated => true,
-        Level::Should | Level::Host => false,
-    }
-}
-
-/// Whether a level is no weaker than the one that is asked for.
-fn counts(asked: Level, level: Level) -> bool
-    ensures { result ≡ does_count (level_of asked) (level_of level) }
-{
-    match (asked, level) {
-        (Level::Must, Level::Must)
-        | (Level::Stated, Level::Must | Level::Stated)
-        | (Level::Should, Level::Must | Level::Stated | Level::Should)
-        | (Level::Host, _) => true,
-        _ => false,
-    }
 }
 
 fn rule_finding<'a>(
     item: &Broken<'a>,
     value: &Value,
-    is_warning: bool,
     alloc: Global,
 ) -> Result<Finding<'a>, AllocError>
     ensures { IfOk result (λ f. breach f ≡ Some (broken_told item.now)) }
@@ -306,7 +309,7 @@ fn rule_finding<'a>(
     Ok(Finding {
         pointer: String::from_str(alloc, pointer)?,
         cause: Cause::Rule(item.rule, shown),
-        severity: Severity::warning_if(is_warning),
+        severity: Severity::warning_if(!binds(item.rule.level)),
     })
 }
 
@@ -334,19 +337,22 @@ fn is_on_names(rule: &Rule<'_>) -> bool {
     false
 }
 
-/// The members that the schema does not list, where they are denied.
+/// The members that the schema does not list, where they make a document wrong.
+#[tactic(auto, using(crate::proofs::Allowed::all_denied, crate::proofs::Allowed::none_denied))]
 fn denied_findings<'a>(
-    asked: Unknown,
+    asked: &Check<'_>,
     kind: Kind,
     value: &Value,
     alloc: Global,
 ) -> Result<Vec<Finding<'a>>, AllocError>
-    ensures { IfOk result (λ v. length v.items ≡ length (denied asked kind (view value.now))) }
+    ensures { IfOk result (λ v. length v.items ≡ length (denied asked.now kind (view value.now))) }
 {
-    match asked {
-        Unknown::Deny => unknown_findings(kind, value, false, alloc),
-        Unknown::Warn | Unknown::Allow => Ok(Vec::new(alloc)),
+    if asked.denies() {
+        let is_warning = matches!(asked.unknown, Unknown::Warn);
+        let found = unknown_findings(kind, value, is_warning, alloc)?;
+        return Ok(found);
     }
+    Ok(Vec::new(alloc))
 }
 
 /// The members of a document, whose value was read from these bytes, that are not in its canonical form, as errors: those that the
@@ -379,16 +385,18 @@ fn lost_findings<'a>(
     Ok(found)
 }
 
-/// The members that the schema does not list, where they are warned of.
+/// The members that the schema does not list, where they are worth a warning alone.
 fn warnings_of<'a>(
-    asked: Unknown,
+    asked: &Check<'_>,
     kind: Kind,
     value: &Value,
     alloc: Global,
 ) -> Result<Vec<Finding<'a>>, AllocError> {
-    match asked {
-        Unknown::Warn => unknown_findings(kind, value, true, alloc),
-        _ => Ok(Vec::new(alloc)),
+    let is_warned = matches!(asked.unknown, Unknown::Warn) && !asked.ignores("unknown");
+    if is_warned && !asked.strict {
+        unknown_findings(kind, value, true, alloc)
+    } else {
+        Ok(Vec::new(alloc))
     }
 }
 

@@ -54,6 +54,15 @@ fn push_finding(text: &mut String, finding: &Finding<'_>, alloc: Global) -> Resu
         text.push_str(finding.severity.word())?;
         text.push_str(": ")?;
     }
+    push_told(text, finding, alloc)
+}
+
+/// Adds where in the document it is found, what it is, and the rule.
+pub(crate) fn push_told(
+    text: &mut String,
+    finding: &Finding<'_>,
+    alloc: Global,
+) -> Result<(), AllocError> {
     if !finding.pointer.is_empty() {
         text.push_str(finding.pointer.as_str())?;
         text.push_str(": ")?;
@@ -64,7 +73,11 @@ fn push_finding(text: &mut String, finding: &Finding<'_>, alloc: Global) -> Resu
 }
 
 /// Adds the descriptors by which the file was reached.
-fn push_claims(text: &mut String, claims: &Claims, alloc: Global) -> Result<(), AllocError> {
+pub(crate) fn push_claims(
+    text: &mut String,
+    claims: &Claims,
+    alloc: Global,
+) -> Result<(), AllocError> {
     if claims.path.is_empty() {
         return Ok(());
     }
@@ -128,7 +141,7 @@ fn push_lines(
 
 /// Adds a line, unless it equals the one before it.
 #[tactic(auto, using(crate::proofs::Facts::line_added, crate::proofs::Facts::line_left_out))]
-fn push_new(lines: &mut String, before: &str, line: &str) -> Result<(), AllocError>
+pub(crate) fn push_new(lines: &mut String, before: &str, line: &str) -> Result<(), AllocError>
     ensures { OnOk result (IsLine line.now → (n : ℕ) → AreLines n (string_bytes lines.old) → AreLines (suc n) (string_bytes lines.new)) }
 {
     if line == before {

@@ -1,47 +1,61 @@
 //! Members whose name an earlier member of the same object has. The last one counts.
 ghost use Rattle.std.specs.Prelude.{◌≡◌, ◌↔◌, ◌+◌, [], true, length, map, string_bytes, IfOk, OnOk, IsUtf8};
 ghost use Rattle.std.specs.List.{filter};
-ghost use Rattle.oci_findings.specs.Annotations.{is_annotation as is_annotation_of};
+ghost use Rattle.oci_findings.specs.Asked.{is_wrong_twice as is_wrong};
 ghost use Rattle.oci_findings.specs.Checks.{HasNamesOnce};
 ghost use Rattle.oci_findings.specs.Repeated.{AreRepeated};
 
 use crate::annotations::is_annotation;
-use crate::{Cause, Finding, Severity};
+use crate::{Cause, Check, Finding, Severity};
 use json::{Error, Scratch, Tape};
 use oci_schema::repeated_names;
 use oci_schemas::Kind;
 use std::alloc::{AllocError, Global};
 
-/// Adds a warning of each of these members that is no annotation of a document of the kind.
+/// Adds a warning of each of these members that is worth one and does not make a document of the kind wrong.
 pub fn warn_of_repeated(
+    asked: &Check<'_>,
     kind: Kind,
     repeated: &Vec<String>,
     found: &mut Vec<Finding<'_>>,
     alloc: Global,
 ) -> Result<(), AllocError> {
+    if asked.ignores("repeated") {
+        return Ok(());
+    }
     for pointer in repeated {
-        if !is_annotation(kind, pointer.as_str()) {
+        if !is_wrong_twice(asked, kind, pointer.as_str()) {
             add_at(pointer.as_str(), true, found, alloc)?;
         }
     }
     Ok(())
 }
 
-/// An error of each of these members that is an annotation of a document of the kind: its key has to be unique.
+/// A finding of each of these members that makes a document of the kind wrong: an error of an annotation, whose key has to be unique, and
+/// a warning of another one.
 pub fn key_errors<'a>(
+    asked: &Check<'_>,
     kind: Kind,
     repeated: &Vec<String>,
     alloc: Global,
 ) -> Result<Vec<Finding<'a>>, AllocError>
-    ensures { IfOk result (λ v. length v.items ≡ length (filter (is_annotation_of kind) (map string_bytes repeated.now.items))) }
+    ensures { IfOk result (λ v. length v.items ≡ length (filter (is_wrong asked.now kind) (map string_bytes repeated.now.items))) }
 {
     let mut found = Vec::new(alloc);
     for pointer in repeated {
-        if is_annotation(kind, pointer.as_str()) {
-            add_at(pointer.as_str(), false, &mut found, alloc)?;
+        if is_wrong_twice(asked, kind, pointer.as_str()) {
+            let is_warning = !is_annotation(kind, pointer.as_str());
+            add_at(pointer.as_str(), is_warning, &mut found, alloc)?;
         }
     }
     Ok(found)
+}
+
+/// Whether a member of a document of the kind, whose name an earlier member of its object has, makes it wrong.
+fn is_wrong_twice(asked: &Check<'_>, kind: Kind, pointer: &str) -> bool
+    ensures { result ≡ is_wrong asked.now kind pointer.now }
+{
+    !asked.ignores("repeated") && (asked.strict || is_annotation(kind, pointer))
 }
 
 /// Adds a finding at a pointer.

@@ -3,6 +3,7 @@ ghost use Rattle.std.specs.Prelude.{◌+◌, length, IfOk, OnOk, string_bytes};
 ghost use Rattle.oci_base.specs.Escaped.{IsLine};
 ghost use Rattle.oci_findings.specs.Lines.{WritesLines};
 
+use crate::github::commands_of;
 use crate::render::{json_line, lines_of, number_member, objects_of};
 use crate::report::Report;
 use crate::sarif::Log;
@@ -11,6 +12,7 @@ use json::Writer;
 use oci_base::Result;
 use oci_json::write_text;
 use std::alloc::{AllocError, Global};
+use std::fmt::Display;
 use std::io::Write;
 
 /// Writes findings in a style, and counts them.
@@ -29,7 +31,7 @@ impl Reporter {
     pub fn new(style: Style, alloc: Global) -> std::result::Result<Reporter, AllocError> {
         let log = match style {
             Style::Sarif => Some(Log::new(alloc)?),
-            Style::Text | Style::Json => None,
+            Style::Text | Style::Json | Style::Github => None,
         };
         Ok(Reporter {
             alloc,
@@ -66,11 +68,28 @@ impl Reporter {
                 let lines = objects_of(name, report, self.alloc)?;
                 write_text(lines.as_bytes(), writer)?;
             }
+            Style::Github => {
+                let lines = commands_of(name, report, self.alloc)?;
+                write_text(lines.as_bytes(), writer)?;
+            }
             Style::Sarif => {
                 if let Some(log) = &mut self.log {
                     log.add(name, report, self.alloc)?;
                 }
             }
+        }
+        Ok(())
+    }
+
+    /// Notes that a file could not be read, and why, where the log says it. Fails if out of memory.
+    pub fn note_unread<D: Display>(
+        &mut self,
+        name: &str,
+        fault: &D,
+    ) -> std::result::Result<(), AllocError> {
+        if let Some(log) = &mut self.log {
+            let reason = fault.to_string(self.alloc)?;
+            log.add_unread(name, reason, self.alloc)?;
         }
         Ok(())
     }

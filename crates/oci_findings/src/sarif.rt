@@ -2,21 +2,35 @@
 ghost use Rattle.std.specs.Prelude.{IfOk, string_bytes};
 ghost use Rattle.oci_base.specs.Escaped.{IsLine};
 
-use crate::claimed::{Claimant, Claims};
+pub mod described;
+pub mod result;
+
 use crate::finding::Finding;
-use crate::place::Place;
-use crate::render::{json_line, number_member, text_member};
+use crate::render::{json_line, text_member};
 use crate::report::Report;
+use crate::sarif::described::{Described, Requirement, describe};
+use crate::sarif::result::{Located, begin_item, begin_member, end_item, put_file, put_result};
 use json::Writer;
 use std::alloc::{AllocError, Global};
 
 /// The version of the program.
 pub const VERSION: &str = "0.1.0";
 
+/// A file that could not be read, and why.
+#[derive(Drop)]
+struct Unread {
+    name: String,
+    reason: String,
+}
+
 /// A log that is being written.
 #[derive(Drop)]
 pub struct Log {
     out: Writer,
+    // the rules that are broken
+    rules: Vec<Described>,
+    // what could not be read
+    unread: Vec<Unread>,
 }
 
 impl Log {
@@ -24,7 +38,11 @@ impl Log {
     pub fn new(alloc: Global) -> Result<Log, AllocError> {
         let mut out = Writer::new(Vec::new(alloc));
         begin(&mut out)?;
-        Ok(Log { out })
+        Ok(Log {
+            out,
+            rules: Vec::new(alloc),
+            unread: Vec::new(alloc),
+        })
     }
 
     /// Adds the report on a file.
@@ -46,9 +64,41 @@ impl Log {
         alloc: Global,
     ) -> Result<(), AllocError> {
         for finding in found {
-            let place = report.place_of(finding);
-            put_result(&mut self.out, name, finding, place, &report.claims, alloc)?;
+            let it = Located {
+                name,
+                finding,
+                rule: self.index_of(finding, alloc)?,
+                place: report.place_of(finding),
+                claims: &report.claims,
+            };
+            put_result(&mut self.out, &it, alloc)?;
         }
+        Ok(())
+    }
+
+    /// The index of the rule of a finding, which is added if it is a new one.
+    fn index_of(&mut self, finding: &Finding<'_>, alloc: Global) -> Result<u64, AllocError> {
+        let mut index: u64 = 0;
+        for rule in &self.rules {
+            if rule.name.as_str() == finding.rule() {
+                return Ok(index);
+            }
+            index = index.saturating_add(1);
+        }
+        let rule = describe(finding, alloc)?;
+        self.rules.push(rule)?;
+        Ok(index)
+    }
+
+    /// Notes that a file could not be read, and why.
+    pub fn add_unread(
+        &mut self,
+        name: &str,
+        reason: String,
+        alloc: Global,
+    ) -> Result<(), AllocError> {
+        let name = String::from_str(alloc, name)?;
+        self.unread.push(Unread { name, reason })?;
         Ok(())
     }
 
@@ -56,22 +106,18 @@ impl Log {
     pub fn finish(self, alloc: Global) -> Result<String, AllocError>
         ensures { IfOk result (λ t. IsLine (string_bytes t)) }
     {
-        let Log { mut out } = self;
-        end(&mut out)?;
+        let Log {
+            mut out,
+            rules,
+            unread,
+        } = self;
+        end(&mut out, &rules, &unread, alloc)?;
         json_line(out, alloc)
     }
 }
 
 /// Writes all that is before the results.
 fn begin(out: &mut Writer) -> Result<(), AllocError> {
-    begin_run(out)?;
-    put_driver(out)?;
-    text_member(out, "columnKind", "unicodeCodePoints")?;
-    out.key("results")?;
-    out.begin_array()
-}
-
-fn begin_run(out: &mut Writer) -> Result<(), AllocError> {
     out.begin_object()?;
     text_member(
         out,
@@ -79,130 +125,94 @@ fn begin_run(out: &mut Writer) -> Result<(), AllocError> {
         "https://json.schemastore.org/sarif-2.1.0.json",
     )?;
     text_member(out, "version", "2.1.0")?;
-    out.key("runs")?;
-    out.begin_array()?;
-    out.begin_object()
+    begin_item(out, "runs")?;
+    text_member(out, "columnKind", "unicodeCodePoints")?;
+    out.key("results")?;
+    out.begin_array()
 }
 
 /// Writes all that is behind the results.
-fn end(out: &mut Writer) -> Result<(), AllocError> {
+fn end(
+    out: &mut Writer,
+    rules: &Vec<Described>,
+    unread: &Vec<Unread>,
+    alloc: Global,
+) -> Result<(), AllocError> {
     out.end_array()?;
-    out.end_object()?;
-    out.end_array()?;
+    put_tool(out, rules)?;
+    put_invocation(out, unread, alloc)?;
+    end_item(out)?;
     out.end_object()
 }
 
-fn put_driver(out: &mut Writer) -> Result<(), AllocError> {
+/// Writes the program, with the rules that are broken.
+fn put_tool(out: &mut Writer, rules: &Vec<Described>) -> Result<(), AllocError> {
     begin_member(out, "tool")?;
     begin_member(out, "driver")?;
     text_member(out, "name", "ciderglen")?;
     text_member(out, "version", VERSION)?;
-    out.end_object()?;
-    out.end_object()
-}
-
-fn put_result(
-    out: &mut Writer,
-    name: &str,
-    finding: &Finding<'_>,
-    place: Option<Place>,
-    claims: &Claims,
-    alloc: Global,
-) -> Result<(), AllocError> {
-    out.begin_object()?;
-    text_member(out, "ruleId", finding.rule())?;
-    text_member(out, "level", finding.severity.word())?;
-    put_message(out, finding, alloc)?;
-    put_location(out, name, place, finding.pointer.as_str())?;
-    put_claims(out, claims)?;
-    out.end_object()
-}
-
-/// Writes the descriptors by which the file was reached, if there are any.
-fn put_claims(out: &mut Writer, claims: &Claims) -> Result<(), AllocError> {
-    if claims.path.is_empty() {
-        return Ok(());
-    }
-    out.key("relatedLocations")?;
+    text_member(out, "semanticVersion", VERSION)?;
+    out.key("rules")?;
     out.begin_array()?;
-    for claimant in &claims.path {
-        put_claimant(out, claimant)?;
+    for rule in rules {
+        put_rule(out, rule)?;
     }
-    out.end_array()
-}
-
-fn put_claimant(out: &mut Writer, claimant: &Claimant) -> Result<(), AllocError> {
-    out.begin_object()?;
-    put_physical(out, claimant.file.as_str(), None)?;
-    put_pointer(out, claimant.pointer.as_str())?;
-    begin_member(out, "message")?;
-    text_member(out, "text", "claimed by this descriptor")?;
+    out.end_array()?;
     out.end_object()?;
     out.end_object()
 }
 
-fn put_message(out: &mut Writer, finding: &Finding<'_>, alloc: Global) -> Result<(), AllocError> {
-    let message = finding.message(alloc)?;
-    begin_member(out, "message")?;
-    text_member(out, "text", message.as_str())?;
+fn put_rule(out: &mut Writer, rule: &Described) -> Result<(), AllocError> {
+    out.begin_object()?;
+    text_member(out, "id", rule.name.as_str())?;
+    put_text(out, "shortDescription", rule.asks.as_str())?;
+    put_text(out, "help", rule.help.as_str())?;
+    begin_member(out, "defaultConfiguration")?;
+    text_member(out, "level", rule.severity.word())?;
+    out.end_object()?;
+    if let Some(requirement) = &rule.requirement {
+        put_requirement(out, requirement)?;
+    }
     out.end_object()
 }
 
-fn put_location(
-    out: &mut Writer,
-    name: &str,
-    place: Option<Place>,
-    pointer: &str,
-) -> Result<(), AllocError> {
+/// Writes how strongly a rule is asked, and by which section.
+fn put_requirement(out: &mut Writer, requirement: &Requirement) -> Result<(), AllocError> {
+    begin_member(out, "properties")?;
+    text_member(out, "requirement", requirement.level)?;
+    text_member(out, "section", requirement.section.as_str())?;
+    out.end_object()
+}
+
+/// Writes a member that is a message.
+fn put_text(out: &mut Writer, name: &str, text: &str) -> Result<(), AllocError> {
+    begin_member(out, name)?;
+    text_member(out, "text", text)?;
+    out.end_object()
+}
+
+/// Writes the run of the program, with what it could not read.
+fn put_invocation(out: &mut Writer, unread: &Vec<Unread>, alloc: Global) -> Result<(), AllocError> {
+    begin_item(out, "invocations")?;
+    out.key("executionSuccessful")?;
+    out.boolean(unread.is_empty())?;
+    out.key("toolExecutionNotifications")?;
+    out.begin_array()?;
+    for it in unread {
+        put_unread(out, it, alloc)?;
+    }
+    out.end_array()?;
+    end_item(out)
+}
+
+fn put_unread(out: &mut Writer, it: &Unread, alloc: Global) -> Result<(), AllocError> {
+    out.begin_object()?;
+    text_member(out, "level", "error")?;
+    put_text(out, "message", it.reason.as_str())?;
     begin_item(out, "locations")?;
-    put_physical(out, name, place)?;
-    put_pointer(out, pointer)?;
-    end_item(out)
-}
-
-fn put_physical(out: &mut Writer, name: &str, place: Option<Place>) -> Result<(), AllocError> {
     begin_member(out, "physicalLocation")?;
-    put_file(out, name)?;
-    if let Some(place) = place {
-        put_region(out, place)?;
-    }
-    out.end_object()
-}
-
-fn put_file(out: &mut Writer, name: &str) -> Result<(), AllocError> {
-    begin_member(out, "artifactLocation")?;
-    text_member(out, "uri", name)?;
-    out.end_object()
-}
-
-fn put_region(out: &mut Writer, place: Place) -> Result<(), AllocError> {
-    begin_member(out, "region")?;
-    number_member(out, "startLine", place.line)?;
-    number_member(out, "startColumn", place.column)?;
-    out.end_object()
-}
-
-fn put_pointer(out: &mut Writer, pointer: &str) -> Result<(), AllocError> {
-    begin_item(out, "logicalLocations")?;
-    text_member(out, "fullyQualifiedName", pointer)?;
-    end_item(out)
-}
-
-/// Begins a member that is an object.
-fn begin_member(out: &mut Writer, name: &str) -> Result<(), AllocError> {
-    out.key(name)?;
-    out.begin_object()
-}
-
-/// Begins a member that is an array of one object.
-fn begin_item(out: &mut Writer, name: &str) -> Result<(), AllocError> {
-    out.key(name)?;
-    out.begin_array()?;
-    out.begin_object()
-}
-
-/// Ends what `begin_item` began.
-fn end_item(out: &mut Writer) -> Result<(), AllocError> {
+    put_file(out, it.name.as_str(), alloc)?;
     out.end_object()?;
-    out.end_array()
+    end_item(out)?;
+    out.end_object()
 }

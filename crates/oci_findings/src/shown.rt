@@ -4,6 +4,7 @@ ghost use Rattle.oci_findings.specs.Contents.{IsNoJsonCause, fact, violation_fac
 ghost use Rattle.oci_findings.specs.Findings.{told, told_of};
 
 use crate::finding::{Cause, Finding, Severity};
+use crate::json_fault::fault_in;
 use crate::place::{START, place_behind};
 use oci_schema::{Expected, Violation};
 use serde_json::{Error, Value};
@@ -153,10 +154,14 @@ fn behind(text: &str, count: usize) -> &str {
     }
 }
 
-/// That the bytes are not JSON, by what the reader of them says. Fails if out of memory.
+/// That the bytes are not JSON, where they are not and why, or else what the reader of them says. Fails if out of memory.
 pub fn json_cause<'a>(fault: &Error, bytes: &[u8], alloc: Global) -> Result<Cause<'a>, AllocError>
     ensures { IfOk result IsNoJsonCause }
 {
+    if let Some(found) = fault_in(bytes, alloc)? {
+        let place = place_behind(bytes.get(..found.at).unwrap_or(bytes));
+        return Ok(Cause::Json(found.told, place));
+    }
     let said = fault.to_string(alloc)?;
     let told = match said.as_str().split_once(" at line ") {
         Some((told, _)) => String::from_str(alloc, told)?,

@@ -9,4 +9,6 @@ pub enum Style {
     Json,
     /// One SARIF 2.1.0 log.
     Sarif,
+    /// A workflow command of GitHub a line.
+    Github,
 }

@@ -8,6 +8,6 @@ pub returns : goal.returns
 returns g c =
     IfOk-weaker c.joined.result _ _
     (λ v is. none_counted c.in_ok-of_rules.of_rules.items c.in_ok-of_members.of_members.items v.items
-    (counted (g.B.RuleBooks.rules c.args.self.now.books.now) c.args.self.now.asked.now c.args.self.now.kind (view c.args.value.now)) (denied c.args.self.now.asked.now.unknown c.args.self.now.kind (view c.args.value.now)) is
+    (counted (g.B.RuleBooks.rules c.args.self.now.books.now) c.args.self.now.asked.now c.args.self.now.kind (view c.args.value.now)) (denied c.args.self.now.asked.now c.args.self.now.kind (view c.args.value.now)) is
     c.in_ok-of_rules.ensures c.in_ok-of_members.ensures)
     c.joined.ensures

@@ -1,5 +1,4 @@
-use Rattle.std.proofs.Common.{◌≡◌, ◌++◌, ◌∷◌, [], rules, sym, ◌∙◌, append_assoc, ap, subst, arith, refl}
-use Rattle.std.specs.List.{filter}
+use Rattle.std.proofs.Common.{◌++◌, ◌∷◌, [], sym, ◌∙◌, append_assoc, ap}
 use Rattle.oci_findings.specs.Lines.{is_error, is_no_error}
 use Rattle.oci_findings.proofs.Facts.{sorted_more}
 use Rattle.oci_findings.proofs.report.Report.of_file.Goals as goal
