@@ -12,7 +12,7 @@ use Rattle.oci_findings.specs.Checks.{IsRight, IsWrong}
 use Rattle.oci_commands.specs.Compared.{HoldSame, HoldUnequal}
 use Rattle.oci_commands.specs.Formats.{Formats, HoldsPut, IsUnformatted, LosesNothing}
 use Rattle.oci_findings.specs.declared.style.Style.{Style}
-use Rattle.oci_findings.specs.declared.style.Style.TheVariants.{Text, Json, Sarif}
+use Rattle.oci_findings.specs.declared.style.Style.TheVariants.{Text, Json, Sarif, Github}
 use Rattle.oci_commands.specs.Refused.{IsNoReference, IsNoDigest, IsNoDescriptor, HasNone}
 use Rattle.oci_commands.specs.Texts.{IsReference, AreReferenceLines, AreDigestLines, IsFileLine, Joins}
 
@@ -29,6 +29,7 @@ abbrev pub WroteReferences : Style → List (Bor (List ℕ)) → Option (List �
 WroteReferences Text texts old new = AppendsEach AreReferenceLines texts old new
 WroteReferences Json texts old new = All (λ t. IsReference t.now) texts
 WroteReferences Sarif texts old new = AppendsEach AreReferenceLines texts old new
+WroteReferences Github texts old new = AppendsEach AreReferenceLines texts old new
 
 -- after status 0, where `books` are the rules of the specifications by kinds, `holds` are the bytes of files, and `old` and `new` is what was written before and after, where they are known
 abbrev pub IsDone : (Kind → List Rule) → (List ℕ → Option (List ℕ)) → Option (List ℕ) → Option (List ℕ) → Asked → Type 0

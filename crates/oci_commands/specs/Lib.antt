@@ -1,6 +1,8 @@
 pub mod Compared
 pub mod Done
 pub mod Formats
+pub mod Laws
+pub mod Layouts
 pub mod LeftOut
 pub mod Refused
 pub mod Texts

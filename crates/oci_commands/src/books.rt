@@ -7,7 +7,20 @@ use std::alloc::{AllocError, Global};
 /// How many platforms there are.
 const PLATFORMS: usize = 6;
 
-/// The rules of a kind of documents: a line for each, with its name, level and section, and what it wants.
+/// What the rules hold to.
+pub trait Versions {
+    /// The specifications of the rules, with their versions, on one line.
+    fn versions(&self) -> &'static str;
+}
+
+/// What was last written of a rule: what it wants, and the line of a place.
+#[derive(Drop)]
+struct Last<'a> {
+    wanted: &'a str,
+    line: String,
+}
+
+/// The rules of a kind of documents: a line for each thing that one wants, with the rule's name, level and section.
 pub fn rules_of_kind<B: RuleBooks>(
     books: &B,
     kind: Kind,
@@ -15,35 +28,47 @@ pub fn rules_of_kind<B: RuleBooks>(
 ) -> Result<String, AllocError> {
     let mut text = String::from_str(alloc, kind.title())?;
     text.push_str("\n")?;
-    let mut told = Vec::new(alloc);
+    let mut there = Vec::new(alloc);
     for book in books.books_of(kind, alloc)? {
-        push_new_rules(&mut text, &mut told, book, alloc)?;
+        push_new_rules(&mut text, &mut there, book, alloc)?;
     }
     Ok(text)
 }
 
-/// Adds the rules of a book whose names are new.
+/// Adds the rules of a book, but for those that are there: those of the same name that want the same.
 fn push_new_rules<'a>(
     text: &mut String,
-    told: &mut Vec<&'a str>,
-    book: &[Rule<'a>],
+    there: &mut Vec<&'a Rule<'a>>,
+    book: &'a [Rule<'a>],
     alloc: Global,
 ) -> Result<(), AllocError> {
     for rule in book {
-        if !told.contains(&rule.name) {
-            told.push(rule.name)?;
+        if !is_there(there, rule) {
+            there.push(rule)?;
             push_rule(text, rule, alloc)?;
         }
     }
     Ok(())
 }
 
-/// The rules of all kinds.
-pub fn all_rules<B: RuleBooks>(books: &B, alloc: Global) -> Result<String, AllocError> {
+fn is_there(there: &Vec<&Rule<'_>>, rule: &Rule<'_>) -> bool {
+    for other in there {
+        if other.name == rule.name && other.wanted == rule.wanted {
+            return true;
+        }
+    }
+    false
+}
+
+/// The rules of all kinds, and in the last line the versions of the specifications that they hold to.
+pub fn all_rules<B: RuleBooks + Versions>(books: &B, alloc: Global) -> Result<String, AllocError> {
     let mut text = String::new(alloc);
     for kind in &KINDS {
         push_rules(&mut text, books, *kind, alloc)?;
     }
+    text.push_str("\n")?;
+    text.push_str(books.versions())?;
+    text.push_str("\n")?;
     Ok(text)
 }
 
@@ -68,7 +93,7 @@ fn push_rule(text: &mut String, rule: &Rule<'_>, alloc: Global) -> Result<(), Al
     text.push_str(row.as_str())
 }
 
-/// The rules of a name, each with the places at which it is asked; none if there is no such rule.
+/// The rules of a name, each thing that they want with the places at which it is; none if there is no such rule.
 pub fn rules_of_name<B: RuleBooks>(
     books: &B,
     name: &str,
@@ -88,7 +113,10 @@ fn add_of_kind<B: RuleBooks>(
     text: &mut String,
     alloc: Global,
 ) -> Result<(), AllocError> {
-    let mut last = String::new(alloc);
+    let mut last = Last {
+        wanted: "",
+        line: String::new(alloc),
+    };
     for book in books.books_of(kind, alloc)? {
         for rule in book {
             if rule.name == name {
@@ -99,34 +127,30 @@ fn add_of_kind<B: RuleBooks>(
     Ok(())
 }
 
-/// Adds the place of a rule, unless it is the last one again. Before the first, the kind and the rule are written.
-fn add_place(
-    rule: &Rule<'_>,
+/// Adds the place of a rule, unless it is the last one again. The kind is written before the first, and the rule before the places of each
+/// thing that it wants.
+fn add_place<'a>(
+    rule: &Rule<'a>,
     kind: Kind,
-    last: &mut String,
+    last: &mut Last<'a>,
     text: &mut String,
     alloc: Global,
 ) -> Result<(), AllocError> {
-    if last.is_empty() {
-        push_head(text, rule, kind, alloc)?;
+    if last.line.is_empty() {
+        text.push_str(kind.title())?;
+        text.push_str("\n")?;
+    }
+    let wants_other = rule.wanted != last.wanted;
+    if wants_other {
+        push_rule(text, rule, alloc)?;
+        last.wanted = rule.wanted;
     }
     let line = place_line(rule, alloc)?;
-    if line != *last {
+    if wants_other || line != last.line {
         text.push_str(line.as_str())?;
-        *last = line;
+        last.line = line;
     }
     Ok(())
-}
-
-fn push_head(
-    text: &mut String,
-    rule: &Rule<'_>,
-    kind: Kind,
-    alloc: Global,
-) -> Result<(), AllocError> {
-    text.push_str(kind.title())?;
-    text.push_str("\n")?;
-    push_rule(text, rule, alloc)
 }
 
 /// The line of a rule's place, and of the platforms that it is for, unless it is for all of them.

@@ -30,6 +30,9 @@ use serde_json::Value;
 use std::alloc::Global;
 use std::io::Write;
 
+/// What is said of a file that is not its canonical form.
+const NOT_CANONICAL: &str = "not canonical";
+
 /// Why no file was written.
 const NOT_WRITTEN: &str =
     "not written, since the members above would be lost; --drop-unknown leaves them out";
@@ -168,6 +171,7 @@ impl<'a> Formatting<'a> {
         writer: &mut W,
         errors: &mut E,
     ) -> Result<u8>
+        requires held { IfSome (S.holds store.old self.now.asked.now.file.now) (λ b. b ≡ self.now.bytes.now) }
         ensures status { IfOk result IsStatus }
         ensures untouched { self.now.asked.now.check ≡ true → Keeps (W.contents writer.old) (W.contents writer.new) × (S.holds store.new ≡ S.holds store.old) }
         ensures canonical { IfOk result (λ s. s ≡ 0 → self.now.asked.now.check ≡ true → Formats self.now.asked.now.kind self.now.asked.now.file.now self.now.asked.now.pretty (Some self.now.bytes.now) (λ t. t ≡ self.now.bytes.now)) }
@@ -239,7 +243,8 @@ impl<'a> Formatting<'a> {
         writer: &mut W,
         errors: &mut E,
     ) -> Result<u8>
-        requires { IfSome found.text (λ t. IsForm self.now.asked.now.pretty found.kind self.now.bytes.now t.items) }
+        requires form { IfSome found.text (λ t. IsForm self.now.asked.now.pretty found.kind self.now.bytes.now t.items) }
+        requires held { IfSome (S.holds store.old self.now.asked.now.file.now) (λ b. b ≡ self.now.bytes.now) }
         ensures status { IfOk result IsStatus }
         ensures untouched { self.now.asked.now.check ≡ true → Keeps (W.contents writer.old) (W.contents writer.new) × (S.holds store.new ≡ S.holds store.old) }
         ensures canonical { IfOk result (λ s. s ≡ 0 → self.now.asked.now.check ≡ true → FormatsAs found.kind self.now.asked.now.pretty (Some self.now.bytes.now) (λ t. t ≡ self.now.bytes.now)) }
@@ -301,6 +306,7 @@ impl<'a> Formatting<'a> {
         writer: &mut W,
         errors: &mut E,
     ) -> Result<u8>
+        requires held { IfSome (S.holds store.old self.now.asked.now.file.now) (λ b. b ≡ self.now.bytes.now) }
         ensures status { IfOk result IsStatus }
         ensures untouched { self.now.asked.now.check ≡ true → Keeps (W.contents writer.old) (W.contents writer.new) × (S.holds store.new ≡ S.holds store.old) }
         ensures same { IfOk result (λ s. s ≡ 0 → self.now.asked.now.check ≡ true → text.now ≡ self.now.bytes.now) }
@@ -378,6 +384,21 @@ impl<'a> Formatting<'a> {
         Ok(())
     }
 
+    /// Compares the file with the text, and says on standard error that it is another one. Returns the status.
+    fn compare<E: Write>(&self, text: &[u8], errors: &mut E) -> u8
+        ensures status { IsStatus result }
+        ensures same { result ≡ 0 → text.now ≡ self.now.bytes.now }
+        ensures differs { result ≡ 1 → text.now ≢ self.now.bytes.now }
+    {
+        if text == self.bytes {
+            return 0;
+        }
+        if !self.asked.quiet {
+            complain_of(self.asked.file, &NOT_CANONICAL, self.alloc, errors);
+        }
+        1
+    }
+
     /// Writes the text where it belongs, or compares it.
     fn put<S: Files, W: Write, E: Write>(
         &self,
@@ -386,6 +407,7 @@ impl<'a> Formatting<'a> {
         writer: &mut W,
         errors: &mut E,
     ) -> Result<u8>
+        requires held { IfSome (S.holds store.old self.now.asked.now.file.now) (λ b. b ≡ self.now.bytes.now) }
         ensures status { IfOk result IsStatus }
         ensures untouched { self.now.asked.now.check ≡ true → Keeps (W.contents writer.old) (W.contents writer.new) × (S.holds store.new ≡ S.holds store.old) }
         ensures same { IfOk result (λ s. s ≡ 0 → self.now.asked.now.check ≡ true → text.now ≡ self.now.bytes.now) }
@@ -394,12 +416,15 @@ impl<'a> Formatting<'a> {
         ensures differs { IfOk result (λ s. s ≡ 1 → (self.now.asked.now.check ≡ true) × (text.now ≢ self.now.bytes.now)) }
     {
         if self.asked.check {
-            return Ok(if text == self.bytes { 0 } else { 1 });
+            return Ok(self.compare(text, errors));
         }
         let Some(output) = self.asked.output else {
             write_text(text, writer)?;
             return Ok(0);
         };
+        if output == self.asked.file && text == self.bytes {
+            return Ok(0);
+        }
         match store.replace(self.alloc, output, text) {
             Ok(()) => Ok(0),
             Err(fault) => {

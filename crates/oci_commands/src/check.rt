@@ -164,6 +164,7 @@ impl<'a, B: RuleBooks> Checking<'a, B> {
             Err(fault) => {
                 tally.unread = true;
                 complain_of(name, &fault, self.alloc, state.errors);
+                state.reporter.note_unread(name, &fault)?;
                 Ok(())
             }
         }

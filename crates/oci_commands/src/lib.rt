@@ -8,6 +8,7 @@ pub mod check;
 pub mod compare;
 pub mod contents;
 pub mod files;
+pub mod laws;
 pub mod left_out;
 pub mod outline;
 pub mod program;
@@ -16,6 +17,7 @@ pub mod texts;
 pub mod verify;
 
 pub use asked::{Asked, Check, Compare, Format, Style, Tree, Unknown};
+pub use books::Versions;
 pub use files::{Files, Presence};
 pub use oci_findings::RuleBooks;
 pub use program::run;

@@ -9,7 +9,7 @@ use oci_base::Result;
 use oci_findings::inspect::kind_of;
 use oci_findings::outline::{Child, below, children_of, has_tree, heading, push_row};
 use oci_json::write_text;
-use oci_layout::{DOCUMENT_LIMIT, Kind as ContentKind, blob_path, read_document};
+use oci_layout::{DOCUMENT_LIMIT, Fault, Kind as ContentKind, blob_path, read_document};
 use oci_schemas::Kind;
 use oci_text::Digest;
 use serde_json::Value;
@@ -185,12 +185,20 @@ fn draw_document(
     alloc: Global,
     text: &mut String,
 ) -> Result<bool> {
-    if read_document(alloc, kind, bytes)?.fault.is_some() {
+    if !is_document(read_document(alloc, kind, bytes)?.fault) {
         return draw_marked(row, " (no document of its media type)", alloc, text);
     }
     let value = Value::from_slice(alloc, bytes)?;
     push_inner(row, &value, rows, alloc)?;
     draw_marked(row, "", alloc, text)
+}
+
+/// Whether a document is one of its media type, whatever its descriptors hold themselves.
+fn is_document(fault: Option<Fault>) -> bool {
+    match fault {
+        None | Some(Fault::Embedded) => true,
+        Some(_) => false,
+    }
 }
 
 /// Draws a row with a mark, and returns whether there is none.

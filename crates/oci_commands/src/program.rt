@@ -4,6 +4,7 @@ ghost use Rattle.std.specs.Io.KnownBytes.{Keeps};
 ghost use Rattle.oci_commands.specs.Done.{IsStatus, IsDone, IsRejected, IsSilent, IsPut};
 
 use crate::asked::Asked;
+use crate::books::Versions;
 use crate::canonical::format;
 use crate::check::check;
 use crate::compare::compare;
@@ -20,7 +21,7 @@ use std::io::Write;
 
 /// Runs a command, and returns the exit status: 0 if it was done and nothing is wrong, 1 if something is wrong with the input, and 3 if
 /// a file could not be read or written, or out of memory. A failed write to standard error changes nothing.
-pub fn run<S: Files, B: RuleBooks, W: Write, E: Write>(
+pub fn run<S: Files, B: RuleBooks + Versions, W: Write, E: Write>(
     books: &B,
     asked: &Asked<'_>,
     alloc: Global,
@@ -43,7 +44,7 @@ pub fn run<S: Files, B: RuleBooks, W: Write, E: Write>(
     }
 }
 
-fn perform<S: Files, B: RuleBooks, W: Write, E: Write>(
+fn perform<S: Files, B: RuleBooks + Versions, W: Write, E: Write>(
     books: &B,
     asked: &Asked<'_>,
     alloc: Global,

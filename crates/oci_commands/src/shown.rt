@@ -2,7 +2,7 @@
 ghost use Rattle.std.specs.Prelude.{IfOk};
 ghost use Rattle.oci_commands.specs.Done.{IsStatus};
 
-use crate::books::{all_rules, rules_of_kind, rules_of_name};
+use crate::books::{Versions, all_rules, rules_of_kind, rules_of_name};
 use crate::texts::complain_of;
 use oci_base::Result;
 use oci_findings::table::table_of;
@@ -12,9 +12,9 @@ use oci_schemas::Kind;
 use std::alloc::{AllocError, Global};
 use std::io::Write;
 
-/// Writes the rules of all kinds of documents, or those of a kind, or a rule, by its name. Returns 0 if that was done, and 1 if there is
+/// Writes the rules of all kinds of documents and the versions that they hold to, or those of a kind, or a rule, by its name. Returns 0 if that was done, and 1 if there is
 /// no such kind and no such rule.
-pub fn rules<B: RuleBooks, W: Write, E: Write>(
+pub fn rules<B: RuleBooks + Versions, W: Write, E: Write>(
     books: &B,
     name: Option<&str>,
     alloc: Global,
@@ -37,7 +37,7 @@ pub fn rules<B: RuleBooks, W: Write, E: Write>(
 }
 
 /// The rules of all kinds, or of the kind or rule of this name; none if there is no such.
-fn text_of<B: RuleBooks>(
+fn text_of<B: RuleBooks + Versions>(
     books: &B,
     name: Option<&str>,
     alloc: Global,

@@ -99,7 +99,9 @@ pub fn references<W: Write, E: Write>(
 {
     match style {
         Style::Json => reference_objects(texts, alloc, writer, errors),
-        Style::Text | Style::Sarif => reference_lines(texts, alloc, writer, errors),
+        Style::Text | Style::Sarif | Style::Github => {
+            reference_lines(texts, alloc, writer, errors)
+        }
     }
 }
 

@@ -1,5 +1,5 @@
 //! The file `oci-layout`, which marks a folder as an image layout.
-ghost use Rattle.std.specs.Prelude.{◌≡◌, false, IfOk, IsTrue};
+ghost use Rattle.std.specs.Prelude.{◌≡◌, ◌↔◌, false, IfOk, IsTrue};
 ghost use Rattle.serde_json.specs.View.{view};
 ghost use Rattle.oci_shapes.specs.OciLayout.{oci_layout as oci_layout_shape};
 ghost use Rattle.oci_layout.specs.Documents.{IsValid};
@@ -29,7 +29,7 @@ pub struct Marked {
 /// What is wrong with the marker: that it is missing, that it is no document of its kind, or that its version is not 1.0.0 (image
 /// specification, "Image Layout", "oci-layout file"). Fails if out of memory.
 pub fn marker_report(marker: Top, alloc: Global) -> Result<Marked, AllocError>
-    ensures { IfOk result (λ m. IsTrue m.is_right → IsMarkerIn marker) }
+    ensures { IfOk result (λ m. IsTrue m.is_right ↔ IsMarkerIn marker) }
 {
     match marker {
         Top::Missing => wrong(FileFault::Missing(Absence::Wrong), alloc),
@@ -74,7 +74,7 @@ struct Looked<'a> {
 }
 
 fn look_at<'a>(bytes: &[u8], alloc: Global) -> Result<Looked<'a>, AllocError>
-    ensures { IfOk result (λ l. IsTrue l.is_right → IsMarker bytes.now) }
+    ensures { IfOk result (λ l. IsTrue l.is_right ↔ IsMarker bytes.now) }
 {
     match Value::from_slice(alloc, bytes) {
         Ok(value) => look_at_value(&value, alloc),
@@ -97,8 +97,7 @@ fn look_at<'a>(bytes: &[u8], alloc: Global) -> Result<Looked<'a>, AllocError>
 }
 
 fn look_at_value<'a>(value: &Value, alloc: Global) -> Result<Looked<'a>, AllocError>
-    ensures valid { IfOk result (λ l. IsTrue l.is_right → IsValid oci_layout_shape (view value.now)) }
-    ensures version { IfOk result (λ l. IsTrue l.is_right → IsVersionOne (view value.now)) }
+    ensures { IfOk result (λ l. IsTrue l.is_right ↔ (IsValid oci_layout_shape (view value.now) × IsVersionOne (view value.now))) }
 {
     let listed = violations(&OciRecords, oci_layout(), value, alloc)?;
     let mut found = violation_findings(&listed, value, alloc)?;
@@ -116,7 +115,7 @@ fn look_at_value<'a>(value: &Value, alloc: Global) -> Result<Looked<'a>, AllocEr
 }
 
 fn is_version_one(value: &Value) -> bool
-    ensures { IsTrue result → IsVersionOne (view value.now) }
+    ensures { IsTrue result ↔ IsVersionOne (view value.now) }
 {
     match value.get("imageLayoutVersion") {
         Some(version) => match version.as_str() {

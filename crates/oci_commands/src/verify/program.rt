@@ -1,24 +1,26 @@
 //! The whole of a verification.
-ghost use Rattle.std.specs.Prelude.{◌≡◌, ◌⊎◌, ◌<◌, false, codes, length, IsTrue, IfOk, string_bytes};
+ghost use Rattle.std.specs.Prelude.{◌≡◌, ◌⊎◌, ◌↔◌, ◌<◌, true, false, codes, length, None, IsTrue, IfOk, IfSome, string_bytes};
+ghost use Rattle.std.specs.BTreeSet.{contains_text};
 ghost use Rattle.oci_base.specs.Escaped.{IsLine};
-ghost use Rattle.oci_layout.specs.Marker.{IsMarked};
-ghost use Rattle.oci_layout.specs.Sound.{IsSoundLayout, IsSoundIndex, IsSoundFrom, IsFileOf};
-ghost use Rattle.oci_layout.specs.Looks.{Contents};
+ghost use Rattle.oci_commands.specs.Layouts.{ArePathsOf, IsAnswer, IsFoundRight, IsJudged, IsJudgedIndex, IsQuiet, IsRightIndex, IsRightLayout, OverSteady};
+ghost use Rattle.oci_layout.specs.Marker.{HasMarker, IsMarked};
+ghost use Rattle.oci_layout.specs.Sound.{IsLarger, IsSoundIndex, IsSoundLayout};
 ghost use Rattle.oci_layout.specs.Walk.{IsWalk};
 
 use crate::verify::marker::{Marked, marker_report};
 use crate::verify::options::Options;
 use crate::verify::output::Output;
 use crate::verify::progress::{Progress, Watch};
-use crate::verify::unreferenced::{listed_finding, paths_of};
+use crate::verify::unreferenced::{are_reached, are_whole, listed_finding, paths_of};
 use oci_base::{OciSpecError, Result, line_of};
 use oci_findings::{Claims, FileFault, Report, Reporter, content_report, document_findings};
 use oci_json::write_text;
 use oci_layout::{
-    Claim, Detail, Fault, ImageLayout, Kind, Layout, Seen, Shown, Top, Walk, blob_path,
-    is_sound_walk, read_document, read_top, walk_all,
+    Claim, Detail, Fault, ImageLayout, Kind, Layout, Listed, Seen, Shown, Top, Walk, are_found,
+    blob_path, is_sound_walk, read_document, read_top, walk_all,
 };
 use std::alloc::{AllocError, Global};
+use std::collections::BTreeSet;
 use std::io::{ErrorKind, Write};
 
 /// How many bytes are read at once.
@@ -27,6 +29,9 @@ const PIECE: usize = 65536;
 /// Verifies all that the index of a layout reaches, reports what it finds, and returns the exit status: 0 if nothing stands against the
 /// layout, 1 if something does, and 3 if it has no index that can be read, if a write failed, or if out of memory. A line on the
 /// standard error then says which, but where the reader of what is written has gone away.
+///
+/// Of a layout whose reads cannot fail, as one in memory, 0 says that it is right, and 1 that it is not: its marker, its index, what the
+/// index reaches, and, where notes count, that all of it is there and reached. Of a quick look nothing is said.
 pub fn run<L: ImageLayout, C: Watch, W: Write, E: Write>(
     layout: &L,
     options: &Options,
@@ -37,6 +42,10 @@ pub fn run<L: ImageLayout, C: Watch, W: Write, E: Write>(
 ) -> u8
     ensures status { (result ≡ 0) ⊎ ((result ≡ 1) ⊎ (result ≡ 3)) }
     ensures sound { result ≡ 0 → options.now.quick ≡ false → IsSoundLayout options.now.limit (L.tops layout.now) (L.contents layout.now) }
+    ensures right { options.now.quick ≡ false → OverSteady (L.steady layout.now) (L.tops layout.now) (L.contents layout.now)
+        (λ tops contents. IsAnswer result (IsRightLayout options.now (L.names layout.now) tops contents)) }
+    ensures no_index { IfSome (L.tops layout.now) (λ tops. tops (codes "index.json") ≡ None → result ≡ 3) }
+    ensures too_large { IfSome (L.tops layout.now) (λ tops. IsLarger options.now.limit (tops (codes "index.json")) → (result ≡ 1) ⊎ (result ≡ 3)) }
 {
     let verification = Verification {
         layout,
@@ -45,13 +54,22 @@ pub fn run<L: ImageLayout, C: Watch, W: Write, E: Write>(
         watch,
     };
     match verification.verify(writer, errors) {
-        Ok(true) => 0,
-        Ok(false) => 1,
+        Ok(is_right) => status_of(is_right),
         Err(refusal) => {
             complain(&refusal, alloc, errors);
             3
         }
     }
+}
+
+/// The status of a verification that came to its end.
+fn status_of(is_right: bool) -> u8
+    ensures status { (result ≡ 0) ⊎ (result ≡ 1) }
+    ensures right { IsTrue is_right → result ≡ 0 }
+    ensures wrong { is_right ≡ false → result ≡ 1 }
+    ensures zero { result ≡ 0 → IsTrue is_right }
+{
+    if is_right { 0 } else { 1 }
 }
 
 /// Says why a verification ended before its end. Nothing is said of a reader that has gone away, as `head` does.
@@ -109,8 +127,13 @@ impl<'a, L, C> Drop for Verification<'a, L, C> {
 impl<'a, L: ImageLayout, C: Watch> Verification<'a, L, C> {
     /// Whether nothing stands against the layout; what does is reported.
     fn verify<W: Write, E: Write>(&self, writer: &mut W, errors: &mut E) -> Result<bool>
-        ensures { IfOk result (λ sound. IsTrue sound → self.now.options.now.quick ≡ false
+        ensures sound { IfOk result (λ right. IsTrue right → self.now.options.now.quick ≡ false
             → IsSoundLayout self.now.options.now.limit (L.tops self.now.layout.now) (L.contents self.now.layout.now)) }
+        ensures right { IfOk result (λ right. self.now.options.now.quick ≡ false
+            → OverSteady (L.steady self.now.layout.now) (L.tops self.now.layout.now) (L.contents self.now.layout.now)
+            (λ tops contents. IsTrue right ↔ IsRightLayout self.now.options.now (L.names self.now.layout.now) tops contents)) }
+        ensures index { IfOk result (λ right. IfSome (L.tops self.now.layout.now) (λ tops. ¬ (tops (codes "index.json") ≡ None))) }
+        ensures large { IfOk result (λ right. IfSome (L.tops self.now.layout.now) (λ tops. IsLarger self.now.options.now.limit (tops (codes "index.json")) → right ≡ false)) }
     {
         let mut buffer = vec![in self.alloc; 0u8; PIECE]?;
         let buffer = buffer.as_mut_slice();
@@ -122,8 +145,8 @@ impl<'a, L: ImageLayout, C: Watch> Verification<'a, L, C> {
             errors,
         };
         let is_marked = self.report_marker(buffer, &mut output)?;
-        let is_sound = self.verify_contents(buffer, &mut output)?;
-        Ok(is_marked && is_sound)
+        let is_right = self.verify_contents(buffer, &mut output)?;
+        Ok(are_both(is_marked, is_right))
     }
 
     /// The same of all that the index reaches.
@@ -133,8 +156,13 @@ impl<'a, L: ImageLayout, C: Watch> Verification<'a, L, C> {
         output: &mut Output<'_, W, E>,
     ) -> Result<bool>
         requires { 0 < length buffer.old }
-        ensures { IfOk result (λ sound. IsTrue sound → self.now.options.now.quick ≡ false
+        ensures sound { IfOk result (λ right. IsTrue right → self.now.options.now.quick ≡ false
             → IsSoundIndex self.now.options.now.limit (L.tops self.now.layout.now) (L.contents self.now.layout.now)) }
+        ensures right { IfOk result (λ right. self.now.options.now.quick ≡ false
+            → OverSteady (L.steady self.now.layout.now) (L.tops self.now.layout.now) (L.contents self.now.layout.now)
+            (λ tops contents. IsTrue right ↔ IsRightIndex self.now.options.now (L.names self.now.layout.now) tops contents)) }
+        ensures index { IfOk result (λ right. IfSome (L.tops self.now.layout.now) (λ tops. ¬ (tops (codes "index.json") ≡ None))) }
+        ensures large { IfOk result (λ right. IfSome (L.tops self.now.layout.now) (λ tops. IsLarger self.now.options.now.limit (tops (codes "index.json")) → right ≡ false)) }
     {
         match read_top(
             self.layout,
@@ -152,32 +180,33 @@ impl<'a, L: ImageLayout, C: Watch> Verification<'a, L, C> {
                 output.finish(0, 0)?;
                 Ok(false)
             }
-            Top::Missing => self.end_early("index.json: missing", output),
-            Top::Unreadable => self.end_early("index.json: cannot be read", output),
+            Top::Missing => Err(self.end_early("index.json: missing", output)),
+            Top::Unreadable => Err(self.end_early("index.json: cannot be read", output)),
         }
     }
 
-    /// Ends with what was found so far, since no index was read.
+    /// Ends with what was found so far, since no index was read, and returns why.
     fn end_early<W: Write, E: Write>(
         &self,
         text: &str,
         output: &mut Output<'_, W, E>,
-    ) -> Result<bool>
-        ensures { IfOk result (λ sound. sound ≡ false) }
-    {
-        output.finish(0, 0)?;
-        Err(no_index(text, self.alloc))
+    ) -> OciSpecError {
+        match output.finish(0, 0) {
+            Ok(()) => no_index(text, self.alloc),
+            Err(fault) => fault,
+        }
     }
 
     /// Reports what is wrong with `oci-layout`, and whether it is a marker of version 1.0.0.
-    #[tactic(auto, using(oci_layout::proofs::Findings::marked_by))]
     fn report_marker<W: Write, E: Write>(
         &self,
         buffer: &mut [u8],
         output: &mut Output<'_, W, E>,
     ) -> Result<bool>
         requires { 0 < length buffer.old }
-        ensures { IfOk result (λ right. IsTrue right → IsMarked (L.tops self.now.layout.now)) }
+        ensures marked { IfOk result (λ right. IsTrue right → IsMarked self.now.options.now.limit (L.tops self.now.layout.now)) }
+        ensures right { IfOk result (λ right. OverSteady (L.steady self.now.layout.now) (L.tops self.now.layout.now) (L.contents self.now.layout.now)
+            (λ tops contents. IsTrue right ↔ HasMarker self.now.options.now.limit tops)) }
     {
         let marker = read_top(
             self.layout,
@@ -199,8 +228,7 @@ impl<'a, L: ImageLayout, C: Watch> Verification<'a, L, C> {
         output: &mut Output<'_, W, E>,
     ) -> Result<bool>
         requires { 0 < length buffer.old }
-        ensures { IfOk result (λ sound. IsTrue sound → self.now.options.now.quick ≡ false → (tops : Contents) → IsFileOf tops (codes "index.json") index.now
-            → IsSoundIndex self.now.options.now.limit tops (L.contents self.now.layout.now)) }
+        ensures { IfOk result (IsJudgedIndex self.now.options.now (L.steady self.now.layout.now) (L.names self.now.layout.now) (L.contents self.now.layout.now) index.now) }
     {
         output.progress = self.totals(index, buffer)?;
         let Seen {
@@ -233,8 +261,7 @@ impl<'a, L: ImageLayout, C: Watch> Verification<'a, L, C> {
         output: &mut Output<'_, W, E>,
     ) -> Result<bool>
         requires { 0 < length buffer.old }
-        ensures { IfOk result (λ sound. IsTrue sound
-            → IsSoundFrom self.now.options.now.quick self.now.options.now.limit (L.contents self.now.layout.now) fault first.items) }
+        ensures { IfOk result (IsJudged self.now.options.now (L.steady self.now.layout.now) (L.names self.now.layout.now) (L.contents self.now.layout.now) fault first.items) }
     {
         let shown = Layout {
             store: self.layout,
@@ -243,18 +270,46 @@ impl<'a, L: ImageLayout, C: Watch> Verification<'a, L, C> {
         };
         let walk = self.look_at_all(&shown, first, buffer, output)?;
         output.report_progress()?;
-        self.report_unreferenced(&walk, output)?;
+        let listed = self.layout.list(self.alloc)?;
+        let reached = paths_of(&walk, self.alloc)?;
+        self.report_unreferenced(listed.as_slice(), &reached, output)?;
         output.finish(walk.claims.len() as u64, bytes_of(&walk))?;
-        if is_sound_walk(fault, &walk) {
-            Ok(self.is_sound(&output.reporter))
-        } else {
-            Ok(false)
-        }
+        Ok(self.is_right(fault, &walk, listed.as_slice(), &reached))
     }
 
-    /// Whether nothing that was reported stands against the layout.
-    fn is_sound(&self, reporter: &Reporter) -> bool {
-        reporter.errors() == 0 && (reporter.others() == 0 || !self.options.strict)
+    /// Whether nothing that was found stands against the layout; where notes count, whether nothing is worth one.
+    fn is_right(
+        &self,
+        fault: Option<Fault>,
+        walk: &Walk,
+        listed: &[Listed],
+        reached: &BTreeSet<String>,
+    ) -> bool
+        requires { ArePathsOf walk.now.claims.items (contains_text reached.now) }
+        ensures { IsTrue result ↔ IsFoundRight self.now.options.now.strict fault walk.now.claims.items walk.now.faults.items listed.now }
+    {
+        if !is_sound_walk(fault, walk) {
+            return false;
+        }
+        if !are_whole(listed) {
+            return false;
+        }
+        self.is_quiet(walk, listed, reached)
+    }
+
+    /// Whether nothing is worth a note, where notes count.
+    fn is_quiet(&self, walk: &Walk, listed: &[Listed], reached: &BTreeSet<String>) -> bool
+        requires { ArePathsOf walk.now.claims.items (contains_text reached.now) }
+        ensures { IsTrue result ↔ (self.now.options.now.strict ≡ true → IsQuiet walk.now.claims.items walk.now.faults.items listed.now) }
+    {
+        let is_strict = self.options.strict;
+        if !is_strict {
+            return true;
+        }
+        are_both(
+            are_found(walk.faults.as_slice()),
+            are_reached(listed, reached),
+        )
     }
 
     /// Looks at all claims that are reached from the first ones, and reports what is found at each as it is found.
@@ -296,13 +351,13 @@ impl<'a, L: ImageLayout, C: Watch> Verification<'a, L, C> {
     /// Reports what lies in the layout, and nothing that is reached refers to it.
     fn report_unreferenced<W: Write, E: Write>(
         &self,
-        walk: &Walk,
+        listed: &[Listed],
+        reached: &BTreeSet<String>,
         output: &mut Output<'_, W, E>,
     ) -> Result<()> {
-        let reached = paths_of(walk, self.alloc)?;
-        for listed in self.layout.list(self.alloc)? {
-            if let Some(finding) = listed_finding(&listed, &reached, self.alloc) {
-                output.add_finding(listed.path.as_str(), finding)?;
+        for one in listed {
+            if let Some(finding) = listed_finding(one, reached, self.alloc) {
+                output.add_finding(one.path.as_str(), finding)?;
             }
         }
         Ok(())
@@ -325,6 +380,13 @@ impl<'a, L: ImageLayout, C: Watch> Verification<'a, L, C> {
         let (contents, bytes) = (walk.claims.len() as u64, bytes_of(&walk));
         Ok(Some(Progress::of(contents, bytes)))
     }
+}
+
+/// Whether both are so.
+fn are_both(first: bool, second: bool) -> bool
+    ensures { IsTrue result ↔ (IsTrue first × IsTrue second) }
+{
+    first && second
 }
 
 /// The sum of the sizes that are said.

@@ -1,23 +1,82 @@
-use Rattle.std.proofs.Common.{◌≡◌, ◌∙◌, false, sym, subst, true≢false, Result}
-use Rattle.std.proofs.lemmas.Result.{IfOk-weaker}
-use Rattle.std.specs.Prelude.{codes, Bool, IfOk, IsTrue}
-use Rattle.oci_layout.specs.Sound.{IsFileOf, IsTop}
-use Rattle.oci_layout.proofs.Findings.{of_top}
+use Rattle.std.proofs.Common.{◌≡◌, false, refl, subst, IfOk}
+use Rattle.std.specs.Prelude.{codes}
+use Rattle.oci_layout.specs.Sound.{IsLarger, IsTop}
+use Rattle.oci_commands.specs.Layouts.{IsJudgedIndex}
+use Rattle.oci_commands.proofs.Layouts.{any_ok, any_wrong, contents_sound, contents_right, not_missing, not_large, large_there, large_index, in_any_case}
 use Rattle.oci_commands.proofs.verify.program.Verification.verify_contents.Goals as goal
 
--- what is never sound is nothing to answer for
-unsound : {E : Type 0} (r : Result Bool E) (Q : Type 0) → IfOk r (λ sound. sound ≡ false) → IfOk r (λ sound. IsTrue sound → Q)
-unsound r Q ends = IfOk-weaker r (λ sound. sound ≡ false) (λ sound. IsTrue sound → Q) (λ sound is holds. absurd (true≢false (sym holds ∙ is))) ends
+pub returns-in-Bytes-clause-sound : goal.returns-in-Bytes-clause-sound
+returns-in-Bytes-clause-sound g c =
+    let layout = c.args.self.now.layout.now in
+    let options = c.args.self.now.options.now in
+    let steady = g.L.Store.steady layout in
+    let names = g.L.ImageLayout.names layout in
+    let tops = g.L.ImageLayout.tops layout in
+    let contents = g.L.Store.contents layout in
+    let top = subst (IsTop options.limit steady tops (codes "index.json")) c.in-Bytes.is c.in_ok-index.ensures in
+    let found = subst (λ l. IfOk c.verify_index.result (IsJudgedIndex options steady names contents l)) c.as_slice-index.ensures.value c.verify_index.ensures in
+    contents_sound options steady names tops contents c.in-Bytes.index c.verify_index.result top found
 
-pub returns-in-Bytes : goal.returns-in-Bytes
-returns-in-Bytes g c =
-    let tops = g.L.ImageLayout.tops c.args.self.now.layout.now in
-    of_top c.args.self.now.options.now.limit c.args.self.now.options.now.quick tops (g.L.Store.contents c.args.self.now.layout.now) c.as_slice-index.result.now c.verify_index.result
-    (subst (IsFileOf tops (codes "index.json")) (sym c.as_slice-index.ensures.value) (subst (IsTop c.args.self.now.options.now.limit tops (codes "index.json")) c.in-Bytes.is c.in_ok-index.ensures))
-    c.verify_index.ensures
+pub returns-in-Bytes-clause-right : goal.returns-in-Bytes-clause-right
+returns-in-Bytes-clause-right g c =
+    let layout = c.args.self.now.layout.now in
+    let options = c.args.self.now.options.now in
+    let steady = g.L.Store.steady layout in
+    let names = g.L.ImageLayout.names layout in
+    let tops = g.L.ImageLayout.tops layout in
+    let contents = g.L.Store.contents layout in
+    let top = subst (IsTop options.limit steady tops (codes "index.json")) c.in-Bytes.is c.in_ok-index.ensures in
+    let found = subst (λ l. IfOk c.verify_index.result (IsJudgedIndex options steady names contents l)) c.as_slice-index.ensures.value c.verify_index.ensures in
+    contents_right options steady names tops contents c.in-Bytes.index c.verify_index.result top found
 
-pub returns-in-Missing : goal.returns-in-Missing
-returns-in-Missing g c = unsound c.end_early.result _ c.end_early.ensures
+pub returns-in-Bytes-clause-index : goal.returns-in-Bytes-clause-index
+returns-in-Bytes-clause-index g c =
+    let layout = c.args.self.now.layout.now in
+    let options = c.args.self.now.options.now in
+    let steady = g.L.Store.steady layout in
+    let names = g.L.ImageLayout.names layout in
+    let tops = g.L.ImageLayout.tops layout in
+    let contents = g.L.Store.contents layout in
+    let top = subst (IsTop options.limit steady tops (codes "index.json")) c.in-Bytes.is c.in_ok-index.ensures in
+    any_ok c.verify_index.result _ (not_missing options.limit steady tops c.in-Bytes.index top)
 
-pub returns-in-Unreadable : goal.returns-in-Unreadable
-returns-in-Unreadable g c = unsound c.end_early-in-Unreadable.result _ c.end_early-in-Unreadable.ensures
+pub returns-in-Bytes-clause-large : goal.returns-in-Bytes-clause-large
+returns-in-Bytes-clause-large g c =
+    let layout = c.args.self.now.layout.now in
+    let options = c.args.self.now.options.now in
+    let steady = g.L.Store.steady layout in
+    let names = g.L.ImageLayout.names layout in
+    let tops = g.L.ImageLayout.tops layout in
+    let contents = g.L.Store.contents layout in
+    let top = subst (IsTop options.limit steady tops (codes "index.json")) c.in-Bytes.is c.in_ok-index.ensures in
+    any_wrong c.verify_index.result tops (λ t. IsLarger options.limit (t (codes "index.json"))) (not_large options.limit steady tops c.in-Bytes.index top)
+
+pub returns-in_ok-finish-in-TooLarge-clause-right : goal.returns-in_ok-finish-in-TooLarge-clause-right
+returns-in_ok-finish-in-TooLarge-clause-right g c = λ full.
+    let layout = c.args.self.now.layout.now in
+    let options = c.args.self.now.options.now in
+    let steady = g.L.Store.steady layout in
+    let names = g.L.ImageLayout.names layout in
+    let tops = g.L.ImageLayout.tops layout in
+    let contents = g.L.Store.contents layout in
+    large_index options steady names tops contents (subst (IsTop options.limit steady tops (codes "index.json")) c.in-TooLarge.is c.in_ok-index.ensures)
+
+pub returns-in_ok-finish-in-TooLarge-clause-index : goal.returns-in_ok-finish-in-TooLarge-clause-index
+returns-in_ok-finish-in-TooLarge-clause-index g c =
+    let layout = c.args.self.now.layout.now in
+    let options = c.args.self.now.options.now in
+    let steady = g.L.Store.steady layout in
+    let names = g.L.ImageLayout.names layout in
+    let tops = g.L.ImageLayout.tops layout in
+    let contents = g.L.Store.contents layout in
+    large_there options.limit steady tops (subst (IsTop options.limit steady tops (codes "index.json")) c.in-TooLarge.is c.in_ok-index.ensures)
+
+pub returns-in_ok-finish-in-TooLarge-clause-large : goal.returns-in_ok-finish-in-TooLarge-clause-large
+returns-in_ok-finish-in-TooLarge-clause-large g c =
+    let layout = c.args.self.now.layout.now in
+    let options = c.args.self.now.options.now in
+    let steady = g.L.Store.steady layout in
+    let names = g.L.ImageLayout.names layout in
+    let tops = g.L.ImageLayout.tops layout in
+    let contents = g.L.Store.contents layout in
+    in_any_case tops (λ t. IsLarger options.limit (t (codes "index.json"))) (false ≡ false) refl
