@@ -8,16 +8,42 @@ use std::os::unix::fs::{MetadataExt, OpenOptionsExt, chown};
 use std::random::RandomSource;
 use std::{fs, io};
 
+/// What cannot be read, by the name under which it is shown, and why.
+#[derive(Drop)]
+pub struct Unreadable {
+    pub name: String,
+    pub why: &'static str,
+}
+
 /// The files of the system, and standard input under the name `-`.
 #[derive(Drop)]
 pub struct SystemFiles<'a> {
     rt: &'a HostRuntime,
+    unreadable: &'a [Unreadable],
 }
 
 impl<'a> SystemFiles<'a> {
     /// The files that a program reaches.
     pub fn new(rt: &'a HostRuntime) -> SystemFiles<'a> {
-        SystemFiles { rt }
+        SystemFiles {
+            rt,
+            unreadable: &[],
+        }
+    }
+
+    /// The same, but for what is known to be unreadable.
+    pub fn without(rt: &'a HostRuntime, unreadable: &'a [Unreadable]) -> SystemFiles<'a> {
+        SystemFiles { rt, unreadable }
+    }
+
+    /// Fails if something of this name is known to be unreadable.
+    fn refuse(&self, name: &str) -> io::Result<()> {
+        for it in self.unreadable {
+            if it.name.as_str() == name {
+                return Err(Error::new(ErrorKind::InvalidFilename, it.why));
+            }
+        }
+        Ok(())
     }
 }
 
@@ -27,6 +53,7 @@ const PIECE: usize = 16384;
 impl Files for SystemFiles<'_> {
     fn read(&mut self, alloc: Global, name: &str) -> io::Result<Vec<u8>> {
         let mut bytes = Vec::new(alloc);
+        self.refuse(name)?;
         if name == "-" {
             self.rt.stdin().read_to_end(&mut bytes)?;
         } else {
@@ -61,8 +88,8 @@ impl Files for SystemFiles<'_> {
         }
     }
 
-    /// A regular file is replaced by renaming a new one, which has its mode, and its owner as far as the system allows; a link is
-    /// followed. What is there and is no regular file, such as a device, is written.
+    /// A regular file is replaced by renaming a new one, which has its mode, owner and group, and nothing is written where these
+    /// cannot be kept; a link is followed. What is there and is no regular file, such as a device, is written.
     fn replace(&mut self, alloc: Global, name: &str, bytes: &[u8]) -> io::Result<()> {
         match fs::metadata(self.rt, name) {
             Ok(found) if found.is_file() => {
@@ -127,7 +154,7 @@ fn open_new(rt: &HostRuntime, name: &str, like: Option<&Metadata>) -> io::Result
         .open(rt, name)
 }
 
-/// Gives a new file the owner and mode of the one that it replaces, writes it down to the disk, and renames it.
+/// Gives a new file the owner, group and mode of the one that it replaces, writes it down to the disk, and renames it.
 fn fill(
     rt: &HostRuntime,
     mut file: fs::File,
@@ -137,11 +164,35 @@ fn fill(
     bytes: &[u8],
 ) -> io::Result<()> {
     if let Some(like) = like {
-        // none but root can give a file away
-        let _ = chown(rt, beside, Some(like.uid()), Some(like.gid()));
+        keep_owner(rt, beside, like)?;
         file.set_permissions(like.permissions())?;
     }
     file.write_all(bytes)?;
     file.sync_all()?;
-    fs::rename(rt, beside, name)
+    fs::rename(rt, beside, name)?;
+    sync_folder(rt, name);
+    Ok(())
+}
+
+/// Gives a file the owner and group of another. Fails if they are not the user's to give.
+fn keep_owner(rt: &HostRuntime, name: &str, like: &Metadata) -> io::Result<()> {
+    match chown(rt, name, Some(like.uid()), Some(like.gid())) {
+        Ok(()) => Ok(()),
+        Err(fault) => Err(Error::new(
+            fault.kind(),
+            "not written, since its owner and group could not be kept",
+        )),
+    }
+}
+
+/// Writes the names of the folder of a file down to the disk, as far as the file system does that: the file is there by then.
+fn sync_folder(rt: &HostRuntime, name: &str) {
+    let folder = match name.rsplit_once('/') {
+        Some(("", _)) => "/",
+        Some((folder, _)) => folder,
+        None => ".",
+    };
+    if let Ok(folder) = fs::open(rt, folder) {
+        let _ = folder.sync_all();
+    }
 }

@@ -4,25 +4,13 @@ use clap::error::ErrorKind;
 use clap::{ArgMatches, Error};
 use oci_base::escaped;
 use oci_commands::verify::Options;
-use oci_commands::{Asked, Check, Compare, Format, Style, Unknown};
+use oci_commands::{Asked, Compare, Format, Style, Unknown};
 use oci_content::Algorithm;
 use oci_findings::kind_named;
 use oci_policies::Bump;
-use oci_rules::{Level, Rule, RuntimePlatform};
+use oci_rules::{Level, RuntimePlatform};
 use oci_schemas::Kind;
 use std::alloc::{AllocError, Global};
-use std::{env, io};
-
-/// All words of the command line, the program's name first.
-pub fn words_of<R: env::Env + AllocGlobal>(rt: &R) -> io::Result<Vec<String>> {
-    let mut words = Vec::new(rt.alloc());
-    for word in env::args(rt)? {
-        if words.push(word).is_err() {
-            return Err(io::Error::from(AllocError));
-        }
-    }
-    Ok(words)
-}
 
 /// The command and its arguments, or a text to be shown in their place.
 pub fn matches_of<'a>(alloc: Global, words: &'a [String]) -> Result<ArgMatches<'a>, Error> {
@@ -38,14 +26,31 @@ pub fn status_of(error: &Error) -> u8 {
     }
 }
 
-/// What the options of `check` lack, if one of them says how rules are checked and none are.
-pub fn lack_in(given: &ArgMatches<'_>) -> Option<&'static str> {
-    if given.get_flag("rules") || given.get_str("policy").is_some() {
+/// What the options of `check` lack, if one of them says how rules are checked and none are, unless others are.
+pub fn lack_in(given: &ArgMatches<'_>, has_rules: bool) -> Option<&'static str> {
+    if has_rules || given.get_flag("rules") {
         None
     } else if given.get_str("level").is_some() {
         Some("--level chooses among rules, and none are checked: add --rules or --policy FILE")
     } else if given.get_str("platform").is_some() {
         Some("--platform chooses among rules, and none are checked: add --rules or --policy FILE")
+    } else if given.get_str("only").is_some() {
+        Some("--only chooses among rules, and none are checked: add --rules or --policy FILE")
+    } else {
+        None
+    }
+}
+
+/// What the options of `fmt` lack, if they do not say what becomes of these files.
+pub fn lack_of_files(given: &ArgMatches<'_>, formats: &[Format<'_>]) -> Option<&'static str> {
+    if given.get_flag("write") {
+        if formats.iter().any(|it| it.file == "-") {
+            Some("--write takes the names of files, and standard input has none")
+        } else {
+            None
+        }
+    } else if formats.len() > 1 && !given.get_flag("check") {
+        Some("several files are written in place with --write, or compared with --check")
     } else {
         None
     }
@@ -70,18 +75,14 @@ pub fn options_in(given: &ArgMatches<'_>) -> Options {
     options
 }
 
-/// The command of this name that its arguments ask for, with the rules of a policy; what it names is kept in the arena. Fails if out of
-/// memory.
+/// The command of this name that its arguments ask for, beside `check`; what it names is kept in the arena. Fails if out of memory.
 pub fn asked<'a>(
     name: &str,
     given: &ArgMatches<'_>,
-    policy: &'a [Rule<'a>],
     arena: &'a Bump,
     alloc: Global,
 ) -> Result<Option<Asked<'a>>, AllocError> {
     match name {
-        "check" => Ok(Some(Asked::Check(check_in(given, policy, arena, alloc)?))),
-        "fmt" => Ok(Some(Asked::Format(format_in(given, arena)?))),
         "diff" => Ok(Some(Asked::Compare(compare_in(given, arena)?))),
         _ => asked_of_texts(name, given, arena, alloc),
     }
@@ -142,36 +143,36 @@ fn pin_in<'a>(given: &ArgMatches<'_>, arena: &'a Bump) -> Result<Asked<'a>, Allo
     Ok(Asked::Pin(text, file))
 }
 
-fn check_in<'a>(
+/// The files that `fmt` is asked to format, and how each is: to which file, with `--write` itself, or to standard output.
+pub fn formats_in<'a>(
     given: &ArgMatches<'_>,
-    policy: &'a [Rule<'a>],
     arena: &'a Bump,
     alloc: Global,
-) -> Result<Check<'a>, AllocError> {
-    Ok(Check {
-        kind: kind_in(given),
-        rules: given.get_flag("rules"),
-        policy,
-        level: level_in(given),
-        platform: platform_in(given),
-        unknown: unknown_in(given),
-        style: style_in(given),
-        quiet: given.get_flag("quiet"),
-        files: texts_in(given, "FILE", arena, alloc)?,
-    })
+) -> Result<Vec<Format<'a>>, AllocError> {
+    let output = text_if(given, "output", arena)?;
+    let mut formats = Vec::new(alloc);
+    for file in texts_in(given, "FILE", arena, alloc)? {
+        let output = if given.get_flag("write") {
+            Some(*file)
+        } else {
+            output
+        };
+        formats.push(format_in(given, file, output))?;
+    }
+    Ok(formats)
 }
 
-fn format_in<'a>(given: &ArgMatches<'_>, arena: &'a Bump) -> Result<Format<'a>, AllocError> {
-    Ok(Format {
+fn format_in<'a>(given: &ArgMatches<'_>, file: &'a str, output: Option<&'a str>) -> Format<'a> {
+    Format {
         kind: kind_in(given),
         pretty: given.get_flag("pretty"),
         check: given.get_flag("check"),
         quiet: given.get_flag("quiet"),
         verbose: given.get_flag("verbose"),
         drop_unknown: given.get_flag("drop-unknown"),
-        output: text_if(given, "output", arena)?,
-        file: text_in(given, "FILE", arena)?,
-    })
+        output,
+        file,
+    }
 }
 
 fn compare_in<'a>(given: &ArgMatches<'_>, arena: &'a Bump) -> Result<Compare<'a>, AllocError> {
@@ -188,31 +189,31 @@ fn schema_in<'a>(given: &ArgMatches<'_>) -> Option<Asked<'a>> {
     Some(Asked::Schema(kind_named(given.get_str("KIND")?)?))
 }
 
-fn level_in(given: &ArgMatches<'_>) -> Level {
-    let level = given.get_str("level").and_then(Level::from_word);
-    level.unwrap_or(Level::Should)
+pub fn level_in(given: &ArgMatches<'_>) -> Option<Level> {
+    given.get_str("level").and_then(Level::from_word)
 }
 
-fn platform_in(given: &ArgMatches<'_>) -> Option<RuntimePlatform> {
+pub fn platform_in(given: &ArgMatches<'_>) -> Option<RuntimePlatform> {
     RuntimePlatform::from_word(given.get_str("platform")?)
 }
 
-fn unknown_in(given: &ArgMatches<'_>) -> Unknown {
-    match given.get_str("unknown") {
-        Some("deny") => Unknown::Deny,
-        Some("warn") => Unknown::Warn,
-        _ => Unknown::Allow,
+pub fn unknown_in(given: &ArgMatches<'_>) -> Option<Unknown> {
+    match given.get_str("unknown")? {
+        "deny" => Some(Unknown::Deny),
+        "warn" => Some(Unknown::Warn),
+        _ => Some(Unknown::Allow),
     }
 }
 
-fn kind_in(given: &ArgMatches<'_>) -> Option<Kind> {
+pub fn kind_in(given: &ArgMatches<'_>) -> Option<Kind> {
     kind_named(given.get_str("kind")?)
 }
 
-fn style_in(given: &ArgMatches<'_>) -> Style {
+pub fn style_in(given: &ArgMatches<'_>) -> Style {
     match given.get_str("format") {
         Some("json") => Style::Json,
         Some("sarif") => Style::Sarif,
+        Some("github") => Style::Github,
         _ => Style::Text,
     }
 }
@@ -244,8 +245,23 @@ fn texts_in<'a>(
     Ok(kept)
 }
 
+/// The names under an option, or else these.
+pub fn names_in<'a>(
+    given: &ArgMatches<'_>,
+    option: &str,
+    others: &'a [&'a str],
+    arena: &'a Bump,
+    alloc: Global,
+) -> Result<&'a [&'a str], AllocError> {
+    if given.get_strs(option).is_some() {
+        texts_in(given, option, arena, alloc)
+    } else {
+        Ok(others)
+    }
+}
+
 /// Adds a text that is kept in the arena.
-fn keep<'a>(text: &str, arena: &'a Bump, kept: &mut Vec<&'a str>) -> Result<(), AllocError> {
+pub fn keep<'a>(text: &str, arena: &'a Bump, kept: &mut Vec<&'a str>) -> Result<(), AllocError> {
     kept.push(arena.try_alloc_str(text)?)?;
     Ok(())
 }

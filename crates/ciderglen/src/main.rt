@@ -1,19 +1,27 @@
 //! The program `ciderglen`: checks, formats, compares and shows the documents of the Open Container Initiative.
 #![tactic(auto)]
 
+mod check;
 mod commands;
+mod config;
+mod described;
 mod files;
+mod folders;
 mod line;
+mod names;
 mod rules;
+mod table;
 mod watch;
+mod words;
 
+use check::{check, has_files_alone};
 use clap::{ArgMatches, Error};
 use files::SystemFiles;
-use line::{asked, escaped_words, lack_in, matches_of, options_in, status_of, words_of};
+use line::{asked, escaped_words, formats_in, lack_of_files, matches_of, options_in, status_of};
 use oci_base::line_of;
 use oci_commands::texts::{complain, complain_of};
 use oci_commands::verify::Options;
-use oci_commands::{Asked, Tree};
+use oci_commands::{Asked, Format, Tree};
 use oci_layout::Folder;
 use oci_policies::{Bump, Policy, PolicyError, Reason};
 use oci_rules::Rule;
@@ -23,10 +31,11 @@ use std::fmt::Display;
 use std::fs;
 use std::process::ExitCode;
 use watch::Started;
+use words::{Words, words_of};
 
 fn main(rt: HostRuntime) -> ExitCode {
     match words_of(&rt) {
-        Ok(words) => ExitCode::from(run_words(&rt, words.as_slice())),
+        Ok(words) => ExitCode::from(run_words(&rt, &words)),
         Err(fault) => {
             tell(&rt, "cannot read the arguments", &fault);
             ExitCode::from(2)
@@ -35,14 +44,14 @@ fn main(rt: HostRuntime) -> ExitCode {
 }
 
 /// Runs what the words of the command line ask for, and returns the exit status.
-fn run_words(rt: &HostRuntime, words: &[String]) -> u8 {
-    match matches_of(rt.alloc(), words) {
+fn run_words(rt: &HostRuntime, words: &Words) -> u8 {
+    match matches_of(rt.alloc(), words.all.as_slice()) {
         Ok(matches) => {
             let arena = Bump::new(rt.alloc());
-            perform(rt, &arena, &matches)
+            perform(rt, &arena, &matches, words)
         }
         Err(error) => match status_of(&error) {
-            2 => refuse(rt, words),
+            2 => refuse(rt, words.all.as_slice()),
             status => print(rt, &error, status),
         },
     }
@@ -75,37 +84,44 @@ fn refuse_shown(rt: &HostRuntime, shown: &[String]) -> u8 {
 }
 
 /// Runs the command that the matches ask for, and returns the exit status.
-fn perform(rt: &HostRuntime, arena: &Bump, matches: &ArgMatches<'_>) -> u8 {
+fn perform(rt: &HostRuntime, arena: &Bump, matches: &ArgMatches<'_>, words: &Words) -> u8 {
     let Some((name, given)) = matches.subcommand() else {
         return 2;
     };
+    if !words.foreign.is_empty() && !(name == "check" && has_files_alone(given, words)) {
+        complain("ciderglen: an argument is not UTF-8\n", &mut rt.stderr());
+        return 2;
+    }
     match name {
         "verify" => match given.get_str("DIR") {
             Some(root) => verify(rt, &options_in(given), root),
             None => 2,
         },
         "tree" => tree(rt, given.get_str("FILE").unwrap_or("-")),
-        "check" => match lack_in(given) {
-            Some(lack) => {
-                tell_usage(rt, lack);
-                2
-            }
-            None => check(rt, arena, given),
+        "fmt" => match formats_in(given, arena, rt.alloc()) {
+            Ok(formats) => format_files(rt, given, formats.as_slice()),
+            Err(_) => out_of_memory(rt),
         },
-        _ => run_asked(rt, asked(name, given, &[], arena, rt.alloc())),
+        "check" => check(rt, arena, given, words),
+        _ => run_asked(rt, asked(name, given, arena, rt.alloc())),
     }
 }
 
-/// Checks documents by the rules and the policy that are asked for.
-fn check(rt: &HostRuntime, arena: &Bump, given: &ArgMatches<'_>) -> u8 {
-    match policy_of(rt, given.get_str("policy"), arena) {
-        Ok(rules) => run_asked(rt, asked("check", given, rules, arena, rt.alloc())),
-        Err(status) => status,
+/// Formats each file, and returns the worst status.
+fn format_files(rt: &HostRuntime, given: &ArgMatches<'_>, formats: &[Format<'_>]) -> u8 {
+    if let Some(lack) = lack_of_files(given, formats) {
+        tell_usage(rt, lack);
+        return 2;
     }
+    let mut status = 0;
+    for format in formats {
+        status = status.max(run(rt, &Asked::Format(*format)));
+    }
+    status
 }
 
 /// Says what is wrong with the options, as clap does.
-fn tell_usage(rt: &HostRuntime, fault: &str) {
+pub(crate) fn tell_usage(rt: &HostRuntime, fault: &str) {
     if let Ok(text) = format!(in rt.alloc();
         "error: {fault}\n\nFor more information, try '--help'.\n"
     ) {
@@ -122,12 +138,12 @@ fn run_asked(rt: &HostRuntime, asked: Result<Option<Asked<'_>>, AllocError>) -> 
 }
 
 /// Says what is wrong with what is named on standard error.
-fn tell<D: Display>(rt: &HostRuntime, name: &str, fault: &D) {
+pub(crate) fn tell<D: Display>(rt: &HostRuntime, name: &str, fault: &D) {
     complain_of(name, fault, rt.alloc(), &mut rt.stderr());
 }
 
 /// Says so, and returns the exit status.
-fn out_of_memory(rt: &HostRuntime) -> u8 {
+pub(crate) fn out_of_memory(rt: &HostRuntime) -> u8 {
     complain("ciderglen: out of memory\n", &mut rt.stderr());
     3
 }
@@ -143,7 +159,7 @@ fn tree(rt: &HostRuntime, file: &str) -> u8 {
 
 /// The rules of the policy in a file, if one is named. The error is the exit status: 2 if the file holds no policy, and 3 if it cannot
 /// be read, or if out of memory.
-fn policy_of<'a>(
+pub(crate) fn policy_of<'a>(
     rt: &HostRuntime,
     file: Option<&str>,
     arena: &'a Bump,
@@ -216,14 +232,17 @@ fn reason_text(reason: &Reason, alloc: Global) -> Result<String, AllocError> {
 }
 
 fn run(rt: &HostRuntime, asked: &Asked<'_>) -> u8 {
-    let mut store = SystemFiles::new(rt);
+    run_over(rt, &mut SystemFiles::new(rt), asked)
+}
+
+pub(crate) fn run_over(rt: &HostRuntime, store: &mut SystemFiles<'_>, asked: &Asked<'_>) -> u8 {
     let mut writer = rt.stdout();
     let mut errors = rt.stderr();
     oci_commands::run(
         &Specifications,
         asked,
         rt.alloc(),
-        &mut store,
+        store,
         &mut writer,
         &mut errors,
     )

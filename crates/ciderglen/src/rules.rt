@@ -1,7 +1,7 @@
 //! The books of rules of the specifications.
 ghost use Rattle.oci_rule_books.specs.Kinds.{rules_of};
 
-use oci_commands::RuleBooks;
+use oci_commands::{RuleBooks, Versions};
 use oci_rules::Rule;
 use oci_schemas::Kind;
 use std::alloc::{AllocError, Global};
@@ -19,5 +19,11 @@ impl RuleBooks for Specifications {
         alloc: Global,
     ) -> Result<Vec<&'static [Rule<'static>]>, AllocError> {
         oci_rule_books::rules_of(kind, alloc)
+    }
+}
+
+impl Versions for Specifications {
+    fn versions(&self) -> &'static str {
+        oci_rule_books::VERSIONS
     }
 }

@@ -1,0 +1,133 @@
+//! Commands and their arguments as data, and the arguments that several commands have.
+
+/// What an argument takes.
+#[derive(Clone, Copy)]
+pub enum Takes {
+    /// Nothing: an option that is given or not.
+    Nothing,
+    /// The value of an option, by what help calls it.
+    Value(&'static str),
+    /// The values of an option that may be given several times, by what help calls each.
+    Values(&'static str),
+    /// A word, which may be left out.
+    Maybe,
+    /// A word.
+    Word,
+    /// Words, one at least.
+    Words,
+    /// Words, or none.
+    Any,
+}
+
+/// What one argument says of another.
+#[derive(Clone, Copy)]
+pub enum Bond {
+    /// Nothing.
+    Free,
+    /// It cannot be given with those options.
+    Without(&'static [&'static str]),
+    /// It has to be given with that option.
+    With(&'static str),
+}
+
+/// An argument of a command.
+#[derive(Clone, Copy)]
+pub struct Argument {
+    pub name: &'static str,
+    pub help: &'static str,
+    pub takes: Takes,
+    pub short: Option<char>,
+    /// The only values that it may have; any, where there are none.
+    pub values: &'static [&'static str],
+    /// Whether the help lists these values itself, over several lines.
+    pub lists_values: bool,
+    /// The value that it has where it is not given; none, where there is none.
+    pub default: &'static [&'static str],
+    pub bond: Bond,
+}
+
+/// A command.
+#[derive(Clone, Copy)]
+pub struct Described {
+    pub name: &'static str,
+    pub about: &'static str,
+    pub example: &'static str,
+    pub arguments: &'static [Argument],
+}
+
+/// What most arguments are: an option that is given or not.
+pub const PLAIN: Argument = Argument {
+    name: "",
+    help: "",
+    takes: Takes::Nothing,
+    short: None,
+    values: &[],
+    lists_values: false,
+    default: &[],
+    bond: Bond::Free,
+};
+
+/// The names of the kinds of documents.
+pub const KINDS: &[&str] = &[
+    "manifest",
+    "index",
+    "config",
+    "image-config",
+    "artifact",
+    "layout",
+    "descriptor",
+    "error",
+    "repositories",
+    "tags",
+    "reference",
+    "spec",
+    "runtime-config",
+    "state",
+    "process-state",
+    "features",
+];
+
+pub const KIND: Argument = Argument {
+    name: "kind",
+    help: "The kind of the documents; without it, it is found out
+[possible values: manifest, index, config, image-config, artifact,
+layout, descriptor, error, repositories, tags, reference, spec,
+runtime-config, state, process-state, features]",
+    takes: Takes::Value("KIND"),
+    short: Some('k'),
+    values: KINDS,
+    lists_values: true,
+    ..PLAIN
+};
+
+pub const QUIET: Argument = Argument {
+    name: "quiet",
+    short: Some('q'),
+    ..PLAIN
+};
+
+pub const FORMAT: Argument = Argument {
+    name: "format",
+    help: "How to write the result",
+    takes: Takes::Value("FORMAT"),
+    values: &["text", "json"],
+    default: &["text"],
+    ..PLAIN
+};
+
+/// How findings are written.
+pub const FINDINGS: Argument = Argument {
+    help: "How to write the result
+[possible values: text, json, sarif, github]",
+    values: &["text", "json", "sarif", "github"],
+    lists_values: true,
+    ..FORMAT
+};
+
+/// The one file that is read.
+pub const FILE: Argument = Argument {
+    name: "FILE",
+    help: "The file to read; - is standard input, and so is no FILE",
+    takes: Takes::Maybe,
+    ..PLAIN
+};

@@ -1,0 +1,321 @@
+//! The commands of the program, with their arguments and help texts, in a few tables: one alone is more than the prover takes at once.
+use crate::described::{
+    Argument, Bond, Described, FILE, FINDINGS, FORMAT, KIND, KINDS, PLAIN, QUIET, Takes,
+};
+
+/// What checks documents.
+pub static CHECKING: [Described; 1] = [Described {
+    name: "check",
+    about: "Lists what is wrong with documents",
+    example: "Example: ciderglen check --kind manifest image/manifest.json",
+    arguments: &[
+        KIND,
+        Argument {
+            name: "rules",
+            help: "Check the rules of the specifications beside the schema",
+            ..PLAIN
+        },
+        Argument {
+            name: "policy",
+            help: "Check the rules of the policy in this TOML file too",
+            takes: Takes::Value("FILE"),
+            ..PLAIN
+        },
+        Argument {
+            name: "level",
+            help: "The weakest level of rules that are checked, with --rules or --policy;
+without it, should. Levels are by the sentence that a rule is from:
+  must    it says MUST or REQUIRED
+  stated  it has no such word, and says what a document has
+  should  it says SHOULD or RECOMMENDED, or calls something deprecated
+  host    none asks it; the kernel or every runtime refuses it
+A broken rule of must or stated is an error, one of should or host a
+warning
+[possible values: must, stated, should, host]",
+            takes: Takes::Value("LEVEL"),
+            values: &["must", "stated", "should", "host"],
+            lists_values: true,
+            ..PLAIN
+        },
+        Argument {
+            name: "platform",
+            help: "The platform of the documents; without it, they say it
+[possible values: linux, windows, solaris, vm, zos, freebsd]",
+            takes: Takes::Value("PLATFORM"),
+            values: &["linux", "windows", "solaris", "vm", "zos", "freebsd"],
+            lists_values: true,
+            ..PLAIN
+        },
+        Argument {
+            name: "unknown",
+            help: "What is done with members that the schema does not list;
+without it, allow
+[possible values: deny, warn, allow]",
+            takes: Takes::Value("UNKNOWN"),
+            values: &["deny", "warn", "allow"],
+            lists_values: true,
+            ..PLAIN
+        },
+        Argument {
+            name: "skip-unknown",
+            help: "Say nothing of JSON of which no kind of documents is found",
+            ..PLAIN
+        },
+        Argument {
+            name: "only",
+            help: "Of all rules check this one; may be given several times",
+            takes: Takes::Values("RULE"),
+            ..PLAIN
+        },
+        Argument {
+            name: "ignore",
+            help: "Say nothing where this rule is broken; may be given several times",
+            takes: Takes::Values("RULE"),
+            ..PLAIN
+        },
+        Argument {
+            name: "strict",
+            help: "Warnings make a document wrong too",
+            ..PLAIN
+        },
+        Argument {
+            name: "no-config",
+            help: "Do not look for the file .ciderglen.toml of a folder",
+            ..PLAIN
+        },
+        FINDINGS,
+        Argument {
+            help: "Write no findings; the exit status says all",
+            ..QUIET
+        },
+        Argument {
+            help: "The files to check, and folders; - is standard input, and so is no FILE",
+            takes: Takes::Any,
+            ..FILE
+        },
+    ],
+}];
+
+/// What writes their canonical forms.
+pub static FORMATTING: [Described; 1] = [Described {
+    name: "fmt",
+    about: "Writes the canonical form of a document, and says what is left out of it",
+    example: "Example: ciderglen fmt --pretty config.json",
+    arguments: &[
+        KIND,
+        Argument {
+            name: "pretty",
+            help: "Indent the text by two spaces a level",
+            ..PLAIN
+        },
+        Argument {
+            name: "compact",
+            help: "Write no spaces; this is the default",
+            bond: Bond::Without(&["pretty"]),
+            ..PLAIN
+        },
+        Argument {
+            name: "check",
+            help: "Write nothing; say which files are not canonical, by the exit status too",
+            ..PLAIN
+        },
+        Argument {
+            name: "output",
+            help: "Write to this file, which is replaced as a whole",
+            takes: Takes::Value("FILE"),
+            short: Some('o'),
+            bond: Bond::Without(&["check"]),
+            ..PLAIN
+        },
+        Argument {
+            name: "write",
+            help: "Write each file in place, as --output with its own name does",
+            short: Some('w'),
+            bond: Bond::Without(&["check", "output"]),
+            ..PLAIN
+        },
+        Argument {
+            name: "drop-unknown",
+            help: "Write a file also where members are left out of it:
+unknown ones, and earlier ones of one name",
+            ..PLAIN
+        },
+        Argument {
+            help: "Do not say what is left out",
+            ..QUIET
+        },
+        Argument {
+            name: "verbose",
+            help: "Say the digests before and after",
+            ..PLAIN
+        },
+        Argument {
+            help: "The file to read, or files with --write or --check;
+- is standard input, and so is no FILE",
+            takes: Takes::Any,
+            ..FILE
+        },
+    ],
+}];
+
+/// What verifies, compares and shows images.
+pub static IMAGES: [Described; 3] = [
+    Described {
+        name: "verify",
+        about: "Verifies that all that an image layout reaches is there and is what it claims to be",
+        example: "Example: ciderglen verify image",
+        arguments: &[
+            FINDINGS,
+            Argument {
+                name: "strict",
+                help: "Notes are wrong too",
+                ..PLAIN
+            },
+            Argument {
+                name: "quick",
+                help: "Look at the sizes of layers alone, and do not read them",
+                ..PLAIN
+            },
+            Argument {
+                name: "progress",
+                help: "Write a line a second of what was done on standard error",
+                ..PLAIN
+            },
+            Argument {
+                name: "DIR",
+                help: "The folder of the image layout",
+                takes: Takes::Word,
+                ..PLAIN
+            },
+        ],
+    },
+    Described {
+        name: "diff",
+        about: "Lists what differs between the canonical forms of two documents",
+        example: "Example: ciderglen diff old.json new.json",
+        arguments: &[
+            KIND,
+            FORMAT,
+            Argument {
+                help: "Write no differences; the exit status says all",
+                ..QUIET
+            },
+            Argument {
+                name: "A",
+                help: "The file before",
+                takes: Takes::Word,
+                ..PLAIN
+            },
+            Argument {
+                name: "B",
+                help: "The file after",
+                takes: Takes::Word,
+                ..PLAIN
+            },
+        ],
+    },
+    Described {
+        name: "tree",
+        about: "Shows an image index, a manifest or an image layout as a tree",
+        example: "Example: ciderglen tree index.json",
+        arguments: &[Argument {
+            help: "The file to read, or the folder of an image layout; - is standard input, and so is no FILE",
+            ..FILE
+        }],
+    },
+];
+
+/// What writes the parts of references and digests.
+pub static NAMES: [Described; 3] = [
+    Described {
+        name: "ref",
+        about: "Writes the parts of image references",
+        example: "Example: ciderglen ref busybox:1",
+        arguments: &[
+            FORMAT,
+            Argument {
+                name: "TEXT",
+                help: "The references",
+                takes: Takes::Words,
+                ..PLAIN
+            },
+        ],
+    },
+    Described {
+        name: "digest",
+        about: "Writes the digests of files, or the parts of digests",
+        example: "Example: ciderglen digest blob.tar.gz",
+        arguments: &[
+            Argument {
+                name: "algorithm",
+                help: "The algorithm
+[possible values: sha256, sha384, sha512]",
+                takes: Takes::Value("ALGORITHM"),
+                short: Some('a'),
+                values: &["sha256", "sha384", "sha512"],
+                lists_values: true,
+                default: &["sha256"],
+                ..PLAIN
+            },
+            Argument {
+                name: "parse",
+                help: "Take digests in place of files, and write their parts",
+                ..PLAIN
+            },
+            Argument {
+                help: "The files, or the digests; - is standard input, and so is no FILE",
+                takes: Takes::Any,
+                bond: Bond::With("parse"),
+                ..FILE
+            },
+        ],
+    },
+    Described {
+        name: "pin",
+        about: "Writes an image reference with the digest of a descriptor",
+        example: "Example: ciderglen pin busybox:1 descriptor.json",
+        arguments: &[
+            Argument {
+                name: "TEXT",
+                help: "The reference",
+                takes: Takes::Word,
+                ..PLAIN
+            },
+            Argument {
+                help: "The descriptor; - is standard input, and so is no FILE",
+                ..FILE
+            },
+        ],
+    },
+];
+
+/// What shows rules and schemas.
+pub static BOOKS: [Described; 2] = [
+    Described {
+        name: "rules",
+        about: "Lists the rules of the specifications",
+        example: "Example: ciderglen rules image-config",
+        arguments: &[Argument {
+            name: "NAME",
+            help: "A kind of documents, or the name of a rule",
+            takes: Takes::Maybe,
+            ..PLAIN
+        }],
+    },
+    Described {
+        name: "schema",
+        about: "Lists the members of a kind of documents",
+        example: "Example: ciderglen schema manifest",
+        arguments: &[Argument {
+            name: "KIND",
+            help: "The kind of documents
+[possible values: manifest, index, config, image-config, artifact,
+layout, descriptor, error, repositories, tags, reference, spec,
+runtime-config, state, process-state, features]",
+            takes: Takes::Word,
+            values: KINDS,
+            lists_values: true,
+            ..PLAIN
+        }],
+    },
+];
