@@ -13,6 +13,9 @@ is_positive b = is_in_range 49 57 b
 abbrev pub is_capital_or_digit : ℕ → Bool
 is_capital_or_digit b = is_ascii_uppercase b || is_ascii_digit b
 
+abbrev pub hash : ℕ
+hash = 35
+
 -- the first byte of a name (POSIX, XBD 3.235, "Name")
 abbrev pub is_name_start : ℕ → Bool
 is_name_start b = is_ascii_alphabetic b || (b == underscore)

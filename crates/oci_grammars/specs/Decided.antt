@@ -3,7 +3,7 @@ use Rattle.std.specs.Prelude.{ℕ, ◌+◌, ◌-◌, ◌*◌, ◌%◌, ◌&&◌,
 use Rattle.std.specs.Char.{is_ascii_digit, is_ascii_alphabetic, is_ascii_alphanumeric, is_ascii_graphic, is_ascii_hexdigit}
 use Rattle.std.specs.List.{fold, list_all, slice_split, starts_with, ends_with}
 use Rattle.oci_base.specs.Classes.{plus, dash, dot, slash, colon, has, until, after, is_word, is_host_byte, is_tag_byte}
-use Rattle.oci_grammars.specs.Classes.{is_positive, is_restricted_byte, is_name_start, is_label_byte, is_base64_byte, is_context_byte, is_interface_byte, is_capability_byte, is_access_byte, is_scale, is_path_separator, is_share_byte, is_file_start, is_not_slash, is_not_colon, is_not_equals, is_not_nul}
+use Rattle.oci_grammars.specs.Classes.{hash, is_positive, is_restricted_byte, is_name_start, is_label_byte, is_base64_byte, is_context_byte, is_interface_byte, is_capability_byte, is_access_byte, is_scale, is_path_separator, is_share_byte, is_file_start, is_not_slash, is_not_colon, is_not_equals, is_not_nul}
 use Rattle.oci_grammars.specs.DecidedNames.{is_ref_component, is_path_component, is_host_label}
 use Rattle.oci_grammars.specs.declared.parts.Part.{Part}
 use Rattle.oci_grammars.specs.declared.parts.Part.TheVariants.{KeyLabel, PreIdentifier, BuildIdentifier, NotParent, RefComponent, PathComponent, HostLabel, PortSpec, CpuRange}
@@ -201,8 +201,11 @@ is_environment_entry text = has 61 text && is_some_of is_not_equals (until 61 te
 abbrev pub is_portable_entry : List ℕ → Bool
 is_portable_entry text = has 61 text && is_headed is_name_start is_word (until 61 text)
 
+abbrev pub are_dotted_labels : List ℕ → Bool
+are_dotted_labels text = is_some_of is_label_byte (until dot text) && are_joined KeyLabel dot (after dot text)
+
 abbrev pub is_reverse_domain : List ℕ → Bool
-is_reverse_domain text = is_some_of is_label_byte (until dot text) && are_joined KeyLabel dot (after dot text)
+is_reverse_domain text = are_dotted_labels (until hash (until slash text))
 
 -- ---- an image's settings
 

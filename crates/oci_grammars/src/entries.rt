@@ -23,6 +23,8 @@ pub(crate) fn is_portable_entry(text: &[u8]) -> bool
 pub(crate) fn is_reverse_domain(text: &[u8]) -> bool
     ensures { result ≡ decided.is_reverse_domain text.now }
 {
-    let (first, rest) = cut(text, b'.');
+    let (before_slash, _) = cut(text, b'/');
+    let (name, _) = cut(before_slash, b'#');
+    let (first, rest) = cut(name, b'.');
     Class::Label.has_some(first) & Part::KeyLabel.joins(rest, b'.')
 }
