@@ -12,8 +12,8 @@ abbrev pub config_rules : List Rule
 config_rules =
     record { name = codes "config-created-date"; level = stated; section = codes "image config.md#properties"; platforms = every; place = under (codes "created") here; test = text DateTime } ∷
     record { name = codes "config-history-date"; level = stated; section = codes "image config.md#properties"; platforms = every; place = under (codes "history") (each_item (under (codes "created") here)); test = text DateTime } ∷
-    record { name = codes "config-architecture-known"; level = should; section = codes "image config.md#properties"; platforms = every; place = under (codes "architecture") here; test = one_of goarch } ∷
-    record { name = codes "config-os-known"; level = should; section = codes "image config.md#properties"; platforms = every; place = under (codes "os") here; test = one_of goos } ∷
+    record { name = codes "config-architecture-known"; level = should; section = codes "image config.md#properties"; platforms = every; place = if_so (asks the_part (codes "os" ∷ []) false (is_text (codes "unknown" ∷ []))) (under (codes "architecture") here); test = one_of goarch } ∷
+    record { name = codes "config-os-known"; level = should; section = codes "image config.md#properties"; platforms = every; place = if_so (asks the_part (codes "architecture" ∷ []) false (is_text (codes "unknown" ∷ []))) (under (codes "os") here); test = one_of goos } ∷
     record { name = codes "config-variant-known"; level = should; section = codes "image config.md#properties"; platforms = every; place = if_so (asks the_part (codes "architecture" ∷ []) true (is_text (codes "arm" ∷ []))) (under (codes "variant") here); test = one_of arm_variants } ∷
     record { name = codes "config-variant-known"; level = should; section = codes "image config.md#properties"; platforms = every; place = if_so (asks the_part (codes "architecture" ∷ []) true (is_text (codes "arm64" ∷ []))) (under (codes "variant") here); test = one_of arm64_variants } ∷
     record { name = codes "config-variant-known"; level = should; section = codes "image config.md#properties"; platforms = every; place = if_so (asks the_part (codes "architecture" ∷ []) true (is_text (codes "ppc64le" ∷ []))) (under (codes "variant") here); test = one_of ppc64le_variants } ∷

@@ -18,8 +18,8 @@ index_rules =
     record { name = codes "index-artifact-type"; level = must; section = codes "image image-index.md#image-index-property-descriptions"; platforms = every; place = under (codes "artifactType") here; test = text MediaType } ∷
     record { name = codes "index-manifest-type-known"; level = should; section = codes "image image-index.md#image-index-property-descriptions"; platforms = every; place = if_so (asks the_part (codes "mediaType" ∷ []) false (is_text (codes "application/vnd.docker.distribution.manifest.list.v2+json" ∷ []))) (under (codes "manifests") (each_item (under (codes "mediaType") here))); test = one_of manifest_types } ∷
     record { name = codes "descriptor-platform-there"; level = should; section = codes "image descriptor.md#properties"; platforms = every; place = under (codes "manifests") (each_item (if_so (asks the_part (codes "mediaType" ∷ []) true (is_text (codes "application/vnd.oci.image.manifest.v1+json" ∷ []))) (if_so (asks the_part (codes "artifactType" ∷ []) false is_there) here))); test = there (codes "platform") } ∷
-    record { name = codes "platform-architecture-known"; level = should; section = codes "image image-index.md#image-index-property-descriptions"; platforms = every; place = under (codes "manifests") (each_item (under (codes "platform") (under (codes "architecture") here))); test = one_of goarch } ∷
-    record { name = codes "platform-os-known"; level = should; section = codes "image image-index.md#image-index-property-descriptions"; platforms = every; place = under (codes "manifests") (each_item (under (codes "platform") (under (codes "os") here))); test = one_of goos } ∷
+    record { name = codes "platform-architecture-known"; level = should; section = codes "image image-index.md#image-index-property-descriptions"; platforms = every; place = under (codes "manifests") (each_item (under (codes "platform") (if_so (asks the_part (codes "os" ∷ []) false (is_text (codes "unknown" ∷ []))) (under (codes "architecture") here)))); test = one_of goarch } ∷
+    record { name = codes "platform-os-known"; level = should; section = codes "image image-index.md#image-index-property-descriptions"; platforms = every; place = under (codes "manifests") (each_item (under (codes "platform") (if_so (asks the_part (codes "architecture" ∷ []) false (is_text (codes "unknown" ∷ []))) (under (codes "os") here)))); test = one_of goos } ∷
     record { name = codes "platform-variant-known"; level = should; section = codes "image image-index.md#platform-variants"; platforms = every; place = under (codes "manifests") (each_item (under (codes "platform") (if_so (asks the_part (codes "architecture" ∷ []) true (is_text (codes "arm" ∷ []))) (under (codes "variant") here)))); test = one_of arm_variants } ∷
     record { name = codes "platform-variant-known"; level = should; section = codes "image image-index.md#platform-variants"; platforms = every; place = under (codes "manifests") (each_item (under (codes "platform") (if_so (asks the_part (codes "architecture" ∷ []) true (is_text (codes "arm64" ∷ []))) (under (codes "variant") here)))); test = one_of arm64_variants } ∷
     record { name = codes "platform-variant-known"; level = should; section = codes "image image-index.md#platform-variants"; platforms = every; place = under (codes "manifests") (each_item (under (codes "platform") (if_so (asks the_part (codes "architecture" ∷ []) true (is_text (codes "ppc64le" ∷ []))) (under (codes "variant") here)))); test = one_of ppc64le_variants } ∷

@@ -18,14 +18,14 @@ static RULES_1: [Rule<'static>; 3] = [
     rule! { "config-history-date", Stated, "image config.md#properties", "a date and time (RFC 3339, section 5.6)", Platforms::Every,
         [Step::Member("history"), Step::EachItem, Step::Member("created")],
         Test::Text(Grammar::DateTime) },
-    rule! { "config-architecture-known", Should, "image config.md#properties", "a value of Go's GOARCH", Platforms::Every,
-        [Step::Member("architecture")],
+    rule! { "config-architecture-known", Should, "image config.md#properties", "a value of Go's GOARCH, or unknown beside an unknown operating system", Platforms::Every,
+        [Step::When(Condition { origin: Origin::Part, way: &["os"], holds: false, check: Predicate::OneOf(&["unknown"]) }), Step::Member("architecture")],
         Test::OneOf(GOARCH) },
 ];
 
 static RULES_2: [Rule<'static>; 3] = [
-    rule! { "config-os-known", Should, "image config.md#properties", "a value of Go's GOOS", Platforms::Every,
-        [Step::Member("os")],
+    rule! { "config-os-known", Should, "image config.md#properties", "a value of Go's GOOS, or unknown beside an unknown processor", Platforms::Every,
+        [Step::When(Condition { origin: Origin::Part, way: &["architecture"], holds: false, check: Predicate::OneOf(&["unknown"]) }), Step::Member("os")],
         Test::OneOf(GOOS) },
     rule! { "config-variant-known", Should, "image config.md#properties", "a variant of the specification's table for this processor; where its row goes on, one of Go's", Platforms::Every,
         [Step::When(Condition { origin: Origin::Part, way: &["architecture"], holds: true, check: Predicate::OneOf(&["arm"]) }), Step::Member("variant")],

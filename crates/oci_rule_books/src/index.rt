@@ -40,11 +40,11 @@ static RULES_3: [Rule<'static>; 3] = [
     rule! { "descriptor-platform-there", Should, "image descriptor.md#properties", "a platform, where a manifest is described that is not an artifact's", Platforms::Every,
         [Step::Member("manifests"), Step::EachItem, Step::When(Condition { origin: Origin::Part, way: &["mediaType"], holds: true, check: Predicate::OneOf(&["application/vnd.oci.image.manifest.v1+json"]) }), Step::When(Condition { origin: Origin::Part, way: &["artifactType"], holds: false, check: Predicate::There })],
         Test::There("platform") },
-    rule! { "platform-architecture-known", Should, "image image-index.md#image-index-property-descriptions", "a value of Go's GOARCH", Platforms::Every,
-        [Step::Member("manifests"), Step::EachItem, Step::Member("platform"), Step::Member("architecture")],
+    rule! { "platform-architecture-known", Should, "image image-index.md#image-index-property-descriptions", "a value of Go's GOARCH, or unknown beside an unknown operating system", Platforms::Every,
+        [Step::Member("manifests"), Step::EachItem, Step::Member("platform"), Step::When(Condition { origin: Origin::Part, way: &["os"], holds: false, check: Predicate::OneOf(&["unknown"]) }), Step::Member("architecture")],
         Test::OneOf(GOARCH) },
-    rule! { "platform-os-known", Should, "image image-index.md#image-index-property-descriptions", "a value of Go's GOOS", Platforms::Every,
-        [Step::Member("manifests"), Step::EachItem, Step::Member("platform"), Step::Member("os")],
+    rule! { "platform-os-known", Should, "image image-index.md#image-index-property-descriptions", "a value of Go's GOOS, or unknown beside an unknown processor", Platforms::Every,
+        [Step::Member("manifests"), Step::EachItem, Step::Member("platform"), Step::When(Condition { origin: Origin::Part, way: &["architecture"], holds: false, check: Predicate::OneOf(&["unknown"]) }), Step::Member("os")],
         Test::OneOf(GOOS) },
 ];
 
