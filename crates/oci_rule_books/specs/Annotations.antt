@@ -22,8 +22,8 @@ image_annotations_rules =
     record { name = codes "annotation-ref-name-characters"; level = should; section = codes "image annotations.md#pre-defined-annotation-keys"; platforms = every; place = under (codes "org.opencontainers.image.ref.name") here; test = text RefNameCharacters } ∷
     record { name = codes "annotation-base-digest"; level = stated; section = codes "image annotations.md#pre-defined-annotation-keys"; platforms = every; place = under (codes "org.opencontainers.image.base.digest") (if_so (asks the_part [] false (is_text (codes "" ∷ []))) here); test = text Digest } ∷
     record { name = codes "annotation-base-name"; level = should; section = codes "image annotations.md#pre-defined-annotation-keys"; platforms = every; place = under (codes "org.opencontainers.image.base.name") (if_so (asks the_part [] false (is_text (codes "" ∷ []))) here); test = text Reference } ∷
-    record { name = codes "annotation-base-name-full"; level = should; section = codes "image annotations.md#pre-defined-annotation-keys"; platforms = every; place = under (codes "org.opencontainers.image.base.name") (if_so (asks the_part [] false (is_text (codes "" ∷ []))) here); test = text FullReference } ∷
-    record { name = codes "annotation-base-both"; level = should; section = codes "image annotations.md#pre-defined-annotation-keys"; platforms = every; place = if_so (asks the_part (codes "org.opencontainers.image.base.name" ∷ []) true is_there) here; test = there (codes "org.opencontainers.image.base.digest") } ∷
+    record { name = codes "annotation-base-name-full"; level = should; section = codes "image annotations.md#pre-defined-annotation-keys"; platforms = every; place = under (codes "org.opencontainers.image.base.name") (if_so (asks the_part [] false (is_text (codes "" ∷ codes "scratch" ∷ []))) here); test = text FullReference } ∷
+    record { name = codes "annotation-base-both"; level = should; section = codes "image annotations.md#pre-defined-annotation-keys"; platforms = every; place = if_so (asks the_part (codes "org.opencontainers.image.base.name" ∷ []) false (is_text (codes "scratch" ∷ []))) (if_so (asks the_part (codes "org.opencontainers.image.base.name" ∷ []) true is_there) here); test = there (codes "org.opencontainers.image.base.digest") } ∷
     record { name = codes "annotation-label-schema"; level = host; section = codes "image annotations.md#back-compatibility-with-label-schema"; platforms = every; place = each_name here; test = none_of label_schema_keys } ∷
     []
 

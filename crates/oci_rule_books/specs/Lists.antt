@@ -124,9 +124,10 @@ subject_types =
     codes "application/vnd.docker.distribution.manifest.list.v2+json" ∷
     []
 
--- image specification, "Platform Variants": a row of its table that is whole
+-- image specification, "Platform Variants", v6 to v8; and v5, which GOARM in Go 1.19.8 has (internal/buildcfg/cfg.go) and Docker's official images are made for
 abbrev pub arm_variants : List (List ℕ)
 arm_variants =
+    codes "v5" ∷
     codes "v6" ∷
     codes "v7" ∷
     codes "v8" ∷

@@ -108,8 +108,8 @@ pub(crate) const SUBJECT_TYPES: &[&str] = &[
     "application/vnd.docker.distribution.manifest.list.v2+json",
 ];
 
-/// image specification, "Platform Variants": a row of its table that is whole
-pub(crate) const ARM_VARIANTS: &[&str] = &["v6", "v7", "v8"];
+/// image specification, "Platform Variants", v6 to v8; and v5, which GOARM in Go 1.19.8 has (internal/buildcfg/cfg.go) and Docker's official images are made for
+pub(crate) const ARM_VARIANTS: &[&str] = &["v5", "v6", "v7", "v8"];
 
 /// image specification, "Platform Variants"; where its row goes on, GOARM64 in Go 1.24.4 and 1.26.10 (internal/buildcfg/cfg.go, as Debian's packages golang-1.24-src and golang-1.26-src have it), and v9 beside v9.0 as the row has v8
 pub(crate) const ARM64_VARIANTS: &[&str] = &[

@@ -62,10 +62,10 @@ static RULES_5: [Rule<'static>; 3] = [
         [Step::Member("annotations"), Step::Member("org.opencontainers.image.base.name"), Step::When(Condition { origin: Origin::Part, way: &[], holds: false, check: Predicate::OneOf(&[""]) })],
         Test::Text(Grammar::Reference) },
     rule! { "annotation-base-name-full", Should, "image annotations.md#pre-defined-annotation-keys", "an image reference that names its registry", Platforms::Every,
-        [Step::Member("annotations"), Step::Member("org.opencontainers.image.base.name"), Step::When(Condition { origin: Origin::Part, way: &[], holds: false, check: Predicate::OneOf(&[""]) })],
+        [Step::Member("annotations"), Step::Member("org.opencontainers.image.base.name"), Step::When(Condition { origin: Origin::Part, way: &[], holds: false, check: Predicate::OneOf(&["", "scratch"]) })],
         Test::Text(Grammar::FullReference) },
     rule! { "annotation-base-both", Should, "image annotations.md#pre-defined-annotation-keys", "the digest of the base image, where its name stands", Platforms::Every,
-        [Step::Member("annotations"), Step::When(Condition { origin: Origin::Part, way: &["org.opencontainers.image.base.name"], holds: true, check: Predicate::There })],
+        [Step::Member("annotations"), Step::When(Condition { origin: Origin::Part, way: &["org.opencontainers.image.base.name"], holds: false, check: Predicate::OneOf(&["scratch"]) }), Step::When(Condition { origin: Origin::Part, way: &["org.opencontainers.image.base.name"], holds: true, check: Predicate::There })],
         Test::There("org.opencontainers.image.base.digest") },
 ];
 
