@@ -1,0 +1,4 @@
+pub mod Gzip
+pub mod Errors
+pub mod Reading
+pub mod Sums
