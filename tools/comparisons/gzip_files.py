@@ -12,7 +12,8 @@ KINDS = {
     "zlib: too many length or distance symbols": {"too many code lengths"},
     "zlib: invalid code lengths set": CODES,
     "zlib: invalid bit length repeat": {"bad code length repeat"},
-    "zlib: invalid code -- missing end-of-block": {"no code for the end of the block"},
+    # zlib reads a code of lengths that has no code at all as zeros, and misses the end of the block then
+    "zlib: invalid code -- missing end-of-block": {"no code for the end of the block", "incomplete code lengths"},
     "zlib: invalid literal/lengths set": CODES,
     "zlib: invalid distances set": CODES,
     "zlib: invalid literal/length code": {"bits without a symbol"},
