@@ -12,7 +12,7 @@ use Rattle.oci_findings.specs.declared.finding.Finding.{Finding}
 use Rattle.oci_findings.specs.declared.report.Report.{Report}
 use Rattle.oci_findings.specs.Contents.{fact, document_facts, content_fault}
 use Rattle.oci_findings.specs.Reports.{IsReportOn}
-use Rattle.oci_findings.specs.Lines.{AreLines, WritesLines, is_error, is_no_error}
+use Rattle.oci_findings.specs.Lines.{AreLines, IsShownLine, WritesLines, is_error, is_no_error}
 use Rattle.oci_findings.specs.Lines.AreLines.{none, more, left_out}
 use Rattle.oci_findings.proofs.Each.{one_more, map_both}
 
@@ -33,26 +33,28 @@ pub made_more_at : {A B C : Type 0} (f : A → C) (g : B → C) (new old : List 
     → map f new ≡ map f old ++ g (get_or xs i d) ∷ [] → map f old ≡ base ++ map g (take i xs) → map f new ≡ base ++ map g (take (i + 1) xs)
 made_more_at f g new old base xs i d lt says before = made_more f g new old base xs i (get_or xs i d) lt (get_or_default xs i d _ lt) says before
 
-pub one_line : (line : List ℕ) → IsLine line → AreLines 1 line
-one_line line h = more none h
+pub one_line : (line : List ℕ) → IsLine line → AreLines false 1 line
+one_line line h = more line none h
 
 -- one line more, or the same lines
-pub line_added : (new old line : List ℕ) → new ≡ old ++ line → IsLine line → (n : ℕ) → AreLines n old → AreLines (suc n) new
-line_added new old line is h n before = subst (AreLines (suc n)) (sym is) (more before h)
+pub line_added : (colored : Bool) (new old line : List ℕ) → new ≡ old ++ line → IsShownLine colored line → (n : ℕ) → AreLines colored n old → AreLines colored (suc n) new
+line_added colored new old line is h n before = subst (AreLines colored (suc n)) (sym is) (more line before h)
 
-pub counted : (n i : ℕ) (text : List ℕ) → AreLines (suc (n + i)) text → AreLines (n + (i + 1)) text
-counted n i text h = let step : suc (n + i) ≡ n + (i + 1) = omega arith in subst (λ k. AreLines k text) step h
+pub counted : (colored : Bool) (n i : ℕ) (text : List ℕ) → AreLines colored (suc (n + i)) text → AreLines colored (n + (i + 1)) text
+counted colored n i text h = let step : suc (n + i) ≡ n + (i + 1) = omega arith in subst (λ k. AreLines colored k text) step h
 
 -- the lines were written
-pub written : {old new : Option (List ℕ)} (n : ℕ) (text : List ℕ) → AreLines n text → Appends old new text → WritesLines n old new
-written n text h e = inr (text, h, e)
+pub written : {old new : Option (List ℕ)} (colored : Bool) (n : ℕ) (text : List ℕ) → AreLines colored n text → Appends old new text → WritesLines colored n old new
+written colored n text h e = inr (text, h, e)
 
 -- no line, and the lines of two lists behind it
-pub both_lines : (first second third : List ℕ) (e w : ℕ) → first ≡ [] → ((n : ℕ) → AreLines n first → AreLines (n + e) second) → ((n : ℕ) → AreLines n second → AreLines (n + w) third) → AreLines (e + w) third
-both_lines first second third e w empty one two =
-    let begun : AreLines zero first = subst (AreLines zero) (sym empty) none in
+pub both_lines : (colored : Bool) (first second third : List ℕ) (e w : ℕ) → first ≡ []
+    → ((n : ℕ) → AreLines colored n first → AreLines colored (n + e) second) → ((n : ℕ) → AreLines colored n second → AreLines colored (n + w) third)
+    → AreLines colored (e + w) third
+both_lines colored first second third e w empty one two =
+    let begun : AreLines colored zero first = subst (AreLines colored zero) (sym empty) none in
     let step : zero + e ≡ e = omega arith in
-    two e (subst (λ k. AreLines k second) step (one zero begun))
+    two e (subst (λ k. AreLines colored k second) step (one zero begun))
 
 pub one_kept : (new old : List Finding) (x : Finding) → is_error x ≡ true → new ≡ old ++ x ∷ [] → new ≡ old ++ filter is_error (x ∷ [])
 one_kept new old x so is =
@@ -82,11 +84,11 @@ pub drained : {X : Type 0} (taken rest all : List X) → all ≡ taken ++ rest �
 drained taken [] all e h = e ∙ append-nil taken
 drained taken (x ∷ rest) all e h = absurd (omega arith)
 
-pub line_left_out : (n : ℕ) (text : List ℕ) → AreLines n text → AreLines (suc n) text
-line_left_out n text h = left_out h
+pub line_left_out : (colored : Bool) (n : ℕ) (text : List ℕ) → AreLines colored n text → AreLines colored (suc n) text
+line_left_out colored n text h = left_out h
 
-pub uncounted : (n : ℕ) (text : List ℕ) → AreLines n text → AreLines (n + 0) text
-uncounted n text h = let step : n ≡ n + 0 = omega arith in subst (λ k. AreLines k text) step h
+pub uncounted : (colored : Bool) (n : ℕ) (text : List ℕ) → AreLines colored n text → AreLines colored (n + 0) text
+uncounted colored n text h = let step : n ≡ n + 0 = omega arith in subst (λ k. AreLines colored k text) step h
 
 pub reported : {E : Type 0} (r : Result Report E) (all : List Finding) (found : Option Fault) (detail : Detail) → map fact all ≡ document_facts found detail ++ content_fault found
     → IfOk r (λ x. x.errors.items ≡ filter is_error all) → IfOk r (λ x. x.warnings.items ≡ filter is_no_error all) → IfOk r (IsReportOn found detail)

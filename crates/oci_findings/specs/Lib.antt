@@ -1,6 +1,7 @@
 pub mod Annotations
 pub mod Asked
 pub mod Checks
+pub mod Colors
 pub mod Contents
 pub mod Files
 pub mod Findings

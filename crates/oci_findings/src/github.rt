@@ -1,6 +1,6 @@
 //! Findings as workflow commands of GitHub, which shows each beside its line of a change
 //! (GitHub Docs, "Workflow commands for GitHub Actions").
-ghost use Rattle.std.specs.Prelude.{◌≡◌, ◌+◌, ◌++◌, ℕ, length, IfOk, OnOk, string_bytes, encode_utf8_all};
+ghost use Rattle.std.specs.Prelude.{◌≡◌, ◌+◌, ◌++◌, false, ℕ, length, IfOk, OnOk, string_bytes, encode_utf8_all};
 ghost use Rattle.oci_base.specs.Escaped.{IsLine, escaped as shown_text};
 ghost use Rattle.oci_findings.specs.Github.{character_text, part_text};
 ghost use Rattle.oci_findings.specs.Lines.{AreLines};
@@ -25,7 +25,7 @@ enum Part {
 /// The commands of a report, a line each: errors before warnings and notes, none that equals the one before it. Fails if out of memory.
 #[tactic(auto, using(crate::proofs::Facts::both_lines))]
 pub fn commands_of(name: &str, report: &Report<'_>, alloc: Global) -> Result<String, AllocError>
-    ensures { IfOk result (λ t. AreLines (length report.now.errors.items + length report.now.warnings.items) (string_bytes t)) }
+    ensures { IfOk result (λ t. AreLines false (length report.now.errors.items + length report.now.warnings.items) (string_bytes t)) }
 {
     let mut lines = String::new(alloc);
     push_commands(&mut lines, name, report, &report.errors, alloc)?;
@@ -41,7 +41,7 @@ fn push_commands(
     found: &Vec<Finding<'_>>,
     alloc: Global,
 ) -> Result<(), AllocError>
-    ensures { OnOk result ((n : ℕ) → AreLines n (string_bytes lines.old) → AreLines (n + length found.now.items) (string_bytes lines.new)) }
+    ensures { OnOk result ((n : ℕ) → AreLines false n (string_bytes lines.old) → AreLines false (n + length found.now.items) (string_bytes lines.new)) }
 {
     let mut before = String::new(alloc);
     for finding in found {

@@ -4,6 +4,7 @@
 pub mod annotations;
 pub mod asked;
 pub mod claimed;
+pub mod color;
 pub mod contents;
 pub mod detect;
 pub mod examine;

@@ -1,7 +1,7 @@
 //! Writing findings as they are found.
-ghost use Rattle.std.specs.Prelude.{◌+◌, length, IfOk, OnOk, string_bytes};
+ghost use Rattle.std.specs.Prelude.{◌+◌, false, length, IfOk, OnOk, string_bytes};
 ghost use Rattle.oci_base.specs.Escaped.{IsLine};
-ghost use Rattle.oci_findings.specs.Lines.{WritesLines};
+ghost use Rattle.oci_findings.specs.Lines.{WritesLines, is_colored};
 
 use crate::github::commands_of;
 use crate::render::{json_line, lines_of, number_member, objects_of};
@@ -31,7 +31,7 @@ impl Reporter {
     pub fn new(style: Style, alloc: Global) -> std::result::Result<Reporter, AllocError> {
         let log = match style {
             Style::Sarif => Some(Log::new(alloc)?),
-            Style::Text | Style::Json | Style::Github => None,
+            Style::Text | Style::Color | Style::Json | Style::Github => None,
         };
         Ok(Reporter {
             alloc,
@@ -55,13 +55,17 @@ impl Reporter {
     /// Writes the findings on a file of this name, or keeps them for the log. Fails if they cannot be written, or if out of memory.
     #[tactic(auto, using(crate::proofs::Facts::written))]
     pub fn add<W: Write>(&mut self, name: &str, report: &Report<'_>, writer: &mut W) -> Result<()>
-        ensures { OnOk result (WritesLines (length report.now.errors.items + length report.now.warnings.items) (W.contents writer.old) (W.contents writer.new)) }
+        ensures { OnOk result (WritesLines (is_colored self.old.style) (length report.now.errors.items + length report.now.warnings.items) (W.contents writer.old) (W.contents writer.new)) }
     {
         self.errors = self.errors.saturating_add(report.errors.len() as u64);
         self.others = self.others.saturating_add(report.warnings.len() as u64);
         match self.style {
             Style::Text => {
-                let lines = lines_of(name, report, self.alloc)?;
+                let lines = lines_of(name, report, false, self.alloc)?;
+                write_text(lines.as_bytes(), writer)?;
+            }
+            Style::Color => {
+                let lines = lines_of(name, report, true, self.alloc)?;
                 write_text(lines.as_bytes(), writer)?;
             }
             Style::Json => {
@@ -98,7 +102,7 @@ impl Reporter {
     /// Fails as `add`.
     #[tactic(auto, using(crate::proofs::Facts::written, crate::proofs::Facts::one_line))]
     pub fn add_summary<W: Write>(&self, claims: u64, bytes: u64, writer: &mut W) -> Result<()>
-        ensures { OnOk result (WritesLines 1 (W.contents writer.old) (W.contents writer.new)) }
+        ensures { OnOk result (WritesLines false 1 (W.contents writer.old) (W.contents writer.new)) }
     {
         if self.style == Style::Json {
             let line = self.summary_line(claims, bytes)?;
@@ -126,7 +130,7 @@ impl Reporter {
     /// Writes the log, where there is one. Fails as `add`.
     #[tactic(auto, using(crate::proofs::Facts::written, crate::proofs::Facts::one_line))]
     pub fn finish<W: Write>(&mut self, writer: &mut W) -> Result<()>
-        ensures { OnOk result (WritesLines 1 (W.contents writer.old) (W.contents writer.new)) }
+        ensures { OnOk result (WritesLines false 1 (W.contents writer.old) (W.contents writer.new)) }
     {
         if let Some(log) = self.log.take() {
             let line = log.finish(self.alloc)?;

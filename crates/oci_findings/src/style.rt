@@ -5,6 +5,8 @@
 pub enum Style {
     /// Lines for people.
     Text,
+    /// The same lines, with the colours of a terminal.
+    Color,
     /// An object a line (JSON Lines).
     Json,
     /// One SARIF 2.1.0 log.

@@ -4,4 +4,4 @@ use Rattle.oci_findings.proofs.render.push_lines.Goals as goal
 
 pub loop-finding-preserved : goal.loop-finding-preserved
 loop-finding-preserved c =
-    λ n h. counted n c.loop-finding.finding-index (string_bytes c.push_new.new.lines) (c.in_ok-push_new.ensures (search rules) _ (c.loop-finding.invariant n h))
+    λ n h. counted c.args.colored n c.loop-finding.finding-index (string_bytes c.push_new.new.lines) (c.in_ok-push_new.ensures c.args.colored (search rules) _ (c.loop-finding.invariant n h))
