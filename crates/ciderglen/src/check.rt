@@ -1,4 +1,5 @@
 //! What `check` is asked by the command line and the file of a folder.
+use crate::colors::has_colors;
 use crate::config::{Config, refuse_name};
 use crate::files::SystemFiles;
 use crate::folders::Documents;
@@ -7,7 +8,7 @@ use crate::names::{fault_in, unknown_name};
 use crate::words::Words;
 use crate::{out_of_memory, policy_of, run_over, tell_usage};
 use clap::ArgMatches;
-use oci_commands::{Asked, Check, Unknown};
+use oci_commands::{Asked, Check, Style, Unknown};
 use oci_policies::Bump;
 use oci_rules::{Level, Rule};
 use std::alloc::{AllocError, Global};
@@ -49,6 +50,7 @@ fn check_files<'a>(
     };
     match found.names(arena, rt.alloc()) {
         Ok(files) => {
+            asked.style = style_in(given, has_colors(rt, given));
             asked.files = files;
             let mut store = SystemFiles::without(rt, found.unreadable.as_slice());
             run_over(rt, &mut store, &Asked::Check(asked))
@@ -103,7 +105,7 @@ fn refuse_names(
     }
 }
 
-/// What is asked: what the command line says, or else the file of the folder.
+/// What is asked of no files and in no colours yet: what the command line says, or else the file of the folder.
 fn merged<'a>(
     given: &ArgMatches<'_>,
     config: &Config<'a>,
@@ -124,7 +126,7 @@ fn merged<'a>(
         strict: given.get_flag("strict") || config.strict,
         ignore: names_in(given, "ignore", config.ignore, arena, alloc)?,
         only: names_in(given, "only", config.only, arena, alloc)?,
-        style: style_in(given),
+        style: Style::Text,
         quiet: given.get_flag("quiet"),
         files: &[],
     })

@@ -124,6 +124,16 @@ pub const FINDINGS: Argument = Argument {
     ..FORMAT
 };
 
+/// Whether lines for people have colours.
+pub const COLOR: Argument = Argument {
+    name: "color",
+    help: "When lines have colors; auto is on a terminal, unless NO_COLOR is set",
+    takes: Takes::Value("WHEN"),
+    values: &["auto", "always", "never"],
+    default: &["auto"],
+    ..PLAIN
+};
+
 /// The one file that is read.
 pub const FILE: Argument = Argument {
     name: "FILE",

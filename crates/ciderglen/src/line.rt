@@ -66,9 +66,9 @@ pub fn escaped_words(words: &[String], alloc: Global) -> Result<Vec<String>, All
 }
 
 /// How `verify` is asked to verify.
-pub fn options_in(given: &ArgMatches<'_>) -> Options {
+pub fn options_in(given: &ArgMatches<'_>, has_colors: bool) -> Options {
     let mut options = Options::new();
-    options.style = style_in(given);
+    options.style = style_in(given, has_colors);
     options.strict = given.get_flag("strict");
     options.quick = given.get_flag("quick");
     options.progress = given.get_flag("progress");
@@ -79,11 +79,12 @@ pub fn options_in(given: &ArgMatches<'_>) -> Options {
 pub fn asked<'a>(
     name: &str,
     given: &ArgMatches<'_>,
+    has_colors: bool,
     arena: &'a Bump,
     alloc: Global,
 ) -> Result<Option<Asked<'a>>, AllocError> {
     match name {
-        "diff" => Ok(Some(Asked::Compare(compare_in(given, arena)?))),
+        "diff" => Ok(Some(Asked::Compare(compare_in(given, has_colors, arena)?))),
         _ => asked_of_texts(name, given, arena, alloc),
     }
 }
@@ -122,7 +123,7 @@ fn reference_in<'a>(
     alloc: Global,
 ) -> Result<Asked<'a>, AllocError> {
     let texts = texts_in(given, "TEXT", arena, alloc)?;
-    Ok(Asked::Reference(style_in(given), texts))
+    Ok(Asked::Reference(style_in(given, false), texts))
 }
 
 fn digest_in<'a>(
@@ -175,10 +176,14 @@ fn format_in<'a>(given: &ArgMatches<'_>, file: &'a str, output: Option<&'a str>)
     }
 }
 
-fn compare_in<'a>(given: &ArgMatches<'_>, arena: &'a Bump) -> Result<Compare<'a>, AllocError> {
+fn compare_in<'a>(
+    given: &ArgMatches<'_>,
+    has_colors: bool,
+    arena: &'a Bump,
+) -> Result<Compare<'a>, AllocError> {
     Ok(Compare {
         kind: kind_in(given),
-        style: style_in(given),
+        style: style_in(given, has_colors),
         quiet: given.get_flag("quiet"),
         before: text_in(given, "A", arena)?,
         after: text_in(given, "B", arena)?,
@@ -209,11 +214,13 @@ pub fn kind_in(given: &ArgMatches<'_>) -> Option<Kind> {
     kind_named(given.get_str("kind")?)
 }
 
-pub fn style_in(given: &ArgMatches<'_>) -> Style {
+/// How findings and differences are written; lines for people in colours, or not.
+pub fn style_in(given: &ArgMatches<'_>, has_colors: bool) -> Style {
     match given.get_str("format") {
         Some("json") => Style::Json,
         Some("sarif") => Style::Sarif,
         Some("github") => Style::Github,
+        _ if has_colors => Style::Color,
         _ => Style::Text,
     }
 }

@@ -2,6 +2,7 @@
 #![tactic(auto)]
 
 mod check;
+mod colors;
 mod commands;
 mod config;
 mod described;
@@ -16,6 +17,7 @@ mod words;
 
 use check::{check, has_files_alone};
 use clap::{ArgMatches, Error};
+use colors::has_colors;
 use files::SystemFiles;
 use line::{asked, escaped_words, formats_in, lack_of_files, matches_of, options_in, status_of};
 use oci_base::line_of;
@@ -94,7 +96,7 @@ fn perform(rt: &HostRuntime, arena: &Bump, matches: &ArgMatches<'_>, words: &Wor
     }
     match name {
         "verify" => match given.get_str("DIR") {
-            Some(root) => verify(rt, &options_in(given), root),
+            Some(root) => verify(rt, &options_in(given, has_colors(rt, given)), root),
             None => 2,
         },
         "tree" => tree(rt, given.get_str("FILE").unwrap_or("-")),
@@ -103,7 +105,11 @@ fn perform(rt: &HostRuntime, arena: &Bump, matches: &ArgMatches<'_>, words: &Wor
             Err(_) => out_of_memory(rt),
         },
         "check" => check(rt, arena, given, words),
-        _ => run_asked(rt, asked(name, given, arena, rt.alloc())),
+        "diff" => run_asked(
+            rt,
+            asked(name, given, has_colors(rt, given), arena, rt.alloc()),
+        ),
+        _ => run_asked(rt, asked(name, given, false, arena, rt.alloc())),
     }
 }
 

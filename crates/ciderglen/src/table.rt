@@ -1,6 +1,6 @@
 //! The commands of the program, with their arguments and help texts, in a few tables: one alone is more than the prover takes at once.
 use crate::described::{
-    Argument, Bond, Described, FILE, FINDINGS, FORMAT, KIND, KINDS, PLAIN, QUIET, Takes,
+    Argument, Bond, COLOR, Described, FILE, FINDINGS, FORMAT, KIND, KINDS, PLAIN, QUIET, Takes,
 };
 
 /// What checks documents.
@@ -84,6 +84,7 @@ without it, allow
             ..PLAIN
         },
         FINDINGS,
+        COLOR,
         Argument {
             help: "Write no findings; the exit status says all",
             ..QUIET
@@ -166,6 +167,7 @@ pub static IMAGES: [Described; 3] = [
         example: "Example: ciderglen verify image",
         arguments: &[
             FINDINGS,
+            COLOR,
             Argument {
                 name: "strict",
                 help: "Notes are wrong too",
@@ -196,6 +198,7 @@ pub static IMAGES: [Described; 3] = [
         arguments: &[
             KIND,
             FORMAT,
+            COLOR,
             Argument {
                 help: "Write no differences; the exit status says all",
                 ..QUIET

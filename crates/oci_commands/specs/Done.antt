@@ -12,7 +12,7 @@ use Rattle.oci_findings.specs.Checks.{IsRight, IsWrong}
 use Rattle.oci_commands.specs.Compared.{HoldSame, HoldUnequal}
 use Rattle.oci_commands.specs.Formats.{Formats, HoldsPut, IsUnformatted, LosesNothing}
 use Rattle.oci_findings.specs.declared.style.Style.{Style}
-use Rattle.oci_findings.specs.declared.style.Style.TheVariants.{Text, Json, Sarif, Github}
+use Rattle.oci_findings.specs.declared.style.Style.TheVariants.{Text, Color, Json, Sarif, Github}
 use Rattle.oci_commands.specs.Refused.{IsNoReference, IsNoDigest, IsNoDescriptor, HasNone}
 use Rattle.oci_commands.specs.Texts.{IsReference, AreReferenceLines, AreDigestLines, IsFileLine, Joins}
 
@@ -27,6 +27,7 @@ AppendsEach Is items old new = (text : List ℕ) × Joins Is items text × Appen
 -- each text is a reference, and its lines were written where they are lines
 abbrev pub WroteReferences : Style → List (Bor (List ℕ)) → Option (List ℕ) → Option (List ℕ) → Type 0
 WroteReferences Text texts old new = AppendsEach AreReferenceLines texts old new
+WroteReferences Color texts old new = AppendsEach AreReferenceLines texts old new
 WroteReferences Json texts old new = All (λ t. IsReference t.now) texts
 WroteReferences Sarif texts old new = AppendsEach AreReferenceLines texts old new
 WroteReferences Github texts old new = AppendsEach AreReferenceLines texts old new

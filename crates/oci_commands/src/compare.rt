@@ -7,6 +7,7 @@ ghost use Rattle.oci_model.specs.Value.{value as json_of};
 ghost use Rattle.oci_schemas.specs.Kinds.{shape_of};
 ghost use Rattle.oci_diff.specs.Same.{AreSame};
 ghost use Rattle.oci_base.specs.Escaped.{IsLine};
+ghost use Rattle.oci_findings.specs.Colors.{IsColoredLine};
 ghost use Rattle.oci_commands.specs.Compared.{HoldSame, HoldUnequal, IsSide};
 ghost use Rattle.oci_commands.specs.Done.{IsStatus};
 
@@ -15,6 +16,7 @@ use crate::files::Files;
 use crate::texts::{complain, complain_of, is_wrong, report_findings};
 use oci_base::{Result, line_of};
 use oci_diff::{Change, Difference, differences};
+use oci_findings::color::{Color, colored_line};
 use oci_findings::inspect::{Reading, faulty, read_value};
 use oci_json::write_text;
 use oci_schema::by_value::normalize_value;
@@ -158,6 +160,7 @@ fn lines_of(style: Style, found: &Vec<Difference<'_>>, alloc: Global) -> Result<
     for difference in found {
         match style {
             Style::Text => push_line(&mut lines, difference, alloc)?,
+            Style::Color => push_colored_line(&mut lines, difference, alloc)?,
             _ => push_object(&mut lines, difference, alloc)?,
         }
     }
@@ -170,11 +173,28 @@ fn push_line(
     difference: &Difference<'_>,
     alloc: Global,
 ) -> std::result::Result<(), AllocError> {
-    let at = difference.pointer.as_str();
-    match difference.change {
-        Change::Added(value) => push_one_line(lines, "+", at, value, alloc),
-        Change::Removed(value) => push_one_line(lines, "-", at, value, alloc),
-        Change::Changed(before, after) => push_both_line(lines, at, before, after, alloc),
+    let text = difference_text(difference, alloc)?;
+    push_text(lines, text.as_str(), alloc)
+}
+
+/// Adds the same line in the colour of its change.
+fn push_colored_line(
+    lines: &mut Vec<u8>,
+    difference: &Difference<'_>,
+    alloc: Global,
+) -> std::result::Result<(), AllocError>
+    ensures { OnOk result ((line : List ℕ) × IsColoredLine line × (lines.new.items ≡ lines.old.items ++ line)) }
+{
+    let text = difference_text(difference, alloc)?;
+    let line = colored_line(color_of(difference.change), text.as_str(), alloc)?;
+    lines.extend_from_slice(line.as_bytes())
+}
+
+fn color_of(change: Change<'_>) -> Color {
+    match change {
+        Change::Added(_) => Color::Green,
+        Change::Removed(_) => Color::Red,
+        Change::Changed(..) => Color::Yellow,
     }
 }
 
@@ -186,30 +206,27 @@ fn push_text(lines: &mut Vec<u8>, text: &str, alloc: Global) -> std::result::Res
     lines.extend_from_slice(line.as_bytes())
 }
 
-/// Adds the line of a value that is on one side alone.
-fn push_one_line(
-    lines: &mut Vec<u8>,
-    mark: &str,
-    at: &str,
-    value: &Value,
+/// How a difference is said to people: what is there on one side alone, or both values.
+fn difference_text(
+    difference: &Difference<'_>,
     alloc: Global,
-) -> std::result::Result<(), AllocError> {
-    let value = value.to_string(alloc)?;
-    let text = format!(in alloc; "{mark} {at}: {value}")?;
-    push_text(lines, text.as_str(), alloc)
-}
-
-fn push_both_line(
-    lines: &mut Vec<u8>,
-    at: &str,
-    before: &Value,
-    after: &Value,
-    alloc: Global,
-) -> std::result::Result<(), AllocError> {
-    let before = before.to_string(alloc)?;
-    let after = after.to_string(alloc)?;
-    let text = format!(in alloc; "~ {at}: {before} -> {after}")?;
-    push_text(lines, text.as_str(), alloc)
+) -> std::result::Result<String, AllocError> {
+    let at = difference.pointer.as_str();
+    match difference.change {
+        Change::Added(value) => {
+            let value = value.to_string(alloc)?;
+            format!(in alloc; "+ {at}: {value}")
+        }
+        Change::Removed(value) => {
+            let value = value.to_string(alloc)?;
+            format!(in alloc; "- {at}: {value}")
+        }
+        Change::Changed(before, after) => {
+            let before = before.to_string(alloc)?;
+            let after = after.to_string(alloc)?;
+            format!(in alloc; "~ {at}: {before} -> {after}")
+        }
+    }
 }
 
 /// Adds the object of a difference for programs.

@@ -61,7 +61,7 @@ pub fn report_findings<E: Write>(
     alloc: Global,
     errors: &mut E,
 ) -> Result<()> {
-    let lines = lines_of(name, found, alloc)?;
+    let lines = lines_of(name, found, false, alloc)?;
     complain(lines.as_str(), errors);
     Ok(())
 }
@@ -99,7 +99,7 @@ pub fn references<W: Write, E: Write>(
 {
     match style {
         Style::Json => reference_objects(texts, alloc, writer, errors),
-        Style::Text | Style::Sarif | Style::Github => {
+        Style::Text | Style::Color | Style::Sarif | Style::Github => {
             reference_lines(texts, alloc, writer, errors)
         }
     }
