@@ -123,7 +123,7 @@ def books(model):
 def root(model, crate):
     """The root file of a crate of books."""
     words = sorted(it.word for it in books(model) if model.crate[it.file] == crate)
-    out = f"//! {ABOUT[crate]}\n#![tactic(auto)]\n\n{MACRO}\n" + "".join(f"mod {it};\n" for it in sorted([*words, "lists"])) + "pub mod kinds;\n"
+    out = f"//! {ABOUT[crate]}\n#![tactic(auto)]\n\n{MACRO}\n" + "".join(f"mod {it};\n" for it in sorted([*words, "lists"])) + "pub mod kinds;\npub mod laws;\n"
     out += "\npub use kinds::rules_of;\n"
     return out + f'\n/// The specifications whose texts the rules hold to, with their versions.\npub const VERSIONS: &str = "{model.versions}";\n'
 

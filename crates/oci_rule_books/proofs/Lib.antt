@@ -1,2 +1,4 @@
 pub mod Chains
+pub mod NullsInBooks
+pub mod NullsInShapes
 pub mod Places

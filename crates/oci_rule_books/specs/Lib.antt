@@ -8,6 +8,7 @@ pub mod Kinds
 pub mod Linux
 pub mod Lists
 pub mod Manifest
+pub mod Nulls
 pub mod Others
 pub mod Platforms
 pub mod Process

@@ -31,6 +31,7 @@ mod index_manifests_annotations;
 mod index_subject;
 mod index_subject_annotations;
 pub mod kinds;
+pub mod laws;
 mod layout;
 mod linux;
 mod linux_block;

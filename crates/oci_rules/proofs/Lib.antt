@@ -6,6 +6,10 @@ pub mod Documents
 pub mod Extents
 pub mod Found
 pub mod Grammars
+pub mod NullParts
+pub mod NullPlaces
+pub mod NullReads
+pub mod NullTests
 pub mod Others
 pub mod PartsTold
 pub mod Sets

@@ -70,7 +70,7 @@ same_any p q is None = refl
 same_any p q is (Some t) = is t
 
 -- the same texts list the same others
-others_same : (r : Rule) (p q : List ℕ → Bool) → ((t : List ℕ) → p t ≡ q t) → (at : List ℕ) (i : ℕ) (ds : Items) → others r p at i ds ≡ others r q at i ds
+pub others_same : (r : Rule) (p q : List ℕ → Bool) → ((t : List ℕ) → p t ≡ q t) → (at : List ℕ) (i : ℕ) (ds : Items) → others r p at i ds ≡ others r q at i ds
 others_same r p q is at i no_items = refl
 others_same r p q is at i (item d ds) =
     let one = same_any p q is (as_str d) in

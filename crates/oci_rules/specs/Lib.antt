@@ -2,6 +2,7 @@ pub mod Breaks
 pub mod Decided
 pub mod Documents
 pub mod Listed
+pub mod Nulls
 pub mod Parts
 pub mod Platforms
 pub mod Rules

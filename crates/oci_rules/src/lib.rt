@@ -7,6 +7,7 @@ pub mod document;
 pub mod find;
 mod items;
 mod keys;
+pub mod laws;
 mod parts;
 mod passes;
 pub mod rule;
