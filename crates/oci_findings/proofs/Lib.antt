@@ -9,5 +9,7 @@ pub mod FoundKinds
 pub mod Keys
 pub mod Listed
 pub mod Marks
+pub mod OwnKinds
+pub mod OwnMembers
 pub mod Told
 mod Unlisted

@@ -12,6 +12,7 @@ pub mod Kinds
 pub mod Known
 pub mod LeftOut
 pub mod Lines
+pub mod OwnKind
 pub mod Repeated
 pub mod Reports
 pub mod Wording

@@ -15,6 +15,7 @@ pub mod inspect;
 pub mod json_fault;
 mod json_string;
 pub mod kinds;
+pub mod laws;
 pub mod left_out;
 mod levels;
 pub mod outline;
