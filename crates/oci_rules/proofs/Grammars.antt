@@ -1,4 +1,4 @@
--- Whether a text is of a grammar.
+-- Whether a text is of a grammar, or has a match.
 use Rattle.std.proofs.Common.{◌≡◌, Bool, List, ℕ}
 use Rattle.std.specs.Prelude.{◌↔◌, IsTrue}
 use Rattle.std.proofs.lemmas.Bool.Decides.{same_from_decides}
@@ -11,6 +11,8 @@ use Rattle.oci_grammars.specs.Nesting.{IsInside}
 use Rattle.oci_grammars.specs.Precedence.{AreInOrder}
 use Rattle.oci_grammars.specs.Tests.{is_of}
 use Rattle.oci_grammars.specs.declared.grammar.Grammar.{Grammar}
+use Rattle.oci_patterns.specs.Expressions.{HasMatch, has_match}
+use Rattle.oci_patterns.proofs.Matching.{has_match_tells}
 use Rattle.oci_grammars.proofs.Grammars.{is_of_decides}
 use Rattle.oci_grammars.proofs.LicenseLists.{has_listed_decides}
 use Rattle.oci_grammars.proofs.NestedPaths.{is_inside_decides}
@@ -23,6 +25,10 @@ accepted g t r h = same_from_decides r (is_of g t) h (is_of_decides g t)
 -- the same of the licences of an expression
 pub listed : (licenses exceptions : List (List ℕ)) (t : List ℕ) (r : Bool) → IsTrue r ↔ HasListed licenses exceptions t → r ≡ has_listed licenses exceptions t
 listed licenses exceptions t r h = same_from_decides r (has_listed licenses exceptions t) h (has_listed_decides licenses exceptions t)
+
+-- and of a regular expression
+pub matched : (pattern t : List ℕ) (r : Bool) → IsTrue r ↔ HasMatch pattern t → r ≡ has_match pattern t
+matched pattern t r h = same_from_decides r (has_match pattern t) h (has_match_tells pattern t)
 
 -- and of the order of versions
 pub in_order : (first second : List ℕ) (r : Bool) → IsTrue r ↔ AreInOrder first second → r ≡ are_in_order first second

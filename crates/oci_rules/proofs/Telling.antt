@@ -15,7 +15,8 @@ use Rattle.oci_grammars.specs.DecidedPrecedence.{are_in_order}
 use Rattle.oci_grammars.specs.Grammars.{IsOf}
 use Rattle.oci_grammars.specs.Licenses.{words_in, HasListed}
 use Rattle.oci_grammars.specs.Precedence.{AreInOrder}
-use Rattle.oci_rules.specs.Rules.{Key, Test, text, spdx_identifiers, one_of, none_of, begins, reserved, within, truth, there, absent, not_null, boolean_member, either, not_empty, length_at_most, at_most, versions_in_order, sum_at_most, as_many, lists, lists_item, apart, distinct, among, Rule}
+use Rattle.oci_patterns.specs.Expressions.{HasMatch, has_match}
+use Rattle.oci_rules.specs.Rules.{Key, Test, text, spdx_identifiers, one_of, none_of, begins, matches, reserved, within, truth, there, absent, not_null, boolean_member, either, not_empty, length_at_most, at_most, versions_in_order, sum_at_most, as_many, lists, lists_item, apart, distinct, among, Rule}
 use Rattle.oci_rules.specs.Parts.{present, text_at, whole_at, natural_at, items_at, items_led, extent}
 use Rattle.oci_rules.specs.Tests.{SomeItem, SomeName, EachItem, IsThere, IsOneOf, IsWithin, BeginsWith, IsAmong, AreDistinct, Passes}
 use Rattle.oci_rules.specs.Breaks.{Told, Shows, HasEarlier, IsOther}
@@ -26,6 +27,7 @@ use Rattle.oci_rules.proofs.Deciding.{clash, itself, if_any_tells, some_item_tel
 use Rattle.oci_grammars.proofs.Grammars.{is_of_decides}
 use Rattle.oci_grammars.proofs.LicenseLists.{has_listed_decides}
 use Rattle.oci_grammars.proofs.VersionOrder.{in_order_decides}
+use Rattle.oci_patterns.proofs.Matching.{has_match_tells}
 use Rattle.oci_schema.proofs.EachPart.{nothing_in}
 use Rattle.oci_rules.proofs.Found.{not_nil, in_unless, none_of as no_item_of}
 use Rattle.oci_rules.proofs.Others.{others_none, others_in}
@@ -148,6 +150,7 @@ law (none_of ts) r at d =
     alone (is_passed (none_of ts) d) (Passes (none_of ts) d) r at
     (if_any_tells (λ t. not (is_listed ts t)) (λ t. IsTrue (is_listed ts t) → ⊥) (λ t. Decides-not (is_listed ts t) (itself (is_listed ts t))) (as_str d))
 law (begins front) r at d = alone (is_passed (begins front) d) (Passes (begins front) d) r at (if_any_tells (begins_with front) (BeginsWith front) (begins_tells front) (as_str d))
+law (matches pattern) r at d = alone (is_passed (matches pattern) d) (Passes (matches pattern) d) r at (if_any_tells (has_match pattern) (HasMatch pattern) (has_match_tells pattern) (as_str d))
 law (reserved front ts) r at d =
     alone (is_passed (reserved front ts) d) (Passes (reserved front ts) d) r at
     (if_any_tells (λ t. not (begins_with front t) || is_listed ts t) (λ t. BeginsWith front t → IsTrue (is_listed ts t))

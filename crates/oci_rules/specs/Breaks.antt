@@ -5,7 +5,7 @@ use Rattle.serde_json.specs.Data.{Data, string, Items, no_items}
 use Rattle.serde_json.specs.Find.{get_item}
 use Rattle.oci_schema.specs.Places.{under_name, under_index}
 use Rattle.oci_schema.specs.Leads.{HasMember, HasItem}
-use Rattle.oci_rules.specs.Rules.{Platform, Key, Test, text, spdx_identifiers, one_of, none_of, begins, reserved, within, truth, there, absent, not_null, boolean_member, either, not_empty, length_at_most, at_most, versions_in_order, sum_at_most, as_many, lists, lists_item, apart, distinct, among, Place, here, under, each_item, each_member, each_name, if_so, Rule}
+use Rattle.oci_rules.specs.Rules.{Platform, Key, Test, text, spdx_identifiers, one_of, none_of, begins, matches, reserved, within, truth, there, absent, not_null, boolean_member, either, not_empty, length_at_most, at_most, versions_in_order, sum_at_most, as_many, lists, lists_item, apart, distinct, among, Place, here, under, each_item, each_member, each_name, if_so, Rule}
 use Rattle.oci_rules.specs.Platforms.{is_for}
 use Rattle.oci_rules.specs.Parts.{present, items_at, key_of}
 use Rattle.oci_rules.specs.Tests.{IsAmong, Holds, Passes}
@@ -34,6 +34,7 @@ Shows (spdx_identifiers licenses exceptions) at d shown = shown ≡ at
 Shows (one_of ts) at d shown = shown ≡ at
 Shows (none_of ts) at d shown = shown ≡ at
 Shows (begins front) at d shown = shown ≡ at
+Shows (matches pattern) at d shown = shown ≡ at
 Shows (reserved front ts) at d shown = shown ≡ at
 Shows (within low high) at d shown = shown ≡ at
 Shows (truth b) at d shown = shown ≡ at

@@ -12,7 +12,8 @@ use Rattle.oci_grammars.specs.DecidedNesting.{is_inside}
 use Rattle.oci_grammars.specs.DecidedPrecedence.{are_in_order}
 use Rattle.oci_grammars.specs.Licenses.{words_in}
 use Rattle.oci_grammars.specs.Tests.{is_of}
-use Rattle.oci_rules.specs.Rules.{Check, is_there, is_text, is_truth, is_within, has_text, has_item, Condition, asks, Test, text, spdx_identifiers, one_of, none_of, begins, reserved, within, truth, there, absent, not_null, boolean_member, either, not_empty, length_at_most, at_most, versions_in_order, sum_at_most, as_many, lists, lists_item, apart, distinct, among}
+use Rattle.oci_patterns.specs.Expressions.{has_match}
+use Rattle.oci_rules.specs.Rules.{Check, is_there, is_text, is_truth, is_within, has_text, has_item, Condition, asks, Test, text, spdx_identifiers, one_of, none_of, begins, matches, reserved, within, truth, there, absent, not_null, boolean_member, either, not_empty, length_at_most, at_most, versions_in_order, sum_at_most, as_many, lists, lists_item, apart, distinct, among}
 use Rattle.oci_rules.specs.Parts.{present, led, text_at, whole_at, natural_at, items_led, without, extent}
 use Rattle.oci_rules.specs.Tests.{origin_in}
 
@@ -108,6 +109,7 @@ is_passed (spdx_identifiers licenses exceptions) d = if_any (has_listed (words_i
 is_passed (one_of ts) d = if_any (is_listed ts) (as_str d)
 is_passed (none_of ts) d = if_any (λ t. not (is_listed ts t)) (as_str d)
 is_passed (begins front) d = if_any (begins_with front) (as_str d)
+is_passed (matches pattern) d = if_any (has_match pattern) (as_str d)
 is_passed (reserved front ts) d = if_any (λ t. not (begins_with front t) || is_listed ts t) (as_str d)
 is_passed (within low high) d = if_any (is_in low high) (as_whole d)
 is_passed (truth b) d = if_any (beq b) (as_bool d)

@@ -77,6 +77,8 @@ pub data Test : Type 0 where
   one_of : List (List ℕ) → Test
   none_of : List (List ℕ) → Test
   begins : List ℕ → Test
+  -- a text has a match of this regular expression
+  matches : List ℕ → Test
   -- a text that begins so is one of these
   reserved : List ℕ → List (List ℕ) → Test
   within : ℤ → ℤ → Test

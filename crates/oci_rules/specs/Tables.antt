@@ -81,6 +81,7 @@ test_of (test.SpdxIdentifiers licenses exceptions) = rules.spdx_identifiers lice
 test_of (test.OneOf ts) = rules.one_of (texts_of ts.now)
 test_of (test.NoneOf ts) = rules.none_of (texts_of ts.now)
 test_of (test.Begins t) = rules.begins t.now
+test_of (test.Matches t) = rules.matches t.now
 test_of (test.Reserved t ts) = rules.reserved t.now (texts_of ts.now)
 test_of (test.Within low high) = rules.within low high
 test_of (test.Boolean b) = rules.truth b

@@ -9,7 +9,8 @@ use Rattle.oci_grammars.specs.Grammars.{IsOf}
 use Rattle.oci_grammars.specs.Licenses.{words_in, HasListed}
 use Rattle.oci_grammars.specs.Nesting.{IsInside}
 use Rattle.oci_grammars.specs.Precedence.{AreInOrder}
-use Rattle.oci_rules.specs.Rules.{Origin, the_part, the_document, Check, is_there, is_text, is_truth, is_within, has_text, has_item, Condition, asks, Key, Test, text, spdx_identifiers, one_of, none_of, begins, reserved, within, truth, there, absent, not_null, boolean_member, either, not_empty, length_at_most, at_most, versions_in_order, sum_at_most, as_many, lists, lists_item, apart, distinct, among}
+use Rattle.oci_patterns.specs.Expressions.{HasMatch}
+use Rattle.oci_rules.specs.Rules.{Origin, the_part, the_document, Check, is_there, is_text, is_truth, is_within, has_text, has_item, Condition, asks, Key, Test, text, spdx_identifiers, one_of, none_of, begins, matches, reserved, within, truth, there, absent, not_null, boolean_member, either, not_empty, length_at_most, at_most, versions_in_order, sum_at_most, as_many, lists, lists_item, apart, distinct, among}
 use Rattle.oci_rules.specs.Parts.{present, led, text_at, whole_at, natural_at, items_at, items_led, without, extent, key_of}
 
 abbrev pub EachItem : (Data → Type 0) → Items → Type 0
@@ -95,6 +96,7 @@ Passes (spdx_identifiers licenses exceptions) d = IfSome (as_str d) (HasListed (
 Passes (one_of ts) d = IfSome (as_str d) (λ t. IsTrue (is_listed ts t))
 Passes (none_of ts) d = IfSome (as_str d) (λ t. IsTrue (is_listed ts t) → ⊥)
 Passes (begins front) d = IfSome (as_str d) (BeginsWith front)
+Passes (matches pattern) d = IfSome (as_str d) (HasMatch pattern)
 Passes (reserved front ts) d = IfSome (as_str d) (λ t. BeginsWith front t → IsTrue (is_listed ts t))
 Passes (within low high) d = IfSome (as_whole d) (IsWithin low high)
 Passes (truth b) d = IfSome (as_bool d) (λ c. c ≡ b)

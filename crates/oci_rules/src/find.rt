@@ -25,7 +25,8 @@ struct Asked<'a, 'd> {
     document: &'d Value,
 }
 
-/// What breaks the rules for the platform in the value, rule by rule and part by part.
+/// What breaks the rules for the platform in the value, rule by rule and part by part. Fails if out of memory, or if a regular expression
+/// of a rule takes too much of it.
 pub fn broken<'a>(
     rules: &'a [Rule<'a>],
     platform: RuntimePlatform,
@@ -146,7 +147,7 @@ fn add_part<'a>(
 ) -> Result<(), AllocError>
     ensures { OnOk result (map told found.new.items ≡ map told found.old.items ++ told_by (test_of rule.now.test) (rule_of rule.now) (places.pointer at.now) (view part.now)) }
 {
-    if !passes(&rule.test, part) {
+    if !passes(&rule.test, part, alloc)? {
         add_shown(rule, at, found, alloc)?;
     }
     add_items_broken(rule, part, at, found, alloc)

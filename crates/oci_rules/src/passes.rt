@@ -1,11 +1,12 @@
 //! Whether a part passes a test, as far as its own items are not compared.
-ghost use Rattle.std.specs.Prelude.{◌≡◌, option_map};
+ghost use Rattle.std.specs.Prelude.{◌≡◌, option_map, IfOk};
 ghost use Rattle.std.specs.List.{list_any};
 ghost use Rattle.serde_json.specs.View.{view, items_view};
 ghost use Rattle.oci_grammars.specs.DecidedLicenses.{has_listed};
 ghost use Rattle.oci_grammars.specs.DecidedPrecedence.{are_in_order as in_order};
 ghost use Rattle.oci_grammars.specs.Licenses.{words_in};
 ghost use Rattle.oci_grammars.specs.Tests.{is_of};
+ghost use Rattle.oci_patterns.specs.Expressions.{has_match as does_match};
 ghost use Rattle.oci_rules.specs.Decided.{has as does_have, is_passed, begins_with as does_begin, is_at_most, are_versions as are_versions_in, is_sum_at_most, is_as_many, some_item, has_text_under as does_have_text};
 ghost use Rattle.oci_rules.specs.Parts.{without};
 ghost use Rattle.oci_rules.specs.Tables.{texts_of, test_of};
@@ -18,13 +19,15 @@ use crate::parts::{
 };
 use crate::rule::Test;
 use oci_grammars::{Grammar, are_in_order, has_listed_licenses};
+use oci_patterns::is_match;
 use serde_json::Value;
+use std::alloc::{AllocError, Global};
 
 /// Whether the part passes the test; where a test compares items, nothing is asked here.
-pub fn passes(test: &Test, part: &Value) -> bool
-    ensures { result ≡ is_passed (test_of test.now) (view part.now) }
+pub fn passes(test: &Test, part: &Value, alloc: Global) -> Result<bool, AllocError>
+    ensures { IfOk result (λ b. b ≡ is_passed (test_of test.now) (view part.now)) }
 {
-    match test {
+    let passed = match test {
         Test::Text(grammar) => match part.as_str() {
             Some(text) => accepts(*grammar, text),
             None => true,
@@ -43,6 +46,10 @@ pub fn passes(test: &Test, part: &Value) -> bool
         },
         Test::Begins(front) => match part.as_str() {
             Some(text) => begins_with(front, text),
+            None => true,
+        },
+        Test::Matches(pattern) => match part.as_str() {
+            Some(text) => has_match(pattern, text, alloc)?,
             None => true,
         },
         Test::Reserved(front, texts) => match part.as_str() {
@@ -96,7 +103,8 @@ pub fn passes(test: &Test, part: &Value) -> bool
             None => true,
         },
         Test::Distinct(_) | Test::Among(_, _) => true,
-    }
+    };
+    Ok(passed)
 }
 
 fn accepts(grammar: Grammar, text: &str) -> bool
@@ -109,6 +117,14 @@ fn are_listed(text: &str, licenses: &str, exceptions: &str) -> bool
     ensures { result ≡ has_listed (words_in licenses.now) (words_in exceptions.now) text.now }
 {
     has_listed_licenses(text, licenses, exceptions)
+}
+
+/// Whether the text has a match of the regular expression.
+fn has_match(pattern: &str, text: &str, alloc: Global) -> Result<bool, AllocError>
+    ensures { IfOk result (λ b. b ≡ does_match pattern.now text.now) }
+{
+    let found = is_match(pattern, text, alloc)?;
+    Ok(found)
 }
 
 fn begins_with(front: &str, text: &str) -> bool

@@ -120,6 +120,9 @@ pub enum Test<'a> {
     NoneOf(&'a [&'a str]),
     /// A string begins with this.
     Begins(&'a str),
+    /// A string has a match of this regular expression, in the syntax of the crate `regex`; `^` and `$` hold it to the ends. None has a
+    /// match of what is no regular expression.
+    Matches(&'a str),
     /// A string that begins with the first is one of the others.
     Reserved(&'a str, &'a [&'a str]),
     /// An integer is from the one bound to the other, both included.
