@@ -213,6 +213,10 @@ fn policy_line(file: &str, error: &PolicyError, alloc: Global) -> Result<String,
             let told = error.message();
             format!(in alloc; "{file}:{line}: not TOML: {told} [policy]")?
         }
+        PolicyError::TooBig { line } => {
+            let lack = "expected a regular expression that takes less memory";
+            format!(in alloc; "{file}:{line}: /matches: {lack} [policy]")?
+        }
         PolicyError::Rule { line, reason } => {
             let told = reason_text(reason, alloc)?;
             format!(in alloc; "{file}:{line}: {told} [policy]")?
@@ -227,6 +231,9 @@ fn reason_text(reason: &Reason, alloc: Global) -> Result<String, AllocError> {
         Reason::Missing(name) => format!(in alloc; "/{name}: required member is missing"),
         Reason::Expected { key, expected } => format!(in alloc; "/{key}: expected {expected}"),
         Reason::Empty(name) => { format!(in alloc; "/{name}: expected a value that is not empty") }
+        Reason::Pattern { key, what, at } => {
+            format!(in alloc; "/{key}: expected a regular expression ({what}, at byte {at})")
+        }
         Reason::Unknown(name) => format!(in alloc; "/{name}: unknown member"),
         Reason::NoTest => {
             String::from_str(alloc, "required member is missing (a test, as one_of)")

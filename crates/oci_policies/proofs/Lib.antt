@@ -1,3 +1,4 @@
 pub mod Both
+pub mod Expressions
 pub mod Lists
 pub mod Slashes

@@ -1,5 +1,5 @@
 -- The rules that a TOML document holds: those of the tables of its array `rule`, in order.
-use Rattle.std.specs.Prelude.{ℕ, List, [], ◌∷◌, ◌++◌, map, codes, bytes_eq, Option, Some, None, option_map, option_and_then, if◌then◌else◌, ◌≡◌}
+use Rattle.std.specs.Prelude.{ℕ, List, [], ◌∷◌, ◌++◌, map, codes, bytes_eq, Option, Some, None, option_map, option_and_then, if◌then◌else◌, ◌≡◌, ⊤}
 use Rattle.toml.specs.Data.{Data, Items, no_items, item, Members, as_str, as_table}
 use Rattle.toml.specs.Parse.{parse_document}
 use Rattle.oci_rules.specs.Rules.{Level, Platform, Place, Test, Rule}
@@ -8,6 +8,8 @@ use Rattle.oci_rules.specs.Words.{level_named, platform_named}
 use Rattle.oci_policies.specs.Conditions.{condition_in}
 use Rattle.oci_policies.specs.Places.{Step, if_so, along, steps_of, steps_in}
 use Rattle.oci_policies.specs.Tests.{test_named}
+use Rattle.oci_policies.specs.declared.error.PolicyError.{PolicyError}
+use Rattle.oci_policies.specs.declared.error.PolicyError.TheVariants.{TooBig}
 use Rattle.oci_policies.specs.Values.{both, list_in, some_items_in, some_in, under, under_or, has_only, sole_other}
 
 abbrev pub level_in : Data → Option Level
@@ -105,3 +107,8 @@ policy_in ms = if has_only document_names ms then option_and_then rules_in (unde
 -- the text is a TOML document that holds these rules
 abbrev pub IsPolicy : List ℕ → List Worded → Type 0
 IsPolicy text rules = option_and_then policy_in (parse_document text) ≡ Some rules
+
+-- a text is refused, since a regular expression would take too much memory
+abbrev pub IsTooBig : PolicyError → Type 0
+IsTooBig (TooBig line) = ⊤
+IsTooBig _ = ⊥

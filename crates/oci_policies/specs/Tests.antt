@@ -4,7 +4,7 @@ use Rattle.toml.specs.Data.{Data, Members, as_str, as_bool}
 use Rattle.oci_rules.specs.Rules as rules
 use Rattle.oci_policies.specs.Grammars.{grammar_in}
 use Rattle.oci_policies.specs.Places.{way_in}
-use Rattle.oci_policies.specs.Values.{both, texts_in, some_in, some_text_in, some_texts_in, pair_in, natural_in, bounds_in, yes_in, under, table_of}
+use Rattle.oci_policies.specs.Values.{both, texts_in, some_in, some_text_in, expression_in, some_texts_in, pair_in, natural_in, bounds_in, yes_in, under, table_of}
 
 -- `prefix` and `names`
 abbrev pub reserved_of : Members → Option rules.Test
@@ -73,5 +73,6 @@ test_named k d =
     else (if bytes_eq k (codes "one_of") then option_map rules.one_of (some_texts_in d)
     else (if bytes_eq k (codes "none_of") then option_map rules.none_of (some_texts_in d)
     else (if bytes_eq k (codes "begins") then option_map rules.begins (some_text_in d)
+    else (if bytes_eq k (codes "matches") then option_map rules.matches (expression_in d)
     else (if bytes_eq k (codes "reserved") then option_and_then reserved_of (table_of reserved_names d)
-    else size_test k d))))
+    else size_test k d)))))

@@ -1,13 +1,14 @@
 -- What values of a TOML document hold, each as what it has to be, or nothing.
-use Rattle.std.specs.Prelude.{ℕ, ℤ, pos, int_le, List, [], ◌∷◌, ◌++◌, length, ◌==◌, Bool, true, false, Option, Some, None, option_and_then, if◌then◌else◌, ◌≡◌, unsigned_abs, MatchResult, Result}
+use Rattle.std.specs.Prelude.{ℕ, ℤ, pos, int_le, List, [], ◌∷◌, ◌++◌, length, ◌==◌, Bool, true, false, Option, Some, None, is_some, option_and_then, if◌then◌else◌, ◌≡◌, unsigned_abs, MatchResult, Result}
 use Rattle.toml.specs.Data.{Data, Items, no_items, item, Members, no_members, member, as_str, as_bool, as_integer, as_array, as_table, get_member}
 use Rattle.oci_base.specs.Names.{is_listed}
+use Rattle.oci_patterns.specs.Expressions.{expression_of}
 use Rattle.oci_policies.specs.declared.error.Fault.{Fault}
-use Rattle.oci_policies.specs.declared.error.Fault.TheVariants.{Memory}
+use Rattle.oci_policies.specs.declared.error.Fault.TheVariants.{Memory, TooBig}
 
--- what is read is the expected value, and what is refused, but for memory, has none
+-- what is read is the expected value, and what is refused, but for memory and for an expression that is too big, has none
 abbrev pub Reads : {A B : Type 0} → (A → B) → Result A Fault → Option B → Type 0
-Reads f r o = MatchResult r (λ x. o ≡ Some (f x)) (λ e. (e ≡ Memory → ⊥) → o ≡ None)
+Reads f r o = MatchResult r (λ x. o ≡ Some (f x)) (λ e. (e ≡ Memory → ⊥) → (e ≡ TooBig → ⊥) → o ≡ None)
 
 -- both, if there are both
 abbrev pub both : {A B : Type 0} → Option A → Option B → Option (A × B)
@@ -49,6 +50,13 @@ some_text t = if length t == 0 then None else Some t
 
 abbrev pub some_text_in : Data → Option (List ℕ)
 some_text_in d = option_and_then some_text (as_str d)
+
+-- a text that is a regular expression
+abbrev pub expression : List ℕ → Option (List ℕ)
+expression t = if is_some (expression_of t) then Some t else None
+
+abbrev pub expression_in : Data → Option (List ℕ)
+expression_in d = option_and_then expression (some_text_in d)
 
 -- the items, if there are some
 abbrev pub some_items : Items → Option Items

@@ -16,6 +16,12 @@ pub enum PolicyError {
         /// What the TOML reader says.
         error: toml::de::Error,
     },
+    /// A regular expression would take too much memory; the line is that at which the rule begins.
+    #[error("line {line}: `matches`: the regular expression is too big")]
+    TooBig {
+        /// The line, from 1.
+        line: usize,
+    },
     /// The document is no policy; the line is that at which the rule begins.
     #[error("line {line}: {reason}")]
     Rule {
@@ -43,6 +49,16 @@ pub enum Reason {
     /// A member is an empty array or an empty string, and would ask nothing, or what nothing keeps.
     #[error("`{0}` is empty")]
     Empty(&'static str),
+    /// A member is no regular expression.
+    #[error("`{key}`: expected a regular expression: {what}, at byte {at}")]
+    Pattern {
+        /// The name of the member.
+        key: &'static str,
+        /// What is wrong with it.
+        what: &'static str,
+        /// Where that begins: the byte, from 0.
+        at: usize,
+    },
     /// There is no member of this name.
     #[error("unknown member `{0}`")]
     Unknown(String),
@@ -59,6 +75,8 @@ pub enum Reason {
 pub(crate) enum Fault {
     /// Out of memory.
     Memory,
+    /// A regular expression would take too much memory.
+    TooBig,
     /// It is not what is asked for.
     Refused(Reason),
 }

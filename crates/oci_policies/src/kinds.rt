@@ -10,8 +10,8 @@ use crate::error::{Fault, expected};
 use crate::grammars::grammar;
 use crate::places::way;
 use crate::values::{
-    boolean, bounds, kept_some_text, kept_text, kept_under, natural, pair, some_items, some_texts,
-    table_of, texts_under, under, unknown, yes,
+    boolean, bounds, kept_expression, kept_some_text, kept_text, kept_under, natural, pair,
+    some_items, some_texts, table_of, texts_under, under, unknown, yes,
 };
 use bumpalo::Bump;
 use bumpalo::collections::into_bump_slice;
@@ -202,6 +202,7 @@ pub(crate) fn test<'a>(
         "one_of" => Ok(Test::OneOf(some_texts(arena, "one_of", value)?)),
         "none_of" => Ok(Test::NoneOf(some_texts(arena, "none_of", value)?)),
         "begins" => Ok(Test::Begins(kept_some_text(arena, "begins", value)?)),
+        "matches" => Ok(Test::Matches(kept_expression(arena, "matches", value, alloc)?)),
         "reserved" => reserved(arena, table_of(reserved_names(), "reserved", value, alloc)?),
         _ => size_test(arena, key_name, value, alloc),
     }

@@ -2,7 +2,7 @@
 ghost use Rattle.std.specs.Prelude.{◌≡◌, ◌↔◌, List, map, IfOk, IfErr, MatchResult, Some, None};
 ghost use Rattle.oci_policies.specs.declared.error.Fault.TheVariants as reading;
 ghost use Rattle.oci_policies.specs.declared.error.PolicyError.TheVariants.{Memory};
-ghost use Rattle.oci_policies.specs.Policies.{IsPolicy, Worded, policy_in, rules_in};
+ghost use Rattle.oci_policies.specs.Policies.{IsPolicy, IsTooBig, Worded, policy_in, rules_in};
 ghost use Rattle.oci_policies.specs.Steps.{worded};
 ghost use Rattle.toml.specs.Errors.{IsMemory};
 ghost use Rattle.toml.specs.View.{items_view, table_view};
@@ -29,11 +29,12 @@ pub struct Policy<'a> {
 impl<'a> Policy<'a> {
     /// Reads a policy from the text of a TOML file (docs/POLICIES.md). Its rules are kept in the arena.
     ///
-    /// Fails with `Toml` if the text is no TOML document, with `Rule` if the document is no policy, as one without rules, and with
-    /// `Memory` if out of memory. The line of a `Rule` is that of the rule's header, `[[rule]]`, where each has a line of its own.
+    /// Fails with `Toml` if the text is no TOML document, with `Rule` if the document is no policy, as one without rules, with `TooBig` if
+    /// a regular expression would take too much memory, and with `Memory` if out of memory. The line of a `Rule` and of a `TooBig` is
+    /// that of the rule's header, `[[rule]]`, where each has a line of its own.
     pub fn from_toml(text: &str, arena: &'a Bump, alloc: Global) -> Result<Policy<'a>, PolicyError>
         ensures ok { IfOk result (λ p. IsPolicy text.now (map worded p.rules.now)) }
-        ensures refused { IfErr result (λ e. ¬ (e ≡ Memory) → (rules : List Worded) → ¬ IsPolicy text.now rules) }
+        ensures refused { IfErr result (λ e. ¬ (e ≡ Memory) → ¬ IsTooBig e → (rules : List Worded) → ¬ IsPolicy text.now rules) }
     {
         match toml::table_from_str(alloc, text) {
             Ok(table) => read(text, &table, arena, alloc),
@@ -63,7 +64,7 @@ fn read<'a>(
     alloc: Global,
 ) -> Result<Policy<'a>, PolicyError>
     ensures ok { IfOk result (λ p. policy_in (table_view table.now) ≡ Some (map worded p.rules.now)) }
-    ensures refused { IfErr result (λ e. ¬ (e ≡ Memory) → policy_in (table_view table.now) ≡ None) }
+    ensures refused { IfErr result (λ e. ¬ (e ≡ Memory) → ¬ IsTooBig e → policy_in (table_view table.now) ≡ None) }
 {
     match tables(table, alloc) {
         Ok(items) => rules(text, items, arena, alloc),
@@ -73,7 +74,7 @@ fn read<'a>(
 
 /// The array of the rules' tables, of which there is one at least.
 fn tables<'t>(table: &'t Table, alloc: Global) -> Result<&'t Vec<Value>, Fault>
-    ensures { MatchResult result (λ v. policy_in (table_view table.now) ≡ rules_in (items_view v.now.items)) (λ e. ¬ (e ≡ reading.Memory) → policy_in (table_view table.now) ≡ None) }
+    ensures { MatchResult result (λ v. policy_in (table_view table.now) ≡ rules_in (items_view v.now.items)) (λ e. ¬ (e ≡ reading.Memory) → ¬ (e ≡ reading.TooBig) → policy_in (table_view table.now) ≡ None) }
 {
     only(document_names(), table, alloc)?;
     some_items("rule", "an array of tables", under(table, "rule")?)
@@ -88,7 +89,7 @@ fn rules<'a>(
     alloc: Global,
 ) -> Result<Policy<'a>, PolicyError>
     ensures ok { IfOk result (λ p. rules_in (items_view items.now.items) ≡ Some (map worded p.rules.now)) }
-    ensures refused { IfErr result (λ e. ¬ (e ≡ Memory) → rules_in (items_view items.now.items) ≡ None) }
+    ensures refused { IfErr result (λ e. ¬ (e ≡ Memory) → ¬ IsTooBig e → rules_in (items_view items.now.items) ≡ None) }
 {
     let mut found = Vec::new(arena);
     for (index, item) in items.iter().enumerate() {
@@ -103,10 +104,14 @@ fn rules<'a>(
 
 /// The error for what is wrong in the table at this index.
 fn located(fault: Fault, text: &str, index: usize) -> PolicyError
-    ensures { (result ≡ Memory) ↔ (fault ≡ reading.Memory) }
+    ensures memory { (result ≡ Memory) ↔ (fault ≡ reading.Memory) }
+    ensures too_big { fault ≡ reading.TooBig → IsTooBig result }
 {
     match fault {
         Fault::Memory => PolicyError::Memory,
+        Fault::TooBig => PolicyError::TooBig {
+            line: line_of(text, index),
+        },
         Fault::Refused(reason) => PolicyError::Rule {
             line: line_of(text, index),
             reason,

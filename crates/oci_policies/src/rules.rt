@@ -2,7 +2,7 @@
 ghost use Rattle.std.specs.Prelude.{◌≡◌, ◌++◌, [], map, codes, MatchResult, IfOk, OnOk, IfErr, Some, None};
 ghost use Rattle.oci_rules.specs.Tables.{texts_of, level_of, platform_of, platforms_of, place_of, test_of};
 ghost use Rattle.oci_rules.specs.Platforms.{every};
-ghost use Rattle.oci_policies.specs.declared.error.Fault.TheVariants.{Memory};
+ghost use Rattle.oci_policies.specs.declared.error.Fault.TheVariants.{Memory, TooBig};
 ghost use Rattle.oci_policies.specs.Policies as policies;
 ghost use Rattle.oci_policies.specs.Policies.{rule_at, rule_placed};
 ghost use Rattle.oci_policies.specs.Places.{steps_in};
@@ -309,7 +309,7 @@ pub(crate) fn add_table<'a>(
     found: &mut Vec<Rule<'a>, &'a Bump>,
     alloc: Global,
 ) -> Result<(), Fault>
-    ensures { MatchResult result (λ _. behind (map worded found.old.items) (policies.table_rules (view value.now)) ≡ Some (map worded found.new.items)) (λ e. ¬ (e ≡ Memory) → policies.table_rules (view value.now) ≡ None) }
+    ensures { MatchResult result (λ _. behind (map worded found.old.items) (policies.table_rules (view value.now)) ≡ Some (map worded found.new.items)) (λ e. ¬ (e ≡ Memory) → ¬ (e ≡ TooBig) → policies.table_rules (view value.now) ≡ None) }
 {
     let Some(table) = value.as_table() else {
         return Err(expected("rule", "an array of tables"));

@@ -1,8 +1,8 @@
 //! Values of a TOML document.
-ghost use Rattle.std.specs.Prelude.{◌≡◌, true, false, option_map, IfErr, OnOk};
+ghost use Rattle.std.specs.Prelude.{◌≡◌, true, false, Some, None, option_map, IfErr, OnOk, MatchResult};
 ghost use Rattle.oci_base.specs.Names.{is_listed};
 ghost use Rattle.oci_rules.specs.Tables.{texts_of};
-ghost use Rattle.oci_policies.specs.declared.error.Fault.TheVariants.{Memory};
+ghost use Rattle.oci_policies.specs.declared.error.Fault.TheVariants.{Memory, TooBig};
 ghost use Rattle.oci_policies.specs.Values as values;
 ghost use Rattle.oci_policies.specs.Values.{Reads};
 ghost use Rattle.toml.specs.Data.{as_str, as_bool, as_integer, get_member};
@@ -11,6 +11,7 @@ ghost use Rattle.toml.specs.View.{view, items_view, table_view};
 use crate::error::{Fault, Reason, empty, expected};
 use bumpalo::Bump;
 use bumpalo::collections::into_bump_slice;
+use oci_patterns::{PatternError, validate};
 use std::alloc::Global;
 use toml::{Table, Value};
 
@@ -47,6 +48,38 @@ pub(crate) fn kept_some_text<'a>(
     if text.is_empty() {
         return Err(empty(key));
     }
+    Ok(arena.try_alloc_str(text)?)
+}
+
+/// Checks that a string is a regular expression.
+#[tactic(auto, using(crate::proofs::Expressions::expression_there, crate::proofs::Expressions::expression_missing))]
+fn check_expression(key: &'static str, text: &str, alloc: Global) -> Result<(), Fault>
+    ensures { MatchResult result (λ _. values.expression text.now ≡ Some text.now) (λ e. ¬ (e ≡ Memory) → ¬ (e ≡ TooBig) → values.expression text.now ≡ None) }
+{
+    match validate(text, alloc) {
+        Ok(()) => Ok(()),
+        Err(PatternError::Memory) => Err(Fault::Memory),
+        Err(PatternError::TooBig) => Err(Fault::TooBig),
+        Err(PatternError::Syntax { what, at }) => {
+            Err(Fault::Refused(Reason::Pattern { key, what, at }))
+        }
+    }
+}
+
+/// A regular expression that is not empty and stays in the arena.
+pub(crate) fn kept_expression<'a>(
+    arena: &'a Bump,
+    key: &'static str,
+    value: &Value,
+    alloc: Global,
+) -> Result<&'a str, Fault>
+    ensures { Reads (λ t. t.now) result (values.expression_in (view value.now)) }
+{
+    let text = text(key, value)?;
+    if text.is_empty() {
+        return Err(empty(key));
+    }
+    check_expression(key, text, alloc)?;
     Ok(arena.try_alloc_str(text)?)
 }
 
