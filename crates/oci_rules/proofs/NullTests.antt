@@ -1,18 +1,19 @@
 -- What breaks a rule in a part is the same with members left out that are null, unless the rule asks of them.
 use Rattle.std.proofs.Common.{◌≡◌, ℕ, List, [], ◌++◌, not, ◌||◌, Some, is_some, option_and_then, refl, sym, ap, ◌∙◌}
-use Rattle.std.specs.Prelude.{◌+◌, ◌==◌, nat_le}
+use Rattle.std.specs.Prelude.{◌==◌, nat_le}
 use Rattle.std.specs.Bool.{beq}
 use Rattle.serde_json.specs.Data.{Data, null}
 use Rattle.serde_json.specs.Find.{as_bool, as_array}
 use Rattle.oci_base.specs.Names.{is_listed}
 use Rattle.oci_grammars.specs.DecidedLicenses.{has_listed}
+use Rattle.oci_patterns.specs.Expressions.{has_match}
 use Rattle.oci_grammars.specs.Licenses.{words_in}
 use Rattle.oci_grammars.specs.Tests.{is_of}
 use Rattle.oci_rules.specs.Decided.{if_any, there_and, some_item, has, is_one_of, is_item, is_in, is_so, holds, begins_with, is_at_most, are_versions, is_sum_at_most, is_as_many, has_text_under, are_apart, is_passed}
 use Rattle.oci_rules.specs.Listed.{unless, shown_at, items_told, told_by}
 use Rattle.oci_rules.specs.Nulls.{LeavesOutNulls, unchanged, in_items, in_members, HasNull, AsksOfNull}
 use Rattle.oci_rules.specs.Parts.{present, led, items_led, extent}
-use Rattle.oci_rules.specs.Rules.{the_part, the_document, Check, is_there, is_text, is_truth, is_within, has_text, has_item, Condition, asks, Test, text, spdx_identifiers, one_of, none_of, begins, reserved, within, truth, there, absent, not_null, boolean_member, either, not_empty, length_at_most, at_most, versions_in_order, sum_at_most, as_many, lists, lists_item, apart, distinct, among, Rule}
+use Rattle.oci_rules.specs.Rules.{the_part, the_document, Check, is_there, is_text, is_truth, is_within, has_text, has_item, Condition, asks, Test, text, spdx_identifiers, one_of, none_of, begins, matches, reserved, within, truth, there, absent, not_null, boolean_member, either, not_empty, length_at_most, at_most, versions_in_order, sum_at_most, as_many, lists, lists_item, apart, distinct, among, Rule}
 use Rattle.oci_rules.proofs.Deciding.{not_null_tells}
 use Rattle.oci_rules.proofs.NullReads.{Thins, str_same, bool_same, whole_same, object_same, items_alike, present_alike, null_was, items_len_same, members_len_same}
 use Rattle.oci_rules.proofs.NullParts.{ap_two, there_same, any_same, items_there, items_any, has_same, text_same, whole_at_same, natural_same, led_null, led_alike, items_led_alike, some_same, all_apart_same, as_many_same, one_of_same, under_same, names_any, item_same, twins_alike, among_same}
@@ -51,6 +52,7 @@ passed_same (spdx_identifiers licenses exceptions) d e h none = ap (if_any (has_
 passed_same (one_of ts) d e h none = ap (if_any (is_listed ts)) (str_same d e h.out)
 passed_same (none_of ts) d e h none = ap (if_any (λ t. not (is_listed ts t))) (str_same d e h.out)
 passed_same (begins front) d e h none = ap (if_any (begins_with front)) (str_same d e h.out)
+passed_same (matches pattern) d e h none = ap (if_any (has_match pattern)) (str_same d e h.out)
 passed_same (reserved front ts) d e h none = ap (if_any (λ t. not (begins_with front t) || is_listed ts t)) (str_same d e h.out)
 passed_same (within low high) d e h none = ap (if_any (is_in low high)) (whole_same d e h.out)
 passed_same (truth b) d e h none = ap (if_any (beq b)) (bool_same d e h.out)
