@@ -6,13 +6,14 @@ FLUSHES = [zlib.Z_SYNC_FLUSH, zlib.Z_FULL_FLUSH, zlib.Z_PARTIAL_FLUSH, zlib.Z_BL
 # what our program may say where a strict reading or zlib says this
 CODES = {"over-subscribed code lengths", "incomplete code lengths"}
 KINDS = {
-    **{kind: {kind} for kind in ("bad header", "bad header checksum", "checksum mismatch", "size mismatch", "trailing data", "truncated")},
+    **{kind: {kind} for kind in ("bad header", "bad header checksum", "checksum mismatch", "size mismatch", "trailing data")},
     "zlib: invalid block type": {"bad block type"},
     "zlib: invalid stored block lengths": {"bad stored length"},
     "zlib: too many length or distance symbols": {"too many code lengths"},
     "zlib: invalid code lengths set": CODES,
     "zlib: invalid bit length repeat": {"bad code length repeat"},
-    # zlib reads a code of lengths that has no code at all as zeros, and misses the end of the block then
+    # zlib reads a code of lengths that has no code at all as zeros, and misses the end of the block then, or finds that of the file
+    "truncated": {"truncated", "incomplete code lengths"},
     "zlib: invalid code -- missing end-of-block": {"no code for the end of the block", "incomplete code lengths"},
     "zlib: invalid literal/lengths set": CODES,
     "zlib: invalid distances set": CODES,

@@ -1,5 +1,5 @@
 -- Two files that gzip made.
-use Rattle.std.proofs.Common.{◌≡◌, ℕ, ◌<◌, false, List, [], ◌∷◌, ◌++◌, replicate, None, refl, arith}
+use Rattle.std.proofs.Common.{ℕ, false, List, [], ◌∷◌, ◌++◌, replicate, None, refl, arith}
 use Rattle.std.proofs.Common.{sym, append-nil}
 use Rattle.crc32.specs.Step.{after, times_power}
 use Rattle.deflate.specs.Bits.{AreBelow}

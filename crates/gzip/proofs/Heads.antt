@@ -7,7 +7,7 @@ use Rattle.std.specs.Int.{w16, to_le_bytes, from_le_bytes}
 use Rattle.crc32.specs.Step.{crc32}
 use Rattle.deflate.specs.Bits.{AreBelow}
 use Rattle.deflate.proofs.Unique.{same_fronts}
-use Rattle.gzip.specs.Gzip.{Header, IsHeader, IsText, flag, flags, extra_field, text_field, header_start, header_bytes}
+use Rattle.gzip.specs.Gzip.{Header, IsHeader, IsText, flag, flags, extra_field, text_field, header_start}
 use Rattle.gzip.specs.Reading.{IsStart, IsPiece, IsTextPiece, IsThere, IsTextField, IsExtraField, IsChecksum, IsHead}
 use Rattle.gzip.proofs.ByteByByte.{one_text_piece, small_two}
 

@@ -1,9 +1,9 @@
 -- A stream ends in some byte, and whole bytes follow.
-use Rattle.std.proofs.Common.{◌≡◌, ℕ, zero, suc, ◌+◌, ◌-◌, ◌*◌, ◌/◌, ◌%◌, ◌<◌, ◌≤◌, List, [], ◌∷◌, ◌++◌, length, take, drop, Option, Some, refl, sym, ap, ◌∙◌, subst, arith}
-use Rattle.std.proofs.lemmas.List.{append_assoc, length-append, length-drop, length-take-le, take-append-drop}
+use Rattle.std.proofs.Common.{◌≡◌, ℕ, zero, suc, ◌+◌, ◌-◌, ◌*◌, ◌/◌, ◌%◌, List, [], ◌∷◌, ◌++◌, length, take, drop, Option, Some, refl, sym, ap, ◌∙◌, subst, arith}
+use Rattle.std.proofs.lemmas.List.{append_assoc, length-append, length-take-le, take-append-drop}
 use Rattle.deflate.specs.Bits.{bits, bits_of, AreBelow}
 use Rattle.deflate.specs.Deflate.{Block, block_bits, text_after_block, AreBlocks, Denotes}
-use Rattle.deflate.proofs.Packing.{length-bits, bits_of-append}
+use Rattle.deflate.proofs.Packing.{bits_of-append}
 use Rattle.deflate.proofs.Unique.{same_fronts}
 use Rattle.deflate.proofs.UniqueBlocks.{length-numbers}
 use Rattle.inflate.specs.Hand.{stream}

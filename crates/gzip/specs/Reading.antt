@@ -1,5 +1,5 @@
 -- What a decoder reads of a file, piece by piece (RFC 1952, 2.3). In each of these the bytes are those of the piece, and then rest.
-use Rattle.std.specs.Prelude.{◌≡◌, ℕ, ◌+◌, ◌*◌, ◌%◌, ◌^◌, ◌<◌, Bool, true, false, List, [], ◌∷◌, ◌++◌, length, Option, Some, None, IfSome}
+use Rattle.std.specs.Prelude.{◌≡◌, ℕ, ◌%◌, ◌^◌, ◌<◌, Bool, true, false, List, [], ◌∷◌, ◌++◌, length, Option, Some, None, IfSome}
 use Rattle.std.specs.Int.{w16, to_le_bytes}
 use Rattle.crc32.specs.Step.{crc32}
 use Rattle.deflate.specs.Bits.{bits_of, AreBelow}

@@ -1,4 +1,3 @@
-use Rattle.std.proofs.Common.{length}
 use Rattle.deflate.specs.Bits.{bits, bits_of}
 use Rattle.inflate.specs.Hand.{stream}
 use Rattle.inflate.proofs.Streams.{IsRead, consumed}

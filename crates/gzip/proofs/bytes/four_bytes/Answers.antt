@@ -1,4 +1,4 @@
-use Rattle.std.proofs.Common.{◌≡◌, ◌+◌, ◌<◌, length, ap, ◌∙◌, arith}
+use Rattle.std.proofs.Common.{length, ap, arith}
 use Rattle.gzip.proofs.ByteByByte.{four_read}
 use Rattle.inflate.proofs.Exits.{refused_match}
 use Rattle.gzip.proofs.bytes.four_bytes.Goals as goal

@@ -1,4 +1,4 @@
-use Rattle.std.proofs.Common.{◌≡◌, ◌+◌, ◌<◌, length, ap, ◌∙◌, arith}
+use Rattle.std.proofs.Common.{length, ap, arith}
 use Rattle.gzip.proofs.ByteByByte.{two_read}
 use Rattle.inflate.proofs.Exits.{refused_match}
 use Rattle.gzip.proofs.bytes.two_bytes.Goals as goal

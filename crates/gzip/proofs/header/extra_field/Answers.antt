@@ -1,6 +1,5 @@
-use Rattle.std.proofs.Common.{◌≡◌, ◌<◌, ◌∷◌, ◌++◌, [], length, ap, ◌∙◌, sym, subst, arith, true, append-nil}
+use Rattle.std.proofs.Common.{◌<◌, ◌∷◌, ◌++◌, [], length, ap, ◌∙◌, sym, subst, arith, append-nil}
 use Rattle.std.proofs.lemmas.List.{append_assoc}
-use Rattle.std.specs.Int.{w16, from_le_bytes}
 use Rattle.crc32.specs.Message.{Holds}
 use Rattle.gzip.specs.Reading.{IsExtraField}
 use Rattle.gzip.proofs.Heads.{no_extra, extra_read, extra_cut, extra_content, content_cut}

@@ -1,4 +1,4 @@
-use Rattle.std.proofs.Common.{◌≡◌, ◌+◌, ◌∷◌, ◌++◌, [], length, ap, ◌∙◌, sym, subst, arith}
+use Rattle.std.proofs.Common.{◌∷◌, ◌++◌, [], sym, subst}
 use Rattle.deflate.specs.Bits.{AreBelow}
 use Rattle.gzip.specs.Gzip.{extra_field, text_field, flags}
 use Rattle.gzip.specs.Reading.{IsPiece}

@@ -1,4 +1,4 @@
-use Rattle.std.proofs.Common.{◌≡◌, ◌<◌, ◌≤◌, ◌∷◌, [], ap, ◌∙◌, sym, subst, arith}
+use Rattle.std.proofs.Common.{◌≡◌, ◌∷◌, [], ap, ◌∙◌, subst, arith}
 use Rattle.crc32.specs.Message.{Holds}
 use Rattle.gzip.proofs.Heads.{no_start, start_first, next_byte, not_empty, start_read}
 use Rattle.inflate.proofs.Exits.{refused_match}

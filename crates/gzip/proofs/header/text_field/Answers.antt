@@ -1,4 +1,4 @@
-use Rattle.std.proofs.Common.{◌≡◌, true, false, [], sym, subst, append-nil}
+use Rattle.std.proofs.Common.{[], sym, subst, append-nil}
 use Rattle.crc32.specs.Message.{Holds}
 use Rattle.gzip.specs.Reading.{IsTextField}
 use Rattle.gzip.proofs.Heads.{piece_of, field_of, no_field}

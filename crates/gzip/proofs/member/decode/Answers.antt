@@ -1,4 +1,4 @@
-use Rattle.std.proofs.Common.{◌≡◌, Some, ◌∙◌}
+use Rattle.std.proofs.Common.{◌∙◌}
 use Rattle.inflate.specs.declared.fault.Fault.TheVariants.{Memory}
 use Rattle.inflate.proofs.Exits.{refused_match}
 use Rattle.gzip.specs.declared.error.GzipError.TheVariants.{Text}

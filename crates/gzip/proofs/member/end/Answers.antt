@@ -1,4 +1,4 @@
-use Rattle.std.proofs.Common.{◌≡◌, ◌+◌, ◌%◌, ◌^◌, ◌<◌, length, arith}
+use Rattle.std.proofs.Common.{◌≡◌, ◌%◌, ◌^◌, length, arith}
 use Rattle.crc32.specs.Step.{crc32}
 use Rattle.inflate.proofs.Exits.{refused_match}
 use Rattle.gzip.proofs.Members.{trailer_read, trailer_cut, four_long, other_sum, other_size}

@@ -1,4 +1,4 @@
-use Rattle.std.proofs.Common.{◌≡◌, ◌++◌, ◌%◌, ◌^◌, [], length, sym, subst, arith, append-nil}
+use Rattle.std.proofs.Common.{◌++◌, [], sym, subst, arith, append-nil}
 use Rattle.inflate.specs.declared.fault.Fault.TheVariants.{Memory}
 use Rattle.inflate.proofs.Exits.{refused_match}
 use Rattle.gzip.specs.declared.error.GzipError.TheVariants.{Text}

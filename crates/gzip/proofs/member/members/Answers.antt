@@ -1,10 +1,10 @@
-use Rattle.std.proofs.Common.{◌≡◌, ◌++◌, ◌<◌, List, [], ℕ, true, false, length, sym, subst}
+use Rattle.std.proofs.Common.{◌≡◌, ◌++◌, ◌<◌, [], length, subst}
 use Rattle.std.proofs.lemmas.List.{append_assoc}
 use Rattle.inflate.specs.declared.fault.Fault.TheVariants.{Memory}
 use Rattle.inflate.proofs.Exits.{refused_match}
 use Rattle.gzip.specs.declared.error.GzipError.TheVariants.{Text}
 use Rattle.gzip.specs.Reading.{IsEnd}
-use Rattle.gzip.proofs.Members.{IsSoFar, none_read, first_member, next_member, no_file, no_next}
+use Rattle.gzip.proofs.Members.{none_read, first_member, next_member, no_file, no_next}
 use Rattle.gzip.proofs.member.members.Goals as goal
 
 pub returns-in_err-decoder : goal.returns-in_err-decoder

@@ -2,7 +2,6 @@ use Rattle.std.proofs.Common.{◌≡◌, ◌+◌, ◌%◌, ◌^◌, ◌++◌, []
 use Rattle.deflate.specs.Bits.{bits, bits_of}
 use Rattle.deflate.proofs.Packing.{length-bits}
 use Rattle.deflate.proofs.UniqueBlocks.{length-numbers}
-use Rattle.inflate.specs.Hand.{stream}
 use Rattle.inflate.proofs.Streams.{odd_bits}
 use Rattle.inflate.proofs.Blocks.{skipped_stream}
 use Rattle.gzip.proofs.Streams.{IsDenoted, denoted}
