@@ -69,8 +69,8 @@ def changed(value, text):
 
 
 class Row:
-    def __init__(self, rule, breaks, document, platform, listed):
-        self.rule, self.breaks, self.document, self.platform, self.listed = rule, breaks, document, platform, listed
+    def __init__(self, rule, breaks, document, platform, listed, base):
+        self.rule, self.breaks, self.document, self.platform, self.listed, self.base = rule, breaks, document, platform, listed, base
 
     def text(self):
         listed = "  ".join(f"{name} /{pointer}" if pointer else name for name, pointer in self.listed) or "-"
@@ -106,7 +106,7 @@ def read(path):
                     if word == "breaks" and pointer is None:
                         raise ValueError("no pointer")
                     listed = [(rule, pointer)] if word == "breaks" and pointer != "+" else []
-                    rows.append(Row(rule, word == "breaks", document, platform, listed))
+                    rows.append(Row(rule, word == "breaks", document, platform, listed, bases[name]))
                 elif word == "-":
                     rule_and_pointer = rest.split(" ", 1)
                     rows[-1].listed.append((rule_and_pointer[0], rule_and_pointer[1] if len(rule_and_pointer) > 1 else ""))
