@@ -1,7 +1,7 @@
 """docs/RULES.md: each rule with its place, its level and what gives it, section, what is wanted, and what peers do; a table a document."""
 import os
 
-from rule_books import sources
+from rule_books import agreements, sources
 from rule_books.model import LEVELS, PLATFORMS, POSIX
 
 TITLES = {
@@ -84,7 +84,7 @@ def table(model, file, first):
     return out
 
 
-def text(model, left_out, first):
+def text(root, model, left_out, first):
     files = [it for it in TITLES if it in model.files]
     out = HEAD.replace("{versions}", model.versions) + "\n| document | must | stated | should | host | together |\n|---|---|---|---|---|---|\n"
     seen, every = set(), []
@@ -94,7 +94,7 @@ def text(model, left_out, first):
         every += fresh
         out += f"| {TITLES[file]} | {' | '.join(str(it) for it in counted(fresh))} |\n"
     out += f"| **all** | {' | '.join(f'**{it}**' for it in counted(every))} |\n"
-    out += "".join(table(model, file, first) for file in files)
+    out += "".join(table(model, file, first) for file in files) + agreements.table(root, first)
     out += "\n## Left out\n\n| rule | reason |\n|---|---|\n" + "".join(f"| `{name}` | {cell(reason)} |\n" for name, reason in left_out)
     return out
 
@@ -108,7 +108,7 @@ def left_out(root):
 def run(root, model, check):
     """Writes the page, or says that it is not up to date. Returns the exit status."""
     path = os.path.join(root, "docs/RULES.md")
-    made = text(model, left_out(root), sources.first_rows(sources.rows(root)))
+    made = text(root, model, left_out(root), sources.first_rows(sources.rows(root)))
     there = os.path.exists(path) and open(path, encoding="utf-8").read() == made
     if check:
         if not there:

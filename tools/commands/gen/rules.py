@@ -1,4 +1,4 @@
-"""Books of rules in crates/oci_rule_books and oci_rule_books, their golden rows and docs/RULES.md, from tools/rules/*.rules.
+"""Books of rules in crates/oci_rule_books, their examples in crates/oci_rule_examples, their golden rows and docs/RULES.md, from tools/rules/*.rules.
 
 It writes all files that are not up to date. With --check it prints each file that differs, is missing, or is no longer generated, each
 place that stands in no record, each rule without its golden rows, each whose level or version is not that of its sentence in
@@ -44,7 +44,8 @@ Other lines:
   kind NAME = RECORD BOOK..  the books of a kind of documents
 
 tools/rules/left_out.rows lists the rules that are left out, with the reason; tools/rules/sources.rows has the sentence that each rule is from,
-which `tools/peers sources` looks up; tools/rules/rows has the golden rows.
+which `tools/peers sources` looks up; tools/rules/rows has the golden rows. tools/rules/agreements.rows lists what documents agree on, which
+are calls of crates/oci_agreement and no rules of books.
 """
 import os
 
@@ -52,7 +53,7 @@ from generator import output
 from generator.records import Book
 from generator.text import marked
 from repository import TOP
-from rule_books import kinds, pages, rows, shapes, source, sources, specs
+from rule_books import agreements, examples, kinds, pages, rows, shapes, source, sources, specs
 from rule_books.model import Model
 
 RECORDS_BY_HAND = {"Reference": {"registry": "T", "mirror_registry": "T", "repository": "T", "tag": "T", "digest": "T"}}
@@ -91,10 +92,11 @@ def run(options):
         print(rows.skeleton(model, options.rows))
         return 0
     found = sources.rows(TOP)
-    wrong = misplaced(model) + list(sources.differing(model.rules(), found)) + sources.orphans(model.rules(), found)
+    rules = model.rules() | agreements.rules(TOP)
+    wrong = misplaced(model) + list(sources.differing(rules, found)) + sources.orphans(rules, found) + agreements.differing(TOP)
     wrong += [*sources.of_other_versions(model.versions, found), *vague(model)]
     files = {}
-    for path, text in (specs.files(model) | source.files(model) | kinds.files(model)).items():
+    for path, text in (specs.files(model) | source.files(model) | kinds.files(model) | examples.files(model, rows.all_rows(TOP), sources.first_rows(found))).items():
         files |= marked({path: text}, "rules", "tools/rules")
     for folder in sorted({os.path.dirname(path) for path in files if path.endswith(".antt") and path.split("/")[-2] in ("specs", "proofs")}):
         files[f"{folder}/Lib.antt"] = output.module_list(TOP, folder, files)

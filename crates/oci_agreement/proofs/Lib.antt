@@ -1,0 +1,5 @@
+pub mod FirstMaps
+pub mod Firsts
+pub mod Laws
+pub mod Owners
+pub mod Steps
