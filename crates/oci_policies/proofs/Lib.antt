@@ -1,4 +1,5 @@
 pub mod Both
+pub mod Documents
 pub mod Expressions
 pub mod Lists
 pub mod Slashes

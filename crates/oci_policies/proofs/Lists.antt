@@ -8,7 +8,6 @@ use Rattle.oci_rules.specs.declared.rule.Step.{Step}
 use Rattle.oci_rules.specs.declared.rule.Step.TheVariants as step
 use Rattle.oci_rules.specs.Tables.{place_of, texts_of}
 use Rattle.oci_policies.specs.Places.{along}
-use Rattle.oci_policies.specs.Policies.{Worded, rules_in, table_rules, together}
 use Rattle.oci_policies.specs.Steps.{step_view, steps_view}
 use Rattle.oci_policies.specs.Values.{all, before, behind, each, some_items, two}
 
@@ -50,34 +49,6 @@ mapped_next v g part xs i x old new y whole within it is made sofar =
     let more = rw cut at sofar in
     let next = rw here at more in
     rw (is, add-one, map-append v old (y ∷ [])) (append_assoc (map v old) (v y ∷ []) (map g (map part (drop (suc i) xs))) ∙ next)
-
--- the rules of one more table
-pub behind_together : (xs ys : List Worded) (o os : Option (List Worded)) → behind xs o ≡ Some ys → behind xs (together o os) ≡ behind ys os
-behind_together xs ys None os is = absurd (cc)
-behind_together xs ys (Some rs) None is = refl
-behind_together xs ys (Some rs) (Some ss) is =
-    let same : xs ++ rs ≡ ys = cc in
-    ap Some (sym (append_assoc xs rs ss) ∙ ap (λ l. l ++ ss) same)
-
-pub tables_next : (xs : List Value) (i : ℕ) (x : Value) (old new : List Worded) (whole : Option (List Worded))
-    → i < length xs → x ≡ get_or xs i x → behind old (table_rules (view x)) ≡ Some new
-    → behind old (rules_in (items_view (drop i xs))) ≡ whole → behind new (rules_in (items_view (drop (i + 1) xs))) ≡ whole
-tables_next xs i x old new whole within it is sofar =
-    let cut : drop i xs ≡ get_or xs i x ∷ drop (suc i) xs = drop-cons xs i x within in
-    let here : behind old (table_rules (view (get_or xs i x))) ≡ Some new = subst (λ (z : Value). behind old (table_rules (view z)) ≡ Some new) it is in
-    let more = rw cut at sofar in
-    rw add-one (sym (behind_together old new (table_rules (view (get_or xs i x))) (rules_in (items_view (drop (suc i) xs))) here) ∙ more)
-
--- nothing, where one table is refused
-pub tables_refused : (xs : List Value) (i : ℕ) (x : Value) (old : List Worded) (whole : Option (List Worded))
-    → i < length xs → x ≡ get_or xs i x → table_rules (view x) ≡ None
-    → behind old (rules_in (items_view (drop i xs))) ≡ whole → whole ≡ None
-tables_refused xs i x old whole within it is sofar =
-    let cut : drop i xs ≡ get_or xs i x ∷ drop (suc i) xs = drop-cons xs i x within in
-    let here : table_rules (view (get_or xs i x)) ≡ None = subst (λ (z : Value). table_rules (view z) ≡ None) it is in
-    let more = rw cut at sofar in
-    let next = rw here at more in
-    sym next
 
 -- the place of steps is that of what they stand for
 step_is : (s : Step) (ss : List Step) → place_of ss ≡ along (steps_view ss) → place_of (s ∷ ss) ≡ along (steps_view (s ∷ ss))

@@ -6,6 +6,8 @@ use Rattle.oci_rules.specs.Tables.{condition_of, rule_of, level_of, platforms_of
 use Rattle.oci_rules.specs.declared.rule.Rule.{Rule}
 use Rattle.oci_policies.specs.Places as places
 use Rattle.oci_policies.specs.Policies.{Head, Worded}
+use Rattle.oci_policies.specs.Policies as policies
+use Rattle.oci_policies.specs.declared.book.Book.{Book}
 
 unfoldable pub step_view : Step → places.Step
 step_view (step.Member name) = places.to_member name.now
@@ -31,3 +33,7 @@ head_view r = record {
 -- a rule with its message
 abbrev pub worded : Rule → Worded
 worded r = (rule_of r, r.wanted.now)
+
+-- rules with their messages, and their kinds
+abbrev pub book_view : Book → policies.Book
+book_view b = (b.kinds.now, map worded b.rules.now)

@@ -103,6 +103,28 @@ impl<T: Drop> From<AllocFailed<T>> for Fault {
     }
 }
 
+impl From<AllocError> for PolicyError {
+    ghost use Rattle.std.specs.Prelude.{◌≡◌};
+    ghost use Rattle.oci_policies.specs.declared.error.PolicyError.TheVariants.{Memory};
+
+    ghost from_gives = { λ _ e. e ≡ Memory };
+
+    fn from(_refused: AllocError) -> PolicyError {
+        PolicyError::Memory
+    }
+}
+
+impl<T: Drop> From<AllocFailed<T>> for PolicyError {
+    ghost use Rattle.std.specs.Prelude.{◌≡◌};
+    ghost use Rattle.oci_policies.specs.declared.error.PolicyError.TheVariants.{Memory};
+
+    ghost from_gives = { λ _ e. e ≡ Memory };
+
+    fn from(_refused: AllocFailed<T>) -> PolicyError {
+        PolicyError::Memory
+    }
+}
+
 /// That a member is empty.
 pub(crate) fn empty(key: &'static str) -> Fault {
     Fault::Refused(Reason::Empty(key))

@@ -1,29 +1,33 @@
 //! Policies from TOML files.
-ghost use Rattle.std.specs.Prelude.{◌≡◌, ◌↔◌, List, map, IfOk, IfErr, MatchResult, Some, None};
+ghost use Rattle.std.specs.Prelude.{◌≡◌, ◌↔◌, List, map, IfOk, IfErr, Some, None};
 ghost use Rattle.oci_policies.specs.declared.error.Fault.TheVariants as reading;
 ghost use Rattle.oci_policies.specs.declared.error.PolicyError.TheVariants.{Memory};
-ghost use Rattle.oci_policies.specs.Policies.{IsPolicy, IsTooBig, Worded, policy_in, rules_in};
-ghost use Rattle.oci_policies.specs.Steps.{worded};
+ghost use Rattle.oci_policies.specs.Policies.{IsPolicy, IsTooBig, policy_in, parts_of, book_in};
+ghost use Rattle.oci_policies.specs.Steps.{worded, book_view};
+ghost use Rattle.oci_policies.specs.Values.{Reads, each};
 ghost use Rattle.toml.specs.Errors.{IsMemory};
 ghost use Rattle.toml.specs.View.{items_view, table_view};
 ghost use Rattle.oci_rules.specs.Tables.{texts_of};
 ghost use Rattle.oci_policies.specs.Policies as policies;
 
+use crate::book::{Book, every_kind, kinds_or};
 use crate::error::{Fault, PolicyError};
-use crate::rules::add_table;
+use crate::rules::book;
 use crate::values::{only, some_items, under};
 use bumpalo::Bump;
 use bumpalo::collections::into_bump_slice;
 use oci_rules::Rule;
-use std::alloc::Global;
+use oci_schemas::Kind;
+use std::alloc::{AllocError, Global};
 use toml::{Table, Value};
 
-static DOCUMENT_NAMES: [&str; 1] = ["rule"];
+static DOCUMENT_NAMES: [&str; 2] = ["rule", "kind"];
 
 /// A policy: rules of one's own. Its rules lie in an arena, which outlives it.
 #[derive(Clone, Copy)]
 pub struct Policy<'a> {
     rules: &'a [Rule<'a>],
+    books: &'a [Book<'a>],
 }
 
 impl<'a> Policy<'a> {
@@ -33,8 +37,9 @@ impl<'a> Policy<'a> {
     /// a regular expression would take too much memory, and with `Memory` if out of memory. The line of a `Rule` and of a `TooBig` is
     /// that of the rule's header, `[[rule]]`, where each has a line of its own.
     pub fn from_toml(text: &str, arena: &'a Bump, alloc: Global) -> Result<Policy<'a>, PolicyError>
-        ensures ok { IfOk result (λ p. IsPolicy text.now (map worded p.rules.now)) }
-        ensures refused { IfErr result (λ e. ¬ (e ≡ Memory) → ¬ IsTooBig e → (rules : List Worded) → ¬ IsPolicy text.now rules) }
+        ensures ok { IfOk result (λ p. IsPolicy text.now (map book_view p.books.now)) }
+        ensures rules { IfOk result (λ p. map worded p.rules.now ≡ policies.all_rules (map book_view p.books.now)) }
+        ensures refused { IfErr result (λ e. ¬ (e ≡ Memory) → ¬ IsTooBig e → (books : List policies.Book) → ¬ IsPolicy text.now books) }
     {
         match toml::table_from_str(alloc, text) {
             Ok(table) => read(text, &table, arena, alloc),
@@ -42,7 +47,14 @@ impl<'a> Policy<'a> {
         }
     }
 
-    /// The rules, in the order of the file.
+    /// The tables of rules in the order of the file, with the kinds of documents that each is for.
+    pub fn books(&self) -> &'a [Book<'a>]
+        ensures { result.now ≡ self.now.books.now }
+    {
+        self.books
+    }
+
+    /// The rules of all tables, in the order of the file, whatever kinds of documents they are for.
     pub fn rules(&self) -> &'a [Rule<'a>]
         ensures { result.now ≡ self.now.rules.now }
     {
@@ -63,43 +75,77 @@ fn read<'a>(
     arena: &'a Bump,
     alloc: Global,
 ) -> Result<Policy<'a>, PolicyError>
-    ensures ok { IfOk result (λ p. policy_in (table_view table.now) ≡ Some (map worded p.rules.now)) }
+    ensures ok { IfOk result (λ p. policy_in (table_view table.now) ≡ Some (map book_view p.books.now)) }
+    ensures rules { IfOk result (λ p. map worded p.rules.now ≡ policies.all_rules (map book_view p.books.now)) }
     ensures refused { IfErr result (λ e. ¬ (e ≡ Memory) → ¬ IsTooBig e → policy_in (table_view table.now) ≡ None) }
 {
-    match tables(table, alloc) {
-        Ok(items) => rules(text, items, arena, alloc),
+    let books = read_books(text, table, arena, alloc)?;
+    let rules = all_rules(books, arena)?;
+    Ok(Policy { rules, books })
+}
+
+/// The books of a document.
+fn read_books<'a>(
+    text: &str,
+    table: &Table,
+    arena: &'a Bump,
+    alloc: Global,
+) -> Result<&'a [Book<'a>], PolicyError>
+    ensures ok { IfOk result (λ bs. policy_in (table_view table.now) ≡ Some (map book_view bs.now)) }
+    ensures refused { IfErr result (λ e. ¬ (e ≡ Memory) → ¬ IsTooBig e → policy_in (table_view table.now) ≡ None) }
+{
+    match parts(arena, table, alloc) {
+        Ok((kinds, items)) => books(text, kinds, items, arena, alloc),
         Err(fault) => Err(located(fault, text, 0)),
     }
 }
 
-/// The array of the rules' tables, of which there is one at least.
-fn tables<'t>(table: &'t Table, alloc: Global) -> Result<&'t Vec<Value>, Fault>
-    ensures { MatchResult result (λ v. policy_in (table_view table.now) ≡ rules_in (items_view v.now.items)) (λ e. ¬ (e ≡ reading.Memory) → ¬ (e ≡ reading.TooBig) → policy_in (table_view table.now) ≡ None) }
+/// The kinds of a document, and the array of its rules' tables, of which there is one at least.
+#[tactic(auto, using(crate::proofs::Both::first_missing, crate::proofs::Both::second_missing, crate::proofs::Both::both_there))]
+fn parts<'a, 't>(
+    arena: &'a Bump,
+    table: &'t Table,
+    alloc: Global,
+) -> Result<(&'a [Kind], &'t Vec<Value>), Fault>
+    ensures { Reads (λ x. (x.0.now, items_view x.1.now.items)) result (parts_of (table_view table.now)) }
 {
     only(document_names(), table, alloc)?;
-    some_items("rule", "an array of tables", under(table, "rule")?)
+    let kinds = kinds_or(arena, every_kind(), table)?;
+    let items = some_items("rule", "an array of tables", under(table, "rule")?)?;
+    Ok((kinds, items))
 }
 
-/// The rules of the tables.
-#[tactic(auto, using(crate::proofs::Lists::behind_nothing, crate::proofs::Lists::behind_together))]
-fn rules<'a>(
+/// The books of the tables.
+#[tactic(auto, using(crate::proofs::Lists::behind_nothing, crate::proofs::Lists::behind_more))]
+fn books<'a>(
     text: &str,
+    kinds: &'a [Kind],
     items: &Vec<Value>,
     arena: &'a Bump,
     alloc: Global,
-) -> Result<Policy<'a>, PolicyError>
-    ensures ok { IfOk result (λ p. rules_in (items_view items.now.items) ≡ Some (map worded p.rules.now)) }
-    ensures refused { IfErr result (λ e. ¬ (e ≡ Memory) → ¬ IsTooBig e → rules_in (items_view items.now.items) ≡ None) }
+) -> Result<&'a [Book<'a>], PolicyError>
+    ensures ok { IfOk result (λ bs. each (book_in kinds.now) (items_view items.now.items) ≡ Some (map book_view bs.now)) }
+    ensures refused { IfErr result (λ e. ¬ (e ≡ Memory) → ¬ IsTooBig e → each (book_in kinds.now) (items_view items.now.items) ≡ None) }
 {
     let mut found = Vec::new(arena);
     for (index, item) in items.iter().enumerate() {
-        if let Err(fault) = add_table(arena, item, &mut found, alloc) {
-            return Err(located(fault, text, index));
+        match book(arena, kinds, item, alloc) {
+            Ok(book) => found.push(book)?,
+            Err(fault) => return Err(located(fault, text, index)),
         }
     }
-    Ok(Policy {
-        rules: into_bump_slice(found),
-    })
+    Ok(into_bump_slice(found))
+}
+
+/// The rules of all books.
+fn all_rules<'a>(books: &'a [Book<'a>], arena: &'a Bump) -> Result<&'a [Rule<'a>], AllocError>
+    ensures { IfOk result (λ rs. map worded rs.now ≡ policies.all_rules (map book_view books.now)) }
+{
+    let mut found = Vec::new(arena);
+    for book in books {
+        found.extend_from_slice(book.rules)?;
+    }
+    Ok(into_bump_slice(found))
 }
 
 /// The error for what is wrong in the table at this index.

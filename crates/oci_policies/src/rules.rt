@@ -1,16 +1,17 @@
 //! The rules of a policy, table by table.
-ghost use Rattle.std.specs.Prelude.{◌≡◌, ◌++◌, [], map, codes, MatchResult, IfOk, OnOk, IfErr, Some, None};
+ghost use Rattle.std.specs.Prelude.{◌≡◌, ◌++◌, [], map, codes, IfOk, OnOk, IfErr, Some, None};
 ghost use Rattle.oci_rules.specs.Tables.{texts_of, level_of, platform_of, platforms_of, place_of, test_of};
 ghost use Rattle.oci_rules.specs.Platforms.{every};
-ghost use Rattle.oci_policies.specs.declared.error.Fault.TheVariants.{Memory, TooBig};
+ghost use Rattle.oci_policies.specs.declared.error.Fault.TheVariants.{Memory};
 ghost use Rattle.oci_policies.specs.Policies as policies;
 ghost use Rattle.oci_policies.specs.Policies.{rule_at, rule_placed};
 ghost use Rattle.oci_policies.specs.Places.{steps_in};
-ghost use Rattle.oci_policies.specs.Steps.{step_view, steps_view, head_view, worded};
-ghost use Rattle.oci_policies.specs.Values.{Reads, both, each, list_in, some_in, under as under_in, under_or, behind};
+ghost use Rattle.oci_policies.specs.Steps.{step_view, steps_view, head_view, worded, book_view};
+ghost use Rattle.oci_policies.specs.Values.{Reads, both, each, list_in, some_in, under as under_in, under_or};
 ghost use Rattle.toml.specs.Data.{as_str};
 ghost use Rattle.toml.specs.View.{view, items_view, table_view};
 
+use crate::book::{Book, kinds_or};
 use crate::conditions::condition;
 use crate::error::{Fault, expected};
 use crate::kinds::test;
@@ -19,11 +20,13 @@ use crate::values::{found, kept_under, sole_other, some_items, text, under};
 use bumpalo::Bump;
 use bumpalo::collections::into_bump_slice;
 use oci_rules::{Level, Platforms, Rule, RuntimePlatform, Step, Test};
+use oci_schemas::Kind;
 use std::alloc::Global;
 use toml::{Table, Value};
 
-static RULE_NAMES: [&str; 8] = [
+static RULE_NAMES: [&str; 9] = [
     "name",
+    "kind",
     "level",
     "source",
     "message",
@@ -301,21 +304,33 @@ fn add_places<'a>(
     Ok(())
 }
 
-/// Adds the rules of a table.
+/// The rules of a table.
 #[tactic(auto, using(crate::proofs::Both::first_missing, crate::proofs::Both::second_missing, crate::proofs::Both::both_there, crate::proofs::Both::mapped_missing))]
-pub(crate) fn add_table<'a>(
+fn table_rules<'a>(arena: &'a Bump, table: &Table, alloc: Global) -> Result<&'a [Rule<'a>], Fault>
+    ensures { Reads (λ rs. map worded rs.now) result (policies.rules_of (table_view table.now)) }
+{
+    let head = head(arena, table, alloc)?;
+    let places = places(arena, under(table, "at")?, alloc)?;
+    let rest = rest(arena, table, alloc)?;
+    let mut found = Vec::new(arena);
+    add_places(arena, &head, &places, &rest, &mut found)?;
+    Ok(into_bump_slice(found))
+}
+
+/// The rules of a table with its kinds, which are these where it names none.
+#[tactic(auto, using(crate::proofs::Both::first_missing, crate::proofs::Both::second_missing, crate::proofs::Both::both_there))]
+pub(crate) fn book<'a>(
     arena: &'a Bump,
+    kinds: &'a [Kind],
     value: &Value,
-    found: &mut Vec<Rule<'a>, &'a Bump>,
     alloc: Global,
-) -> Result<(), Fault>
-    ensures { MatchResult result (λ _. behind (map worded found.old.items) (policies.table_rules (view value.now)) ≡ Some (map worded found.new.items)) (λ e. ¬ (e ≡ Memory) → ¬ (e ≡ TooBig) → policies.table_rules (view value.now) ≡ None) }
+) -> Result<Book<'a>, Fault>
+    ensures { Reads book_view result (policies.book_in kinds.now (view value.now)) }
 {
     let Some(table) = value.as_table() else {
         return Err(expected("rule", "an array of tables"));
     };
-    let head = head(arena, table, alloc)?;
-    let places = places(arena, under(table, "at")?, alloc)?;
-    let rest = rest(arena, table, alloc)?;
-    add_places(arena, &head, &places, &rest, found)
+    let kinds = kinds_or(arena, kinds, table)?;
+    let rules = table_rules(arena, table, alloc)?;
+    Ok(Book { kinds, rules })
 }
