@@ -1,5 +1,5 @@
 -- What the findings in a value say of the bytes that it was read from.
-use Rattle.std.proofs.Common.{◌≡◌, ℕ, List, [], ◌++◌, map, length, true, false, codes, Option, Some, None, ap, inl, inr, subst, sym, ◌∙◌, Result, Ok, Err}
+use Rattle.std.proofs.Common.{◌≡◌, ℕ, List, [], ◌++◌, length, true, false, codes, Option, Some, None, ap, inl, inr, subst, sym, ◌∙◌, Result, Ok, Err}
 use Rattle.std.specs.Prelude.{◌↔◌, ◌&&◌, not, if◌then◌else◌, IfOk, IfSome}
 use Rattle.std.specs.List.{filter}
 use Rattle.serde_json.specs.Data.{Data}
@@ -11,10 +11,9 @@ use Rattle.oci_schemas.specs.Kinds.{shape_of}
 use Rattle.oci_schema.specs.Unknown.{unknown}
 use Rattle.oci_rules.specs.Listed.{all_broken}
 use Rattle.oci_rules.specs.Rules.{Rule}
-use Rattle.oci_rules.specs.Tables.{rule_of}
 use Rattle.oci_findings.specs.declared.finding.Finding.{Finding}
 use Rattle.oci_findings.specs.Asked.{denies, denies_if, ignores}
-use Rattle.oci_findings.specs.Checks.{HasKeysOnce, HasNoKind, HasShape, IsAllowed, IsAsked, IsKindIn, IsOpen, IsPassedOver, IsRight, IsRightValue, IsWrong, counted, denied, is_error, platform_asked, rules_if}
+use Rattle.oci_findings.specs.Checks.{HasKeysOnce, HasNoKind, HasShape, IsAllowed, IsAsked, IsKindIn, IsOpen, IsPassedOver, IsRight, IsRightValue, IsWrong, counted, denied, is_error, platform_asked, rules_for, rules_if}
 use Rattle.oci_findings.specs.FoundKind.{kind_for}
 use Rattle.oci_findings.specs.declared.asked.Check.{Check}
 use Rattle.oci_findings.specs.declared.asked.Unknown.TheVariants.{Allow}
@@ -112,8 +111,8 @@ none_denied a kind d n allowed e = e ∙ ap (λ b. length (if b then unknown (sh
 pub alone : (books : Kind → List Rule) (a : Check) (kind : Kind) (d : Data) → a.rules ≡ false → a.policy.now ≡ [] → a.unknown ≡ Allow → ((p : Plain) × Means (shape_of kind) d p) → IsRightValue books a kind d
 alone books a kind d no_rules no_policy allowed means =
     let counts : counted books a kind d ≡ [] =
-    ap (λ r. filter (λ x. is_error a x.0) (all_broken (rules_if r (books kind) ++ map rule_of a.policy.now) (platform_asked a.platform d) d)) no_rules
-    ∙ ap (λ p. filter (λ x. is_error a x.0) (all_broken ([] ++ map rule_of p) (platform_asked a.platform d) d)) no_policy in
+    ap (λ r. filter (λ x. is_error a x.0) (all_broken (rules_if r (books kind) ++ rules_for kind a.policy.now) (platform_asked a.platform d) d)) no_rules
+    ∙ ap (λ p. filter (λ x. is_error a x.0) (all_broken ([] ++ rules_for kind p) (platform_asked a.platform d) d)) no_policy in
     let listed : denied a kind d ≡ [] = ap (λ u. if denies_if u a.strict && not (ignores a (codes "unknown")) then unknown (shape_of kind) [] d else []) allowed in
     ((λ no. means), (counts, listed))
 

@@ -1,4 +1,5 @@
 pub mod Allowed
+pub mod Books
 pub mod Colored
 pub mod Commands
 pub mod Counted

@@ -3,7 +3,9 @@ use Rattle.std.specs.Prelude.{◌&&◌, ◌||◌, ◌==◌, ℕ, List, length, B
 use Rattle.std.specs.Borrow.{Bor}
 use Rattle.std.specs.List.{list_any}
 use Rattle.oci_schemas.specs.declared.kind.Kind.{Kind}
+use Rattle.oci_schemas.specs.contracts.kind.KindPartialEq.TheImpl as kinds
 use Rattle.oci_findings.specs.Annotations.{is_annotation}
+use Rattle.oci_findings.specs.declared.asked.Book.{Book}
 use Rattle.oci_findings.specs.declared.asked.Check.{Check}
 use Rattle.oci_findings.specs.declared.asked.Unknown.{Unknown}
 use Rattle.oci_findings.specs.declared.asked.Unknown.TheVariants.{Deny, Warn, Allow}
@@ -19,6 +21,10 @@ ignores a rule = is_named a.ignore.now rule
 -- the rule of this name, one of the specifications or of the policy, is checked: it is not ignored, and is one of those that are named, if any are
 abbrev pub asks : Check → List ℕ → Bool
 asks a rule = not (ignores a rule) && ((length a.only.now == 0) || is_named a.only.now rule)
+
+-- the rules of the book are asked of documents of the kind
+abbrev pub is_for : Book → Kind → Bool
+is_for b kind = list_any (λ k. kinds.ghosts.eq k kind) b.kinds.now
 
 -- a member that the schema does not list is wrong
 abbrev pub denies_if : Unknown → Bool → Bool

@@ -1,6 +1,6 @@
 -- Which documents pass.
 use Rattle.std.specs.Prelude.{◌≡◌, ◌⊎◌, ◌++◌, ◌&&◌, ◌||◌, ℕ, List, [], map, Bool, true, false, if◌then◌else◌, codes, Option, Some, None, IfSome, IsSomeAnd}
-use Rattle.std.specs.List.{filter}
+use Rattle.std.specs.List.{filter, flat_map}
 use Rattle.json.specs.Json.{document}
 use Rattle.json.specs.Strict.{HasUniqueKeys}
 use Rattle.serde_json.specs.Data.{Data}
@@ -19,8 +19,9 @@ use Rattle.oci_rules.specs.Rules as rules
 use Rattle.oci_rules.specs.Rules.{Level, must, stated, should, host}
 use Rattle.oci_rules.specs.Tables.{level_of, platform_of, rule_of}
 use Rattle.oci_rules.specs.declared.rule.RuntimePlatform.{RuntimePlatform}
-use Rattle.oci_findings.specs.Asked.{asks, denies, ignores, is_wrong_twice}
+use Rattle.oci_findings.specs.Asked.{asks, denies, ignores, is_for, is_wrong_twice}
 use Rattle.oci_findings.specs.FoundKind.{kind_for}
+use Rattle.oci_findings.specs.declared.asked.Book.{Book}
 use Rattle.oci_findings.specs.declared.asked.Check.{Check}
 use Rattle.oci_findings.specs.declared.inspect.Reading.{Reading}
 use Rattle.oci_findings.specs.declared.inspect.Reading.TheVariants as reading
@@ -101,9 +102,13 @@ abbrev pub rules_if : Bool → List rules.Rule → List rules.Rule
 rules_if true rs = rs
 rules_if false rs = []
 
--- the rules of the specifications for the kind, where they are asked for, and those of the policy
+-- the rules of the books for the kind
+abbrev pub rules_for : Kind → List Book → List rules.Rule
+rules_for kind = flat_map (λ b. rules_if (is_for b kind) (map rule_of b.rules.now))
+
+-- the rules of the specifications for the kind, where they are asked for, and those of the policy for it
 abbrev pub asked_rules : (Kind → List rules.Rule) → Check → Kind → List rules.Rule
-asked_rules books a kind = rules_if a.rules (books kind) ++ map rule_of a.policy.now
+asked_rules books a kind = rules_if a.rules (books kind) ++ rules_for kind a.policy.now
 
 -- the platform that is asked for, or the one that the document says
 abbrev pub platform_asked : Option RuntimePlatform → Data → rules.Platform

@@ -1,6 +1,6 @@
 //! What is checked.
 ghost use Rattle.std.specs.Prelude.{◌≡◌};
-ghost use Rattle.oci_findings.specs.Asked.{asks, denies, ignores};
+ghost use Rattle.oci_findings.specs.Asked.{asks, denies, ignores, is_for};
 
 use crate::Style;
 use oci_rules::{Level, Rule, RuntimePlatform};
@@ -17,6 +17,24 @@ pub enum Unknown {
     Allow,
 }
 
+/// Rules, and the kinds of documents of which they are asked.
+#[derive(Clone, Copy)]
+pub struct Book<'a> {
+    /// The kinds.
+    pub kinds: &'a [Kind],
+    /// The rules.
+    pub rules: &'a [Rule<'a>],
+}
+
+impl<'a> Book<'a> {
+    /// Whether the rules are asked of documents of a kind.
+    pub fn is_for(&self, kind: Kind) -> bool
+        ensures { result ≡ is_for self.now kind }
+    {
+        self.kinds.contains(&kind)
+    }
+}
+
 /// What `check` is asked.
 #[derive(Clone, Copy)]
 pub struct Check<'a> {
@@ -24,8 +42,8 @@ pub struct Check<'a> {
     pub kind: Option<Kind>,
     /// Whether the rules of the specifications are checked beside the schema.
     pub rules: bool,
-    /// The rules of a policy, which are checked too.
-    pub policy: &'a [Rule<'a>],
+    /// The rules of a policy, which are checked too, each of documents of its kinds.
+    pub policy: &'a [Book<'a>],
     /// The weakest level of rules that are checked, in the order must, stated, should, host.
     pub level: Level,
     /// The platform of the documents, or none where they say it.

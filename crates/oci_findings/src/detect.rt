@@ -274,12 +274,27 @@ fn is_possible<D: Document>(kind: Kind, document: &D) -> bool {
         .any(|member| document.has(member.name))
 }
 
+/// What is said of a manifest of Docker's first format, which has no media type that tells it (Docker Registry, "Image Manifest V 2,
+/// Schema 1").
+const SCHEMA_1: &str =
+    "this is a Docker manifest of schema 1, which no specification of the Open Container Initiative describes";
+
+fn is_schema_1(value: &Value) -> bool {
+    value
+        .get("schemaVersion")
+        .is_some_and(|it| it.as_u64() == Some(1))
+        && value.get("fsLayers").is_some()
+}
+
 /// Why no kind was found out: that its media type is of none, or else which are possible.
 pub fn explain_open(value: &Value, alloc: Global) -> Result<String, AllocError> {
+    if is_schema_1(value) {
+        return String::from_str(alloc, SCHEMA_1);
+    }
     let mut text = String::from_str(alloc, "cannot tell which kind of document this is")?;
     match media_type_of(value) {
         Some(media_type) => push_unknown_type(&mut text, media_type)?,
-        None => push_possible(&mut text, value)?,
+        None => push_possible(&mut text, value, alloc)?,
     }
     text.push_str("; say which with --kind")?;
     Ok(text)
@@ -291,15 +306,27 @@ fn push_unknown_type(text: &mut String, media_type: &str) -> Result<(), AllocErr
     text.push_str(media_type)
 }
 
-/// Adds the kinds that are possible.
-fn push_possible(text: &mut String, value: &Value) -> Result<(), AllocError> {
-    let mut mark = ": it could be ";
-    for kind in &KINDS {
-        if is_possible(*kind, value) {
-            text.push_str(mark)?;
-            text.push_str(kind.title())?;
-            mark = ", ";
+/// The kinds that are possible for a document of which none was found: each that has a member that it has. There is none if it says a
+/// media type, which alone decides. Fails if out of memory.
+pub fn candidates(value: &Value, alloc: Global) -> Result<Vec<Kind>, AllocError> {
+    let mut found = Vec::new(alloc);
+    if media_type_of(value).is_none() {
+        for kind in &KINDS {
+            if is_possible(*kind, value) {
+                found.push(*kind)?;
+            }
         }
+    }
+    Ok(found)
+}
+
+/// Adds the kinds that are possible.
+fn push_possible(text: &mut String, value: &Value, alloc: Global) -> Result<(), AllocError> {
+    let mut mark = ": it could be ";
+    for kind in &candidates(value, alloc)? {
+        text.push_str(mark)?;
+        text.push_str(kind.title())?;
+        mark = ", ";
     }
     Ok(())
 }

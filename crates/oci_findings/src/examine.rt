@@ -6,10 +6,11 @@ ghost use Rattle.oci_schemas.specs.Kinds.{shape_of};
 ghost use Rattle.oci_schema.specs.Unknown.{unknown as all_unknown};
 ghost use Rattle.oci_rules.specs.Listed.{all_broken};
 ghost use Rattle.oci_rules.specs.Tables.{platform_of, rule_of, told as broken_told};
+ghost use Rattle.oci_findings.specs.Asked.{is_for};
 ghost use Rattle.oci_findings.specs.Findings.{breach};
-ghost use Rattle.oci_findings.specs.Checks.{AllKept, HasKeysOnce, HasShape, IsPassedOver, IsRight, IsRightValue, IsWrong, asked_rules, platform_asked, is_error as makes_wrong, counted, denied, rules_if};
+ghost use Rattle.oci_findings.specs.Checks.{AllKept, HasKeysOnce, HasShape, IsPassedOver, IsRight, IsRightValue, IsWrong, asked_rules, platform_asked, is_error as makes_wrong, counted, denied, rules_for, rules_if};
 
-use crate::asked::{Check, Unknown};
+use crate::asked::{Book, Check, Unknown};
 use crate::inspect::{Reading, faulty, kind_of, read_value, schema_errors};
 use crate::levels::{binds, is_error, is_heard};
 use crate::quick::is_right;
@@ -188,9 +189,39 @@ impl<'e, 'a, B: RuleBooks> Examination<'e, 'a, B> {
         ensures { IfOk result (λ v. flat_map (λ b. map rule_of b.now) v.items ≡ asked_rules (B.rules self.now.books.now) self.now.asked.now self.now.kind) }
     {
         let mut found = books_if(self.books, self.asked.rules, self.kind, self.alloc)?;
-        found.push(self.asked.policy)?;
+        add_books(self.asked.policy, self.kind, &mut found)?;
         Ok(found)
     }
+}
+
+/// Adds the rules of the books for the kind.
+#[tactic(auto, using(crate::proofs::Books::none_left))]
+fn add_books<'a>(
+    books: &'a [Book<'a>],
+    kind: Kind,
+    found: &mut Vec<&'a [Rule<'a>]>,
+) -> Result<(), AllocError>
+    ensures { OnOk result (flat_map (λ b. map rule_of b.now) found.new.items ≡ flat_map (λ b. map rule_of b.now) found.old.items ++ rules_for kind books.now) }
+{
+    for book in books {
+        add_book(book, kind, found)?;
+    }
+    Ok(())
+}
+
+/// Adds the rules of the book, if it is for the kind.
+#[tactic(auto, using(crate::proofs::Books::one_for, crate::proofs::Books::one_not_for))]
+fn add_book<'a>(
+    book: &Book<'a>,
+    kind: Kind,
+    found: &mut Vec<&'a [Rule<'a>]>,
+) -> Result<(), AllocError>
+    ensures { OnOk result (flat_map (λ b. map rule_of b.now) found.new.items ≡ flat_map (λ b. map rule_of b.now) found.old.items ++ rules_if (is_for book.now kind) (map rule_of book.now.rules.now)) }
+{
+    if book.is_for(kind) {
+        found.push(book.rules)?;
+    }
+    Ok(())
 }
 
 /// Two lists, one behind the other.

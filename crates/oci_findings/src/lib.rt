@@ -33,7 +33,7 @@ pub mod table;
 pub mod uri;
 pub mod wording;
 
-pub use asked::{Check, Unknown};
+pub use asked::{Book, Check, Unknown};
 pub use claimed::Claims;
 pub use contents::{content_findings, content_report, document_findings};
 pub use file_fault::{Absence, FileFault};

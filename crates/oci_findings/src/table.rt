@@ -10,21 +10,27 @@ const RECORDS: usize = 100;
 /// The members of a kind of documents, and of each record that they name.
 pub fn table_of(kind: Kind, alloc: Global) -> Result<String, AllocError> {
     let mut text = String::new(alloc);
-    let mut places = Vec::new(alloc);
     text.push_str(kind.title())?;
     text.push_str("\n")?;
+    for place in &records_of(kind, alloc)? {
+        push_record(&mut text, OciRecords.record(*place), alloc)?;
+    }
+    Ok(text)
+}
+
+/// The places of the records that documents of a kind have, each once, in the order in which they are named.
+pub fn records_of(kind: Kind, alloc: Global) -> Result<Vec<usize>, AllocError> {
+    let mut places = Vec::new(alloc);
     note(kind.schema(), &mut places)?;
     for index in 0..RECORDS {
         let Some(place) = places.get(index) else {
             break;
         };
-        let record = OciRecords.record(*place);
-        push_record(&mut text, record, alloc)?;
-        for member in record.members {
+        for member in OciRecords.record(*place).members {
             note(&member.schema, &mut places)?;
         }
     }
-    Ok(text)
+    Ok(places)
 }
 
 /// Notes the record that a schema names, if it was not met before.
