@@ -8,9 +8,8 @@ use Rattle.oci_schemas.specs.declared.kind.Kind.{Kind}
 use Rattle.oci_schemas.specs.Kinds.{shape_of}
 use Rattle.oci_rules.specs.Listed.{all_broken}
 use Rattle.oci_rules.specs.Rules.{Rule}
-use Rattle.oci_rules.specs.Tables.{rule_of}
 use Rattle.oci_findings.specs.Asked.{denies, denies_if, ignores, is_named}
-use Rattle.oci_findings.specs.Checks.{IsAsked, IsKindIn, IsPassedOver, IsRight, asked_rules, counted, denied, platform_asked, rules_if, is_error}
+use Rattle.oci_findings.specs.Checks.{IsAsked, IsKindIn, IsPassedOver, IsRight, asked_rules, counted, denied, platform_asked, rules_for, rules_if, is_error}
 use Rattle.oci_findings.specs.declared.asked.Check.{Check}
 use Rattle.oci_commands.specs.Laws.{AsksTypesAlone, HasForm}
 
@@ -27,7 +26,7 @@ kind_of None name bytes d kind reads (e, other, h) = subst (λ x. IsAsked None n
 
 module _ (books : Kind → List Rule) (a : Check) (alone : AsksTypesAlone a) where
   no_rules : (kind : Kind) → asked_rules books a kind ≡ []
-  no_rules kind = ap (λ b. rules_if b (books kind) ++ map rule_of a.policy.now) alone.no_rules ∙ ap (map rule_of) alone.no_policy
+  no_rules kind = ap (λ b. rules_if b (books kind) ++ rules_for kind a.policy.now) alone.no_rules ∙ ap (rules_for kind) alone.no_policy
 
   none_counted : (kind : Kind) (d : Data) → counted books a kind d ≡ []
   none_counted kind d = ap (λ rs. filter (λ x. is_error a x.0) (all_broken rs (platform_asked a.platform d) d)) (no_rules kind)

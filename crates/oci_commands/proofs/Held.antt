@@ -12,6 +12,8 @@ use Rattle.oci_doc_run.specs.Outputs.{WritesPinned}
 use Rattle.oci_findings.specs.Checks.{IsKindIn}
 use Rattle.oci_findings.proofs.Allowed.{kind_held}
 use Rattle.oci_findings.specs.Forms.{IsForm}
+use Rattle.oci_findings.specs.declared.style.Style.{Style}
+use Rattle.oci_commands.specs.Kinds.{IsKindLine}
 use Rattle.oci_commands.specs.Formats.{Formats, FormatsAs, HoldsPut}
 
 -- what holds of the bytes that were read
@@ -22,6 +24,18 @@ held P (Some b) bytes is h = subst P is h
 -- what is known of files that nothing changed
 pub moved : (new old : List ℕ → Option (List ℕ)) (P : List ℕ → Type 0) (name : List ℕ) → new ≡ old → IfSome (new name) P → IfSome (old name) P
 moved new old P name same h = subst (λ f. IfSome (f name) P) same h
+
+-- what holds of files and a text holds of the same files
+pub same_files : (P : (List ℕ → Option (List ℕ)) → List ℕ → Type 0) (new old : List ℕ → Option (List ℕ)) (text : List ℕ) → new ≡ old → P new text → P old text
+same_files P new old text same h = subst (λ f. P f text) same h
+
+-- what holds of the bytes that were read, and of the files that nothing changed
+pub read_held : (P : (List ℕ → Option (List ℕ)) → List ℕ → Type 0) (new old : List ℕ → Option (List ℕ)) (name items bytes : List ℕ) → new ≡ old → bytes ≡ items → IfSome (old name) (λ b. items ≡ b) → P new bytes → IfSome (old name) (P old)
+read_held P new old name items bytes same are is h = held (P old) (old name) items is (subst (P old) are (subst (λ f. P f bytes) same h))
+
+-- the line of a document whose bytes were read
+pub line_held : (style : Style) (name : List ℕ) (known : Option (List ℕ)) (bytes line : List ℕ) → IfSome known (λ b. bytes ≡ b) → IsKindLine style (Some bytes) name line → IsKindLine style known name line
+line_held style name known bytes line is (kind, fits, shown) = (kind, kind_held None name known bytes kind is fits, shown)
 
 -- what holds in any case
 pub on_any : {A E : Type 0} (r : Result A E) {P : Type 0} → P → OnOk r P

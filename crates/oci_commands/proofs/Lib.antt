@@ -1,8 +1,10 @@
 pub mod CheckIsFormat
+pub mod Entries
 pub mod Faults
 pub mod Forms
 pub mod Held
 pub mod Layouts
 pub mod Lines
 pub mod Sides
+pub mod Targets
 pub mod Written

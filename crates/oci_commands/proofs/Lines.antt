@@ -13,6 +13,10 @@ use Rattle.oci_findings.proofs.Each.{one_more}
 pub line_moved : (algorithm : Algorithm) (new old : List ℕ → Option (List ℕ)) (name line : List ℕ) → new ≡ old → IsFileLine algorithm (new name) name line → IsFileLine algorithm (old name) name line
 line_moved algorithm new old name line same is = subst (λ holds. IsFileLine algorithm (holds name) name line) same is
 
+-- the same of any line that says something of a file's bytes
+pub known_moved : (Is : Option (List ℕ) → List ℕ → List ℕ → Type 0) (new old : List ℕ → Option (List ℕ)) (name line : List ℕ) → new ≡ old → Is (new name) name line → Is (old name) name line
+known_moved Is new old name line same is = subst (λ holds. Is (holds name) name line) same is
+
 appends_both : (old mid new : Option (List ℕ)) (a b : List ℕ) → Appends old mid a → Appends mid new b → Appends old new (a ++ b)
 appends_both None mid new a b first next = tt
 appends_both (Some xs) None new a b first next = absurd first

@@ -3,17 +3,21 @@ use Rattle.std.specs.Prelude.{◌≡◌, ◌⊎◌, ◌<◌, ℕ, List, length, 
 use Rattle.std.specs.List.{All, HoldsAt}
 use Rattle.std.specs.Borrow.{Bor}
 use Rattle.std.specs.Io.KnownBytes.{Appends}
+use Rattle.oci_base.specs.Digest.{IsDigestText}
 use Rattle.oci_doc_run.specs.Outputs.{WritesPinned}
 use Rattle.oci_schemas.specs.declared.kind.Kind.{Kind}
 use Rattle.oci_rules.specs.Rules.{Rule}
 use Rattle.oci_commands.specs.declared.asked.Asked.{Asked}
-use Rattle.oci_commands.specs.declared.asked.Asked.TheVariants.{Check, Format, Compare, Reference, Digest, FileDigests, Pin, Tree, Rules, Schema}
-use Rattle.oci_findings.specs.Checks.{IsRight, IsWrong}
+use Rattle.oci_commands.specs.declared.asked.Asked.TheVariants.{Check, Format, Compare, Reference, Digest, FileDigests, CheckDigests, Pin, PinTo, Tree, Rules, Explain, Schema, Kinds}
+use Rattle.oci_findings.specs.Checks.{HasNoKind, IsRight, IsWrong}
 use Rattle.oci_commands.specs.Compared.{HoldSame, HoldUnequal}
+use Rattle.oci_commands.specs.Kinds.{IsKindLine}
 use Rattle.oci_commands.specs.Formats.{Formats, HoldsPut, IsUnformatted, LosesNothing}
 use Rattle.oci_findings.specs.declared.style.Style.{Style}
 use Rattle.oci_findings.specs.declared.style.Style.TheVariants.{Text, Color, Json, Sarif, Github}
+use Rattle.oci_commands.specs.Pins.{HasNoTarget, PinsTo}
 use Rattle.oci_commands.specs.Refused.{IsNoReference, IsNoDigest, IsNoDescriptor, HasNone}
+use Rattle.oci_commands.specs.Sums.{AllMatch, OneDiffers}
 use Rattle.oci_commands.specs.Texts.{IsReference, AreReferenceLines, AreDigestLines, IsFileLine, Joins}
 
 -- the exit statuses of a command: done, the input is wrong, something could not be read or written
@@ -32,6 +36,14 @@ WroteReferences Json texts old new = All (λ t. IsReference t.now) texts
 WroteReferences Sarif texts old new = AppendsEach AreReferenceLines texts old new
 WroteReferences Github texts old new = AppendsEach AreReferenceLines texts old new
 
+-- the same of digests
+abbrev pub WroteDigests : Style → List (Bor (List ℕ)) → Option (List ℕ) → Option (List ℕ) → Type 0
+WroteDigests Text texts old new = AppendsEach AreDigestLines texts old new
+WroteDigests Json texts old new = All (λ t. IsDigestText t.now) texts
+WroteDigests Sarif texts old new = AppendsEach AreDigestLines texts old new
+WroteDigests Github texts old new = AppendsEach AreDigestLines texts old new
+WroteDigests Color texts old new = AppendsEach AreDigestLines texts old new
+
 -- after status 0, where `books` are the rules of the specifications by kinds, `holds` are the bytes of files, and `old` and `new` is what was written before and after, where they are known
 abbrev pub IsDone : (Kind → List Rule) → (List ℕ → Option (List ℕ)) → Option (List ℕ) → Option (List ℕ) → Asked → Type 0
 -- nothing is wrong with any file
@@ -45,14 +57,21 @@ IsDone books holds old new (Format a) =
 IsDone books holds old new (Compare a) = HoldSame a.kind a.before.now (holds a.before.now) a.after.now (holds a.after.now)
 -- each text is a reference, or a digest, and its parts were written
 IsDone books holds old new (Reference style texts) = WroteReferences style texts.now old new
-IsDone books holds old new (Digest texts) = AppendsEach AreDigestLines texts.now old new
+IsDone books holds old new (Digest style texts) = WroteDigests style texts.now old new
 -- the digests of the files were written
 IsDone books holds old new (FileDigests algorithm files) = AppendsEach (λ f. IsFileLine algorithm (holds f.now) f.now) files.now old new
+-- the files that the lists name have the digests that stand there
+IsDone books holds old new (CheckDigests algorithm files) = All (λ f. IfSome (holds f.now) (AllMatch holds algorithm)) files.now
 -- the reference with the digest of the descriptor was written
 IsDone books holds old new (Pin text file) = WritesPinned text.now (holds file.now) (Appends old new)
+-- or with the digest that was asked for
+IsDone books holds old new (PinTo text target) = PinsTo holds text.now target old new
 IsDone books holds old new (Tree file) = ⊤
-IsDone books holds old new (Rules name) = ⊤
-IsDone books holds old new (Schema kind) = ⊤
+IsDone books holds old new (Rules style name) = ⊤
+IsDone books holds old new (Explain name) = ⊤
+IsDone books holds old new (Schema outline kind) = ⊤
+-- each document is of one kind, and its line was written
+IsDone books holds old new (Kinds style files) = AppendsEach (λ f. IsKindLine style (holds f.now) f.now) files.now old new
 
 -- after status 0, where `before` and `after` are the bytes of files before and after: what `fmt` was to write into holds the canonical form
 abbrev pub IsPut : (List ℕ → Option (List ℕ)) → (List ℕ → Option (List ℕ)) → Asked → Type 0
@@ -69,10 +88,15 @@ IsRejected books holds (Format a) = IfSome (holds a.file.now) (IsUnformatted a)
 IsRejected books holds (Compare a) = HoldUnequal a.kind a.before.now (holds a.before.now) a.after.now (holds a.after.now)
 -- one of the texts is no reference, or no digest
 IsRejected books holds (Reference style texts) = HasNone IsNoReference texts.now
-IsRejected books holds (Digest texts) = HasNone IsNoDigest texts.now
+IsRejected books holds (Digest style texts) = HasNone IsNoDigest texts.now
 IsRejected books holds (FileDigests algorithm files) = ⊥
+-- one of the lists has a line that differs, or is none
+IsRejected books holds (CheckDigests algorithm files) = (i : ℕ) × (i < length files.now) × HoldsAt (λ f. IfSome (holds f.now) (OneDiffers holds algorithm)) files.now i
 -- the text is no reference, or the file holds no descriptor
 IsRejected books holds (Pin text file) = IsNoReference text.now ⊎ IfSome (holds file.now) IsNoDescriptor
+-- one of the documents is no JSON, or of no kind, or possibly of several
+IsRejected books holds (Kinds style files) = (i : ℕ) × (i < length files.now) × HoldsAt (λ f. IfSome (holds f.now) (HasNoKind None f.now)) files.now i
+IsRejected books holds (PinTo text target) = IsNoReference text.now ⊎ HasNoTarget holds target
 IsRejected books holds _ = ⊤
 
 -- the command writes neither output nor file

@@ -1,9 +1,12 @@
 pub mod Compared
 pub mod Done
 pub mod Formats
+pub mod Kinds
 pub mod Laws
 pub mod Layouts
 pub mod LeftOut
+pub mod Pins
 pub mod Refused
+pub mod Sums
 pub mod Texts
 pub use Rattle.oci_layout.specs.Sound

@@ -1,6 +1,6 @@
 //! Commands as values.
 use oci_content::Algorithm;
-pub use oci_findings::{Check, Style, Unknown};
+pub use oci_findings::{Book, Check, Style, Unknown};
 use oci_schemas::Kind;
 
 /// What `fmt` is asked.
@@ -49,6 +49,26 @@ pub struct Tree<'a> {
     pub layout: Option<&'a str>,
 }
 
+/// The digest to which a reference is pinned.
+#[derive(Clone, Copy)]
+pub enum Target<'a> {
+    /// This digest.
+    Given(&'a str),
+    /// The digest of the bytes of a file, as of a manifest.
+    Manifest(&'a str),
+    /// The digest of the descriptor that has a name (second) in the index of an image layout, a file (first).
+    Tagged(&'a str, &'a str),
+}
+
+/// How the schema of a kind of documents is written.
+#[derive(Clone, Copy)]
+pub enum Outline {
+    /// As a table of members, for people.
+    Table,
+    /// As a JSON Schema.
+    JsonSchema,
+}
+
 /// A command with what it is asked.
 #[derive(Clone, Copy)]
 pub enum Asked<'a> {
@@ -61,15 +81,23 @@ pub enum Asked<'a> {
     /// `ref`: the parts of references.
     Reference(Style, &'a [&'a str]),
     /// `digest --parse`: the parts of digests.
-    Digest(&'a [&'a str]),
+    Digest(Style, &'a [&'a str]),
     /// `digest`: the digests of files.
     FileDigests(Algorithm, &'a [&'a str]),
+    /// `digest --check`: whether files have the digests of lists; those that name no algorithm are by this one.
+    CheckDigests(Algorithm, &'a [&'a str]),
     /// `pin`: a reference with the digest of a descriptor.
     Pin(&'a str, &'a str),
+    /// `pin`: a reference with a digest.
+    PinTo(&'a str, Target<'a>),
     /// `tree`: a document as a tree.
     Tree(Tree<'a>),
     /// `rules`: the rules of all kinds of documents, or those of a kind, or a rule, by its name.
-    Rules(Option<&'a str>),
-    /// `schema`: the members of a kind of documents.
-    Schema(Kind),
+    Rules(Style, Option<&'a str>),
+    /// `explain`: a rule, by its name.
+    Explain(&'a str),
+    /// `schema`: the members of a kind of documents, or its JSON Schema.
+    Schema(Outline, Kind),
+    /// `kind`: the kinds of documents.
+    Kinds(Style, &'a [&'a str]),
 }

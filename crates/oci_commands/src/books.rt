@@ -178,7 +178,7 @@ fn push_platforms(line: &mut String, platforms: &[RuntimePlatform]) -> Result<()
 }
 
 /// Adds a place: `*` is each item of an array, `{}` each member of an object, and `{name}` the name of each.
-fn push_place(line: &mut String, place: &[Step<'_>]) -> Result<(), AllocError> {
+pub(crate) fn push_place(line: &mut String, place: &[Step<'_>]) -> Result<(), AllocError> {
     let mut mark = "";
     for step in place {
         let word = match step {

@@ -9,9 +9,13 @@ use crate::canonical::format;
 use crate::check::check;
 use crate::compare::compare;
 use crate::contents::file_digests;
+use crate::explained::explain;
 use crate::files::Files;
+use crate::kinds::kinds;
 use crate::outline::tree;
+use crate::pins::pin_to;
 use crate::shown::{rules, schema};
+use crate::sums::check_digests;
 use crate::texts::{complain, complain_of, digests, pin, references};
 use oci_base::{OciSpecError, Result};
 use oci_findings::RuleBooks;
@@ -63,17 +67,23 @@ fn perform<S: Files, B: RuleBooks + Versions, W: Write, E: Write>(
         Asked::Format(asked) => format(asked, alloc, store, writer, errors),
         Asked::Compare(asked) => compare(asked, alloc, store, writer, errors),
         Asked::Reference(style, texts) => references(*style, texts, alloc, writer, errors),
-        Asked::Digest(texts) => digests(texts, alloc, writer, errors),
+        Asked::Digest(style, texts) => digests(*style, texts, alloc, writer, errors),
         Asked::FileDigests(algorithm, files) => {
             file_digests(*algorithm, files, alloc, store, writer, errors)
         }
+        Asked::CheckDigests(algorithm, files) => {
+            check_digests(*algorithm, files, alloc, store, writer, errors)
+        }
         Asked::Pin(text, file) => pin(text, file, alloc, store, writer, errors),
+        Asked::PinTo(text, target) => pin_to(text, target, alloc, store, writer, errors),
         Asked::Tree(asked) => tree(asked, alloc, store, writer, errors),
-        Asked::Rules(name) => rules(books, *name, alloc, writer, errors),
-        Asked::Schema(kind) => {
-            schema(*kind, alloc, writer)?;
+        Asked::Rules(style, name) => rules(books, *style, *name, alloc, writer, errors),
+        Asked::Explain(name) => explain(books, name, alloc, writer, errors),
+        Asked::Schema(outline, kind) => {
+            schema(*outline, *kind, alloc, writer)?;
             Ok(0)
         }
+        Asked::Kinds(style, files) => kinds(*style, files, alloc, store, writer, errors),
     }
 }
 

@@ -2,7 +2,11 @@
 ghost use Rattle.std.specs.Prelude.{IfOk};
 ghost use Rattle.oci_commands.specs.Done.{IsStatus};
 
+use crate::asked::{Outline, Style};
 use crate::books::{Versions, all_rules, rules_of_kind, rules_of_name};
+use crate::json_schema::json_schema_of;
+use crate::nearest::nearest_rule_or_kind;
+use crate::rule_objects::{objects_of_kind, objects_of_rules};
 use crate::texts::complain_of;
 use oci_base::Result;
 use oci_findings::table::table_of;
@@ -12,10 +16,11 @@ use oci_schemas::Kind;
 use std::alloc::{AllocError, Global};
 use std::io::Write;
 
-/// Writes the rules of all kinds of documents and the versions that they hold to, or those of a kind, or a rule, by its name. Returns 0 if that was done, and 1 if there is
-/// no such kind and no such rule.
+/// Writes the rules of all kinds of documents and the versions that they hold to, or those of a kind, or a rule, by its name. Returns 0
+/// if that was done, and 1 if there is no such kind and no such rule.
 pub fn rules<B: RuleBooks + Versions, W: Write, E: Write>(
     books: &B,
+    style: Style,
     name: Option<&str>,
     alloc: Global,
     writer: &mut W,
@@ -23,17 +28,67 @@ pub fn rules<B: RuleBooks + Versions, W: Write, E: Write>(
 ) -> Result<u8>
     ensures { IfOk result IsStatus }
 {
-    match text_of(books, name, alloc)? {
+    match chosen(books, style, name, alloc)? {
         Some(text) => {
             write_text(text.as_bytes(), writer)?;
             Ok(0)
         }
         None => {
-            let fault = "no kind of documents and no rule has this name";
-            complain_of(name.unwrap_or(""), &fault, alloc, errors);
+            say_no_name(books, name.unwrap_or(""), alloc, errors)?;
             Ok(1)
         }
     }
+}
+
+/// Says that there is no such kind and no such rule, and which name is nearest, if one is near.
+fn say_no_name<B: RuleBooks, E: Write>(
+    books: &B,
+    name: &str,
+    alloc: Global,
+    errors: &mut E,
+) -> Result<()> {
+    match nearest_rule_or_kind(books, name, alloc)? {
+        Some(near) => {
+            let fault = format!(in alloc;
+                "no kind of documents and no rule has this name; the nearest is {near}"
+            )?;
+            complain_of(name, &fault, alloc, errors);
+        }
+        None => {
+            let fault = "no kind of documents and no rule has this name";
+            complain_of(name, &fault, alloc, errors);
+        }
+    }
+    Ok(())
+}
+
+/// The rules of all kinds, or of the kind or rule of this name, for people or for programs; none if there is no such.
+fn chosen<B: RuleBooks + Versions>(
+    books: &B,
+    style: Style,
+    name: Option<&str>,
+    alloc: Global,
+) -> std::result::Result<Option<String>, AllocError> {
+    match style {
+        Style::Json => objects(books, name, alloc),
+        Style::Text | Style::Color | Style::Sarif | Style::Github => text_of(books, name, alloc),
+    }
+}
+
+/// The same as JSON Lines.
+fn objects<B: RuleBooks>(
+    books: &B,
+    name: Option<&str>,
+    alloc: Global,
+) -> std::result::Result<Option<String>, AllocError> {
+    let text = match name {
+        Some(name) => match kind_named(name) {
+            Some(kind) => objects_of_kind(books, kind, None, alloc)?,
+            None => objects_of_rules(books, Some(name), alloc)?,
+        },
+        None => objects_of_rules(books, None, alloc)?,
+    };
+    Ok(if text.is_empty() { None } else { Some(text) })
 }
 
 /// The rules of all kinds, or of the kind or rule of this name; none if there is no such.
@@ -51,9 +106,12 @@ fn text_of<B: RuleBooks + Versions>(
     }
 }
 
-/// Writes the members of a kind of documents, and of each record that they name.
-pub fn schema<W: Write>(kind: Kind, alloc: Global, writer: &mut W) -> Result<()> {
-    let text = table_of(kind, alloc)?;
+/// Writes the members of a kind of documents, and of each record that they name, or its JSON Schema.
+pub fn schema<W: Write>(outline: Outline, kind: Kind, alloc: Global, writer: &mut W) -> Result<()> {
+    let text = match outline {
+        Outline::Table => table_of(kind, alloc)?,
+        Outline::JsonSchema => json_schema_of(kind, alloc)?,
+    };
     write_text(text.as_bytes(), writer)?;
     Ok(())
 }

@@ -3,10 +3,11 @@ ghost use Rattle.std.specs.Prelude.{◌≡◌, ◌⊎◌, true, false, [], Some,
 ghost use Rattle.std.specs.List.{All};
 ghost use Rattle.std.specs.Io.KnownBytes.{Appends};
 ghost use Rattle.oci_findings.specs.Checks.{IsAllowed};
+ghost use Rattle.oci_base.specs.Digest.{IsDigestText};
 ghost use Rattle.oci_base.specs.Escaped.{IsLine};
 ghost use Rattle.oci_doc_run.specs.Commands.{asked as asked_of, pin};
 ghost use Rattle.oci_doc_run.specs.Outputs.{Writes, WritesPinned};
-ghost use Rattle.oci_commands.specs.Done.{IsStatus, AppendsEach, WroteReferences};
+ghost use Rattle.oci_commands.specs.Done.{IsStatus, AppendsEach, WroteDigests, WroteReferences};
 ghost use Rattle.oci_commands.specs.Refused.{IsAtFault, IsFault, IsNoReference, IsNoDigest, IsNoDescriptor, HasNone};
 ghost use Rattle.oci_commands.specs.Texts.{IsReference, AreReferenceLines, AreDigestLines};
 
@@ -74,7 +75,8 @@ pub(crate) fn is_wrong<E: Write>(
     alloc: Global,
     errors: &mut E,
 ) -> Result<bool>
-    ensures { IfOk result (λ b. b ≡ true → ¬ IsAllowed kind name.now bytes.now) }
+    ensures wrong { IfOk result (λ b. b ≡ true → ¬ IsAllowed kind name.now bytes.now) }
+    ensures right { IfOk result (λ b. b ≡ false → IsAllowed kind name.now bytes.now) }
 {
     let found = inspect(kind, name, bytes, alloc)?;
     if found.errors.is_empty() {
@@ -186,7 +188,12 @@ fn perform<W: Write, E: Write>(
 }
 
 /// Says why a text was refused; fails if out of memory, or if something could not be written.
-fn refused<E: Write>(refusal: Refusal, text: &str, alloc: Global, errors: &mut E) -> Result<bool>
+pub(crate) fn refused<E: Write>(
+    refusal: Refusal,
+    text: &str,
+    alloc: Global,
+    errors: &mut E,
+) -> Result<bool>
     ensures { IfOk result (λ b. (b ≡ false) × IsFault refusal) }
 {
     match refusal {
@@ -257,6 +264,85 @@ fn member_if(
 
 /// Writes the parts of each digest, as `references` does.
 pub fn digests<W: Write, E: Write>(
+    style: Style,
+    texts: &[&str],
+    alloc: Global,
+    writer: &mut W,
+    errors: &mut E,
+) -> Result<u8>
+    ensures status { IfOk result IsStatus }
+    ensures right { IfOk result (λ s. s ≡ 0 → WroteDigests style texts.now (W.contents writer.old) (W.contents writer.new)) }
+    ensures wrong { IfOk result (λ s. s ≡ 1 → HasNone IsNoDigest texts.now) }
+{
+    match style {
+        Style::Json => digest_objects(texts, alloc, writer, errors),
+        Style::Text | Style::Color | Style::Sarif | Style::Github => digest_lines(
+            texts, alloc, writer, errors,
+        ),
+    }
+}
+
+fn digest_objects<W: Write, E: Write>(
+    texts: &[&str],
+    alloc: Global,
+    writer: &mut W,
+    errors: &mut E,
+) -> Result<u8>
+    ensures status { IfOk result IsStatus }
+    ensures right { IfOk result (λ s. s ≡ 0 → All (λ t. IsDigestText t.now) texts.now) }
+    ensures wrong { IfOk result (λ s. s ≡ 1 → HasNone IsNoDigest texts.now) }
+{
+    let mut wrong = false;
+    for text in texts {
+        if !digest_as_json(text, alloc, writer, errors)? {
+            wrong = true;
+        }
+    }
+    Ok(if wrong { 1 } else { 0 })
+}
+
+/// Writes the object of a digest's parts, and returns whether that was done. If the text is no digest, a line on standard error says why.
+fn digest_as_json<W: Write, E: Write>(
+    text: &str,
+    alloc: Global,
+    writer: &mut W,
+    errors: &mut E,
+) -> Result<bool>
+    ensures right { IfOk result (λ b. b ≡ true → IsDigestText text.now) }
+    ensures wrong { IfOk result (λ b. b ≡ false → IsNoDigest text.now) }
+{
+    if !is_digest(text, alloc, errors)? {
+        return Ok(false);
+    }
+    let line = digest_object(text, alloc)?;
+    write_text(line.as_slice(), writer)?;
+    Ok(true)
+}
+
+/// Whether the text is a digest. If it is none, a line on standard error says why.
+pub(crate) fn is_digest<E: Write>(text: &str, alloc: Global, errors: &mut E) -> Result<bool>
+    ensures right { IfOk result (λ b. b ≡ true → IsDigestText text.now) }
+    ensures wrong { IfOk result (λ b. b ≡ false → IsNoDigest text.now) }
+{
+    let mut lines = Vec::new(alloc);
+    perform(Command::Digest(text), text, alloc, &mut lines, errors)
+}
+
+/// The object of a digest's parts.
+fn digest_object(text: &str, alloc: Global) -> std::result::Result<Vec<u8>, AllocError> {
+    let (algorithm, encoded) = text.split_once(':').unwrap_or((text, ""));
+    let mut out = Writer::new(Vec::new(alloc));
+    out.begin_object()?;
+    text_member(&mut out, "input", text)?;
+    text_member(&mut out, "algorithm", algorithm)?;
+    text_member(&mut out, "encoded", encoded)?;
+    out.end_object()?;
+    let mut line = out.into_inner();
+    line.push(b'\n')?;
+    Ok(line)
+}
+
+fn digest_lines<W: Write, E: Write>(
     texts: &[&str],
     alloc: Global,
     writer: &mut W,

@@ -1,6 +1,6 @@
 use Rattle.std.proofs.Common.{◌≡◌, IfOk, subst}
 use Rattle.oci_commands.specs.Done.{IsDone, IsRejected}
-use Rattle.oci_commands.specs.declared.asked.Asked.TheVariants.{Reference, FileDigests}
+use Rattle.oci_commands.specs.declared.asked.Asked.TheVariants.{Reference, Digest, FileDigests, Kinds, CheckDigests, PinTo}
 use Rattle.oci_commands.proofs.program.perform.Goals as goal
 
 pub returns-in-Reference-clause-done : goal.returns-in-Reference-clause-done
@@ -23,3 +23,55 @@ returns-in-FileDigests-clause-done g c =
     (λ asked. IfOk c.file_digests.result
     (λ s. s ≡ 0 → IsDone (g.B.RuleBooks.rules c.args.books.now) (g.S.Files.holds c.args.store.now) (g.W.Write.contents c.args.writer.now) (g.W.Write.contents c.file_digests.new.writer) asked))
     same c.file_digests.ensures.done
+
+pub returns-in-Kinds-clause-done : goal.returns-in-Kinds-clause-done
+returns-in-Kinds-clause-done g c =
+    let same : Kinds c.in-Kinds.style c.in-Kinds.files ≡ c.args.asked.now = (let is = c.in-Kinds.is in cc) in
+    subst
+    (λ asked. IfOk c.kinds.result
+    (λ s. s ≡ 0 → IsDone (g.B.RuleBooks.rules c.args.books.now) (g.S.Files.holds c.args.store.now) (g.W.Write.contents c.args.writer.now) (g.W.Write.contents c.kinds.new.writer) asked))
+    same c.kinds.ensures.done
+
+pub returns-in-Kinds-clause-wrong : goal.returns-in-Kinds-clause-wrong
+returns-in-Kinds-clause-wrong g c =
+    let same : Kinds c.in-Kinds.style c.in-Kinds.files ≡ c.args.asked.now = (let is = c.in-Kinds.is in cc) in
+    subst (λ asked. IfOk c.kinds.result (λ s. s ≡ 1 → IsRejected (g.B.RuleBooks.rules c.args.books.now) (g.S.Files.holds c.args.store.now) asked)) same c.kinds.ensures.wrong
+
+pub returns-in-CheckDigests-clause-done : goal.returns-in-CheckDigests-clause-done
+returns-in-CheckDigests-clause-done g c =
+    let same : CheckDigests c.in-CheckDigests.algorithm c.in-CheckDigests.files ≡ c.args.asked.now = (let is = c.in-CheckDigests.is in cc) in
+    subst
+    (λ asked. IfOk c.check_digests.result
+    (λ s. s ≡ 0 → IsDone (g.B.RuleBooks.rules c.args.books.now) (g.S.Files.holds c.args.store.now) (g.W.Write.contents c.args.writer.now) (g.W.Write.contents c.check_digests.new.writer) asked))
+    same c.check_digests.ensures.done
+
+pub returns-in-CheckDigests-clause-wrong : goal.returns-in-CheckDigests-clause-wrong
+returns-in-CheckDigests-clause-wrong g c =
+    let same : CheckDigests c.in-CheckDigests.algorithm c.in-CheckDigests.files ≡ c.args.asked.now = (let is = c.in-CheckDigests.is in cc) in
+    subst (λ asked. IfOk c.check_digests.result (λ s. s ≡ 1 → IsRejected (g.B.RuleBooks.rules c.args.books.now) (g.S.Files.holds c.args.store.now) asked)) same c.check_digests.ensures.wrong
+
+pub returns-in-Digest-clause-done : goal.returns-in-Digest-clause-done
+returns-in-Digest-clause-done g c =
+    let same : Digest c.in-Digest.style c.in-Digest.texts ≡ c.args.asked.now = (let is = c.in-Digest.is in cc) in
+    subst
+    (λ asked. IfOk c.digests.result
+    (λ s. s ≡ 0 → IsDone (g.B.RuleBooks.rules c.args.books.now) (g.S.Files.holds c.args.store.now) (g.W.Write.contents c.args.writer.now) (g.W.Write.contents c.digests.new.writer) asked))
+    same c.digests.ensures.right
+
+pub returns-in-Digest-clause-wrong : goal.returns-in-Digest-clause-wrong
+returns-in-Digest-clause-wrong g c =
+    let same : Digest c.in-Digest.style c.in-Digest.texts ≡ c.args.asked.now = (let is = c.in-Digest.is in cc) in
+    subst (λ asked. IfOk c.digests.result (λ s. s ≡ 1 → IsRejected (g.B.RuleBooks.rules c.args.books.now) (g.S.Files.holds c.args.store.now) asked)) same c.digests.ensures.wrong
+
+pub returns-in-PinTo-clause-done : goal.returns-in-PinTo-clause-done
+returns-in-PinTo-clause-done g c =
+    let same : PinTo c.in-PinTo.text c.in-PinTo.target ≡ c.args.asked.now = (let is = c.in-PinTo.is in cc) in
+    subst
+    (λ asked. IfOk c.pin_to.result
+    (λ s. s ≡ 0 → IsDone (g.B.RuleBooks.rules c.args.books.now) (g.S.Files.holds c.args.store.now) (g.W.Write.contents c.args.writer.now) (g.W.Write.contents c.pin_to.new.writer) asked))
+    same c.pin_to.ensures.done
+
+pub returns-in-PinTo-clause-wrong : goal.returns-in-PinTo-clause-wrong
+returns-in-PinTo-clause-wrong g c =
+    let same : PinTo c.in-PinTo.text c.in-PinTo.target ≡ c.args.asked.now = (let is = c.in-PinTo.is in cc) in
+    subst (λ asked. IfOk c.pin_to.result (λ s. s ≡ 1 → IsRejected (g.B.RuleBooks.rules c.args.books.now) (g.S.Files.holds c.args.store.now) asked)) same c.pin_to.ensures.wrong

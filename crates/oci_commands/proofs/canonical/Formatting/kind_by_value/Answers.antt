@@ -6,7 +6,7 @@ use Rattle.oci_commands.proofs.Forms.{unformatted_wrong}
 use Rattle.oci_commands.proofs.canonical.Formatting.kind_by_value.Goals as goal
 
 pub returns-then-wrong-clause-none : goal.returns-then-wrong-clause-none
-returns-then-wrong-clause-none g c = λ none. unformatted_wrong c.args.self.now.asked.now c.args.self.now.bytes.now (c.in_ok-wrong.ensures c.if-wrong.true)
+returns-then-wrong-clause-none g c = λ none. unformatted_wrong c.args.self.now.asked.now c.args.self.now.bytes.now (c.in_ok-wrong.ensures.wrong c.if-wrong.true)
 
 pub returns-in-Some-clause-found : goal.returns-in-Some-clause-found
 returns-in-Some-clause-found g c =

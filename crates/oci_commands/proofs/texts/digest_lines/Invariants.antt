@@ -2,7 +2,7 @@ use Rattle.std.proofs.Common.{◌≡◌, true, false, take}
 use Rattle.oci_commands.specs.Done.{AppendsEach}
 use Rattle.oci_commands.specs.Texts.{AreDigestLines}
 use Rattle.oci_commands.specs.Refused.{IsNoDigest, HasNone}
-use Rattle.oci_commands.proofs.texts.digests.Given as goal
+use Rattle.oci_commands.proofs.texts.digest_lines.Given as goal
 
 abbrev pub invariant-loop-text : goal.invariant-loop-text
 invariant-loop-text g l = record {

@@ -3,8 +3,8 @@ use Rattle.oci_findings.proofs.Each.{holds_here}
 use Rattle.oci_commands.specs.Refused.{IsNoDigest}
 use Rattle.oci_commands.specs.Texts.{AreDigestLines}
 use Rattle.oci_commands.proofs.Lines.{appends_none, appends_all, digests_more}
-use Rattle.oci_commands.proofs.texts.digests.Goals.{then-not-branch, else-not-branch, then-wrong, else-wrong}
-use Rattle.oci_commands.proofs.texts.digests.Goals as goal
+use Rattle.oci_commands.proofs.texts.digest_lines.Goals.{then-not-branch, else-not-branch, then-wrong, else-wrong}
+use Rattle.oci_commands.proofs.texts.digest_lines.Goals as goal
 
 pub loop-text-init : goal.loop-text-init
 loop-text-init g c = record {

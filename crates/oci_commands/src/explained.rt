@@ -1,0 +1,74 @@
+//! The command `explain`.
+ghost use Rattle.std.specs.Prelude.{IfOk};
+ghost use Rattle.oci_commands.specs.Done.{IsStatus};
+
+use crate::books::rules_of_name;
+use crate::nearest::nearest_rule;
+use crate::texts::complain_of;
+use oci_base::Result;
+use oci_findings::RuleBooks;
+use oci_json::write_text;
+use oci_rule_examples::{Example, example_of};
+use std::alloc::{AllocError, Global};
+use std::io::Write;
+
+/// Writes what a rule asks, where and why, and an example of a document that breaks it beside one that keeps it. Returns 0 if that was
+/// done, and 1 if no rule has this name, which a line on standard error says, with the nearest name if one is near.
+pub fn explain<B: RuleBooks, W: Write, E: Write>(
+    books: &B,
+    name: &str,
+    alloc: Global,
+    writer: &mut W,
+    errors: &mut E,
+) -> Result<u8>
+    ensures { IfOk result IsStatus }
+{
+    match rules_of_name(books, name, alloc)? {
+        Some(mut text) => {
+            push_example(&mut text, name, alloc)?;
+            write_text(text.as_bytes(), writer)?;
+            Ok(0)
+        }
+        None => {
+            say_no_rule(books, name, alloc, errors)?;
+            Ok(1)
+        }
+    }
+}
+
+/// Adds why a rule is asked and its example, if there is one.
+fn push_example(
+    text: &mut String,
+    name: &str,
+    alloc: Global,
+) -> std::result::Result<(), AllocError> {
+    match example_of(name) {
+        Some(example) => {
+            let lines = example_lines(example, alloc)?;
+            text.push_str(lines.as_str())
+        }
+        None => Ok(()),
+    }
+}
+
+fn example_lines(example: &Example, alloc: Global) -> std::result::Result<String, AllocError> {
+    let (why, within) = (example.why, example.within);
+    let (breaks, keeps) = (example.breaks, example.keeps);
+    format!(in alloc; "why: {why}\nexample: {within}\n  breaks it: {breaks}\n  keeps it: {keeps}\n")
+}
+
+fn say_no_rule<B: RuleBooks, E: Write>(
+    books: &B,
+    name: &str,
+    alloc: Global,
+    errors: &mut E,
+) -> Result<()> {
+    match nearest_rule(books, name, alloc)? {
+        Some(near) => {
+            let fault = format!(in alloc; "no rule has this name; the nearest is {near}")?;
+            complain_of(name, &fault, alloc, errors);
+        }
+        None => complain_of(name, &"no rule has this name", alloc, errors),
+    }
+    Ok(())
+}
