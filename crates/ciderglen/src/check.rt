@@ -8,8 +8,8 @@ use crate::names::{fault_in, unknown_name};
 use crate::words::Words;
 use crate::{out_of_memory, policy_of, run_over, tell_usage};
 use clap::ArgMatches;
-use oci_commands::{Asked, Check, Style, Unknown};
-use oci_policies::Bump;
+use oci_commands::{Asked, Book, Check, Style, Unknown};
+use oci_policies::{Bump, Policy};
 use oci_rules::{Level, Rule};
 use std::alloc::{AllocError, Global};
 
@@ -76,11 +76,38 @@ fn asked_of<'a>(
         return Err(2);
     }
     let policy = policy_of(rt, file, arena)?;
-    refuse_names(rt, given, &config, policy)?;
+    refuse_names(rt, given, &config, rules_in(policy))?;
     match merged(given, &config, policy, arena, rt.alloc()) {
         Ok(asked) => Ok(asked),
         Err(_) => Err(out_of_memory(rt)),
     }
+}
+
+/// The rules of a policy, if there is one.
+fn rules_in<'a>(policy: Option<Policy<'a>>) -> &'a [Rule<'a>] {
+    match policy {
+        Some(policy) => policy.rules(),
+        None => &[],
+    }
+}
+
+/// The same with the kinds of documents that they are for.
+fn books_in<'a>(
+    policy: Option<Policy<'a>>,
+    arena: &'a Bump,
+    alloc: Global,
+) -> Result<&'a [Book<'a>], AllocError> {
+    let Some(policy) = policy else {
+        return Ok(&[]);
+    };
+    let mut books = Vec::new(alloc);
+    for it in policy.books() {
+        books.push(Book {
+            kinds: it.kinds,
+            rules: it.rules,
+        })?;
+    }
+    Ok(arena.try_alloc_slice_copy(books.as_slice())?)
 }
 
 /// Says it if a rule is named that there is none of. The error is the exit status.
@@ -109,7 +136,7 @@ fn refuse_names(
 fn merged<'a>(
     given: &ArgMatches<'_>,
     config: &Config<'a>,
-    policy: &'a [Rule<'a>],
+    policy: Option<Policy<'a>>,
     arena: &'a Bump,
     alloc: Global,
 ) -> Result<Check<'a>, AllocError> {
@@ -118,7 +145,7 @@ fn merged<'a>(
     Ok(Check {
         kind: kind_in(given),
         rules: given.get_flag("rules") || config.rules,
-        policy,
+        policy: books_in(policy, arena, alloc)?,
         level: level.unwrap_or(Level::Should),
         platform: platform_in(given),
         unknown: unknown.unwrap_or(Unknown::Allow),

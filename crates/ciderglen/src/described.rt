@@ -127,10 +127,12 @@ pub const FINDINGS: Argument = Argument {
 /// Whether lines for people have colours.
 pub const COLOR: Argument = Argument {
     name: "color",
-    help: "When lines have colors; auto is on a terminal, unless NO_COLOR is set",
+    help: "When lines have colors; auto, as without it, is on a terminal where
+NO_COLOR is not set
+[possible values: auto, always, never]",
     takes: Takes::Value("WHEN"),
     values: &["auto", "always", "never"],
-    default: &["auto"],
+    lists_values: true,
     ..PLAIN
 };
 

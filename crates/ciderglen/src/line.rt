@@ -4,7 +4,7 @@ use clap::error::ErrorKind;
 use clap::{ArgMatches, Error};
 use oci_base::escaped;
 use oci_commands::verify::Options;
-use oci_commands::{Asked, Compare, Format, Style, Unknown};
+use oci_commands::{Asked, Compare, Format, Outline, Style, Target, Unknown};
 use oci_content::Algorithm;
 use oci_findings::kind_named;
 use oci_policies::Bump;
@@ -56,6 +56,32 @@ pub fn lack_of_files(given: &ArgMatches<'_>, formats: &[Format<'_>]) -> Option<&
     }
 }
 
+/// What the options of `digest` lack, if one of them says how parts are written and none are.
+pub fn lack_in_digest(given: &ArgMatches<'_>) -> Option<&'static str> {
+    if given.get_flag("parse") || given.get_str("format") != Some("json") {
+        None
+    } else {
+        Some("--format says how the parts of digests are written, and none are: add --parse")
+    }
+}
+
+/// What is wrong with the options of `pin`, if they say no digest or several.
+pub fn fault_in_pin(given: &ArgMatches<'_>) -> Option<&'static str> {
+    let mut count: u8 = 0;
+    for name in ["FILE", "digest", "manifest", "layout"] {
+        if given.get_str(name).is_some() {
+            count = count.saturating_add(1);
+        }
+    }
+    if count > 1 {
+        Some("FILE, --digest, --manifest and --layout each say the digest: give one of them")
+    } else if given.get_str("layout").is_some() != given.get_str("tag").is_some() {
+        Some("--layout and --tag say the digest together: give both")
+    } else {
+        None
+    }
+}
+
 /// The words with each character escaped that would end a line or move a terminal's cursor, so that they can be shown.
 pub fn escaped_words(words: &[String], alloc: Global) -> Result<Vec<String>, AllocError> {
     let mut shown = Vec::new(alloc);
@@ -97,9 +123,10 @@ fn asked_of_texts<'a>(
     alloc: Global,
 ) -> Result<Option<Asked<'a>>, AllocError> {
     match name {
+        "kind" => Ok(Some(kinds_in(given, arena, alloc)?)),
         "ref" => Ok(Some(reference_in(given, arena, alloc)?)),
         "digest" => Ok(Some(digest_in(given, arena, alloc)?)),
-        "pin" => Ok(Some(pin_in(given, arena)?)),
+        "pin" => Ok(Some(pin_in(given, arena, alloc)?)),
         _ => asked_of_books(name, given, arena),
     }
 }
@@ -111,7 +138,8 @@ fn asked_of_books<'a>(
     arena: &'a Bump,
 ) -> Result<Option<Asked<'a>>, AllocError> {
     match name {
-        "rules" => Ok(Some(Asked::Rules(text_if(given, "NAME", arena)?))),
+        "rules" => Ok(Some(rules_in(given, arena)?)),
+        "explain" => Ok(Some(Asked::Explain(text_in(given, "RULE", arena)?))),
         "schema" => Ok(schema_in(given)),
         _ => Ok(None),
     }
@@ -126,6 +154,20 @@ fn reference_in<'a>(
     Ok(Asked::Reference(style_in(given, false), texts))
 }
 
+fn kinds_in<'a>(
+    given: &ArgMatches<'_>,
+    arena: &'a Bump,
+    alloc: Global,
+) -> Result<Asked<'a>, AllocError> {
+    let files = texts_in(given, "FILE", arena, alloc)?;
+    Ok(Asked::Kinds(style_in(given, false), files))
+}
+
+fn rules_in<'a>(given: &ArgMatches<'_>, arena: &'a Bump) -> Result<Asked<'a>, AllocError> {
+    let name = text_if(given, "NAME", arena)?;
+    Ok(Asked::Rules(style_in(given, false), name))
+}
+
 fn digest_in<'a>(
     given: &ArgMatches<'_>,
     arena: &'a Bump,
@@ -133,15 +175,47 @@ fn digest_in<'a>(
 ) -> Result<Asked<'a>, AllocError> {
     let texts = texts_in(given, "FILE", arena, alloc)?;
     if given.get_flag("parse") {
-        return Ok(Asked::Digest(texts));
+        return Ok(Asked::Digest(style_in(given, false), texts));
     }
-    Ok(Asked::FileDigests(algorithm_in(given), texts))
+    let algorithm = algorithm_in(given);
+    if given.get_flag("check") {
+        return Ok(Asked::CheckDigests(algorithm, texts));
+    }
+    Ok(Asked::FileDigests(algorithm, texts))
 }
 
-fn pin_in<'a>(given: &ArgMatches<'_>, arena: &'a Bump) -> Result<Asked<'a>, AllocError> {
+fn pin_in<'a>(
+    given: &ArgMatches<'_>,
+    arena: &'a Bump,
+    alloc: Global,
+) -> Result<Asked<'a>, AllocError> {
     let text = text_in(given, "TEXT", arena)?;
-    let file = text_in(given, "FILE", arena)?;
-    Ok(Asked::Pin(text, file))
+    match target_in(given, arena, alloc)? {
+        Some(target) => Ok(Asked::PinTo(text, target)),
+        None => Ok(Asked::Pin(text, text_in(given, "FILE", arena)?)),
+    }
+}
+
+/// The digest to which a reference is pinned, unless it is that of a descriptor in a file.
+fn target_in<'a>(
+    given: &ArgMatches<'_>,
+    arena: &'a Bump,
+    alloc: Global,
+) -> Result<Option<Target<'a>>, AllocError> {
+    if let Some(digest) = text_if(given, "digest", arena)? {
+        return Ok(Some(Target::Given(digest)));
+    }
+    if let Some(file) = text_if(given, "manifest", arena)? {
+        return Ok(Some(Target::Manifest(file)));
+    }
+    match (given.get_str("layout"), text_if(given, "tag", arena)?) {
+        (Some(folder), Some(tag)) => {
+            let index = format!(in alloc; "{folder}/index.json")?;
+            let index = arena.try_alloc_str(index.as_str())?;
+            Ok(Some(Target::Tagged(index, tag)))
+        }
+        _ => Ok(None),
+    }
 }
 
 /// The files that `fmt` is asked to format, and how each is: to which file, with `--write` itself, or to standard output.
@@ -191,7 +265,11 @@ fn compare_in<'a>(
 }
 
 fn schema_in<'a>(given: &ArgMatches<'_>) -> Option<Asked<'a>> {
-    Some(Asked::Schema(kind_named(given.get_str("KIND")?)?))
+    let outline = match given.get_str("format") {
+        Some("json-schema") => Outline::JsonSchema,
+        _ => Outline::Table,
+    };
+    Some(Asked::Schema(outline, kind_named(given.get_str("KIND")?)?))
 }
 
 pub fn level_in(given: &ArgMatches<'_>) -> Option<Level> {

@@ -19,14 +19,16 @@ use check::{check, has_files_alone};
 use clap::{ArgMatches, Error};
 use colors::has_colors;
 use files::SystemFiles;
-use line::{asked, escaped_words, formats_in, lack_of_files, matches_of, options_in, status_of};
+use line::{
+    asked, escaped_words, fault_in_pin, formats_in, lack_in_digest, lack_of_files, matches_of,
+    options_in, status_of,
+};
 use oci_base::line_of;
 use oci_commands::texts::{complain, complain_of};
 use oci_commands::verify::Options;
 use oci_commands::{Asked, Format, Tree};
 use oci_layout::Folder;
 use oci_policies::{Bump, Policy, PolicyError, Reason};
-use oci_rules::Rule;
 use rules::Specifications;
 use std::alloc::{AllocError, Global};
 use std::fmt::Display;
@@ -109,7 +111,26 @@ fn perform(rt: &HostRuntime, arena: &Bump, matches: &ArgMatches<'_>, words: &Wor
             rt,
             asked(name, given, has_colors(rt, given), arena, rt.alloc()),
         ),
+        "digest" => run_unless(rt, arena, name, given, lack_in_digest(given)),
+        "pin" => run_unless(rt, arena, name, given, fault_in_pin(given)),
         _ => run_asked(rt, asked(name, given, false, arena, rt.alloc())),
+    }
+}
+
+/// Runs a command, unless something is wrong with its options.
+fn run_unless(
+    rt: &HostRuntime,
+    arena: &Bump,
+    name: &str,
+    given: &ArgMatches<'_>,
+    fault: Option<&str>,
+) -> u8 {
+    match fault {
+        Some(fault) => {
+            tell_usage(rt, fault);
+            2
+        }
+        None => run_asked(rt, asked(name, given, false, arena, rt.alloc())),
     }
 }
 
@@ -163,15 +184,15 @@ fn tree(rt: &HostRuntime, file: &str) -> u8 {
     }
 }
 
-/// The rules of the policy in a file, if one is named. The error is the exit status: 2 if the file holds no policy, and 3 if it cannot
+/// The policy in a file, if one is named. The error is the exit status: 2 if the file holds no policy, and 3 if it cannot
 /// be read, or if out of memory.
 pub(crate) fn policy_of<'a>(
     rt: &HostRuntime,
     file: Option<&str>,
     arena: &'a Bump,
-) -> Result<&'a [Rule<'a>], u8> {
+) -> Result<Option<Policy<'a>>, u8> {
     let Some(file) = file else {
-        return Ok(&[]);
+        return Ok(None);
     };
     match fs::read_to_string(rt, file) {
         Ok(text) => policy_in(rt, file, text.as_str(), arena),
@@ -182,15 +203,15 @@ pub(crate) fn policy_of<'a>(
     }
 }
 
-/// The rules of the policy in the text of a file.
+/// The policy in the text of a file.
 fn policy_in<'a>(
     rt: &HostRuntime,
     file: &str,
     text: &str,
     arena: &'a Bump,
-) -> Result<&'a [Rule<'a>], u8> {
+) -> Result<Option<Policy<'a>>, u8> {
     match Policy::from_toml(text, arena, rt.alloc()) {
-        Ok(policy) => Ok(policy.rules()),
+        Ok(policy) => Ok(Some(policy)),
         Err(PolicyError::Memory) => Err(out_of_memory(rt)),
         Err(error) => {
             tell_policy(rt, file, &error);

@@ -1,17 +1,13 @@
 //! The names of rules that the command line may give.
+use crate::rules::Specifications;
 use clap::ArgMatches;
 use oci_base::escaped;
-use oci_rule_books::rules_of;
+use oci_commands::nearest::{add_names, add_rules, nearest};
 use oci_rules::Rule;
-use oci_schemas::KINDS;
 use std::alloc::{AllocError, Global};
-use strsim::damerau_levenshtein;
 
 /// What can be ignored beside rules of the specifications and of a policy.
 const OTHERS: [&str; 3] = ["schema", "unknown", "repeated"];
-
-/// How long a name may be to which a near one is sought.
-const LONGEST: usize = 64;
 
 /// What is wrong with the names of rules that are given with `--ignore` and `--only`, if anything is. Fails if out of memory.
 pub fn fault_in(
@@ -87,25 +83,9 @@ fn fault_of(
 /// The names of all rules of the specifications, and of those of a policy.
 fn names_of<'a>(policy: &'a [Rule<'_>], alloc: Global) -> Result<Vec<&'a str>, AllocError> {
     let mut names = Vec::new(alloc);
-    for kind in &KINDS {
-        for book in rules_of(*kind, alloc)? {
-            add_names(book, &mut names)?;
-        }
-    }
+    add_rules(&Specifications, &mut names, alloc)?;
     add_names(policy, &mut names)?;
     Ok(names)
-}
-
-/// Adds the names of rules; several parts of one rule stand one behind the other.
-fn add_names<'a>(rules: &'a [Rule<'_>], names: &mut Vec<&'a str>) -> Result<(), AllocError> {
-    let mut last = "";
-    for rule in rules {
-        if rule.name != last {
-            last = rule.name;
-            names.push(last)?;
-        }
-    }
-    Ok(())
 }
 
 /// What is wrong with a name that is not known, in clap's words.
@@ -135,25 +115,4 @@ fn reason_for(option: &str, name: &str) -> &'static str {
         }
         _ => "no rule has this name",
     }
-}
-
-/// The name that is nearest to one that is not known, if one is near.
-fn nearest<'a>(
-    name: &str,
-    known: &Vec<&'a str>,
-    alloc: Global,
-) -> Result<Option<&'a str>, AllocError> {
-    let mut best = None;
-    if name.len() > LONGEST {
-        return Ok(best);
-    }
-    let mut least = name.len() / 3 + 1;
-    for other in known {
-        let distance = damerau_levenshtein(alloc, name, *other)?;
-        if distance < least {
-            best = Some(*other);
-            least = distance;
-        }
-    }
-    Ok(best)
 }

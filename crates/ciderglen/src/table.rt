@@ -1,4 +1,7 @@
 //! The commands of the program, with their arguments and help texts, in a few tables: one alone is more than the prover takes at once.
+mod digests;
+
+use self::digests::{DIGEST, PIN};
 use crate::described::{
     Argument, Bond, COLOR, Described, FILE, FINDINGS, FORMAT, KIND, KINDS, PLAIN, QUIET, Takes,
 };
@@ -228,8 +231,21 @@ pub static IMAGES: [Described; 3] = [
     },
 ];
 
-/// What writes the parts of references and digests.
-pub static NAMES: [Described; 3] = [
+/// What writes the kinds of documents, and the parts of references and digests.
+pub static NAMES: [Described; 4] = [
+    Described {
+        name: "kind",
+        about: "Writes the kind of each document, as check finds it out",
+        example: "Example: ciderglen kind *.json",
+        arguments: &[
+            FORMAT,
+            Argument {
+                help: "The documents; - is standard input, and so is no FILE",
+                takes: Takes::Any,
+                ..FILE
+            },
+        ],
+    },
     Described {
         name: "ref",
         about: "Writes the parts of image references",
@@ -246,62 +262,42 @@ pub static NAMES: [Described; 3] = [
     },
     Described {
         name: "digest",
-        about: "Writes the digests of files, or the parts of digests",
+        about: "Writes or checks the digests of files, or writes the parts of digests",
         example: "Example: ciderglen digest blob.tar.gz",
-        arguments: &[
-            Argument {
-                name: "algorithm",
-                help: "The algorithm
-[possible values: sha256, sha384, sha512]",
-                takes: Takes::Value("ALGORITHM"),
-                short: Some('a'),
-                values: &["sha256", "sha384", "sha512"],
-                lists_values: true,
-                default: &["sha256"],
-                ..PLAIN
-            },
-            Argument {
-                name: "parse",
-                help: "Take digests in place of files, and write their parts",
-                ..PLAIN
-            },
-            Argument {
-                help: "The files, or the digests; - is standard input, and so is no FILE",
-                takes: Takes::Any,
-                bond: Bond::With("parse"),
-                ..FILE
-            },
-        ],
+        arguments: DIGEST,
     },
     Described {
         name: "pin",
-        about: "Writes an image reference with the digest of a descriptor",
+        about: "Writes an image reference with the digest of a descriptor or manifest",
         example: "Example: ciderglen pin busybox:1 descriptor.json",
-        arguments: &[
-            Argument {
-                name: "TEXT",
-                help: "The reference",
-                takes: Takes::Word,
-                ..PLAIN
-            },
-            Argument {
-                help: "The descriptor; - is standard input, and so is no FILE",
-                ..FILE
-            },
-        ],
+        arguments: PIN,
     },
 ];
 
 /// What shows rules and schemas.
-pub static BOOKS: [Described; 2] = [
+pub static BOOKS: [Described; 3] = [
     Described {
         name: "rules",
         about: "Lists the rules of the specifications",
         example: "Example: ciderglen rules image-config",
+        arguments: &[
+            FORMAT,
+            Argument {
+                name: "NAME",
+                help: "A kind of documents, or the name of a rule",
+                takes: Takes::Maybe,
+                ..PLAIN
+            },
+        ],
+    },
+    Described {
+        name: "explain",
+        about: "Says what a rule asks, where and why, with an example",
+        example: "Example: ciderglen explain manifest-schema-version",
         arguments: &[Argument {
-            name: "NAME",
-            help: "A kind of documents, or the name of a rule",
-            takes: Takes::Maybe,
+            name: "RULE",
+            help: "The name of the rule",
+            takes: Takes::Word,
             ..PLAIN
         }],
     },
@@ -309,16 +305,25 @@ pub static BOOKS: [Described; 2] = [
         name: "schema",
         about: "Lists the members of a kind of documents",
         example: "Example: ciderglen schema manifest",
-        arguments: &[Argument {
-            name: "KIND",
-            help: "The kind of documents
+        arguments: &[
+            Argument {
+                help: "How to write it: as a table, or as a JSON Schema (draft 2020-12)
+[possible values: text, json-schema]",
+                values: &["text", "json-schema"],
+                lists_values: true,
+                ..FORMAT
+            },
+            Argument {
+                name: "KIND",
+                help: "The kind of documents
 [possible values: manifest, index, config, image-config, artifact,
 layout, descriptor, error, repositories, tags, reference, spec,
 runtime-config, state, process-state, features]",
-            takes: Takes::Word,
-            values: KINDS,
-            lists_values: true,
-            ..PLAIN
-        }],
+                takes: Takes::Word,
+                values: KINDS,
+                lists_values: true,
+                ..PLAIN
+            },
+        ],
     },
 ];
