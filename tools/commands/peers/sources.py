@@ -3,7 +3,7 @@
   tools/peers sources FOLDER [--print VERSION/FILE#HEADING]
 
 FOLDER has a folder for each version of a text, as image-1.1.1 and runtime-1.2.1, with its Markdown files. A line of tools/rules/sources.rows
-is a sentence of a rule of tools/rules/*.rules, by its place and checksum, or the reason for a rule that no sentence asks for:
+is a sentence of a rule of tools/rules/*.rules, or of agreements.rows, by its place and checksum, or the reason for a rule that no sentence asks for:
 
   NAME | VERSION | FILE#HEADING | WORD | CHECKSUM
   NAME | - | - | - | REASON
@@ -30,6 +30,7 @@ import os
 
 from comparisons import sentences
 from repository import at
+from rule_books import agreements
 from rule_books.model import Model
 from rule_books.sources import WORDS, differing, orphans, rows as rows_of
 
@@ -115,7 +116,7 @@ def options_of(parser):
 def run(options):
     if options.print:
         return print_sentences(options.folder, options.print)
-    rules, rows = Model(at("tools/rules")).rules(), rows_of(at("."))
+    rules, rows = Model(at("tools/rules")).rules() | agreements.rules(at(".")), rows_of(at("."))
     wrong, unread = list(wrongs(options.folder, rules, rows)), unread_rules(options.folder, rules)
     for line in wrong:
         print(line)
