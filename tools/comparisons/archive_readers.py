@@ -2,7 +2,6 @@
 import ast
 import hashlib
 import json
-import os
 import re
 import subprocess
 import tarfile
@@ -11,7 +10,6 @@ KIND_OF_LETTER = {"-": "0", "h": "1", "l": "2", "c": "3", "b": "4", "d": "5", "p
 KIND_OF_WORD = {"file": "0", "hardlink": "1", "symlink": "2", "character": "3", "block": "4", "directory": "5", "fifo": "6", "sparse": "S"}
 ESCAPES = {"n": 10, "t": 9, "r": 13, "a": 7, "b": 8, "f": 12, "v": 11, "\\": 92, '"': 34, "?": 63}
 QUOTED = re.compile(r'"((?:[^"\\]|\\.)*)"')
-GO = os.path.join(os.path.dirname(os.path.realpath(__file__)), "archive_readers.go")
 
 
 def by_python(path):
@@ -64,16 +62,6 @@ def by_go(program, paths):
         for path, line in zip(some, map(json.loads, lines)):
             found[path] = [(kind, int(size), bytes.fromhex(name), bytes.fromhex(link)) for kind, size, name, link in line["entries"]], line["end"]
     return found
-
-
-def built_go(folder):
-    """The program for Go; None if there is no compiler."""
-    program = os.path.join(folder, "list_by_go")
-    try:
-        subprocess.run(["go", "build", "-o", program, GO], check=True, env={**os.environ, "GOCACHE": os.path.join(folder, "go"), "GO111MODULE": "off"})
-    except FileNotFoundError:
-        return None
-    return program
 
 
 def escaped(text):

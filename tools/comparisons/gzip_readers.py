@@ -4,23 +4,12 @@ import os
 import struct
 import subprocess
 
-GO = os.path.join(os.path.dirname(os.path.realpath(__file__)), "gzip_reader.go")
 
 # where Go differs from RFC 1952, and why it is not our mistake
 EXPLAINED = {
     "reserved": "reads files with a reserved flag (RFC 1952, 2.3.1.2: a decoder must reject them)",
     "long": "rejects a name or a comment of 512 bytes and more",
 }
-
-
-def built_go(folder):
-    """The program for Go; None if there is no compiler."""
-    program = os.path.join(folder, "read_by_go")
-    try:
-        subprocess.run(["go", "build", "-o", program, GO], check=True, env={**os.environ, "GOCACHE": os.path.join(folder, "go"), "GO111MODULE": "off"})
-    except FileNotFoundError:
-        return None
-    return program
 
 
 def by_go(program, folder, whole):

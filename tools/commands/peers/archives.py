@@ -15,8 +15,9 @@ import os
 import re
 import tempfile
 
-from comparisons.archive_readers import Ours, built_go, by_gnu, by_go, by_python
+from comparisons.archive_readers import Ours, by_gnu, by_go, by_python
 from comparisons.archives import SPECIAL, random_archives
+from comparisons.go_programs import built_go
 from repository import program_of
 
 CHECKS = False
@@ -143,7 +144,7 @@ def run(options):
             paths[name] = os.path.join(folder, f"{number}.tar")
             with open(paths[name], "wb") as file:
                 file.write(content)
-        program = built_go(folder)
+        program = built_go("archive_readers.go", folder)
         go = by_go(program, list(paths.values())) if program else {}
         for name, path in paths.items():
             ours = Ours(os.path.abspath(options.program), path)

@@ -15,7 +15,8 @@ import subprocess
 import tempfile
 
 from comparisons.gzip_files import KINDS, changed, file, judged, member, text
-from comparisons.gzip_readers import EXPLAINED, built_go, by_go, reason
+from comparisons.go_programs import built_go
+from comparisons.gzip_readers import EXPLAINED, by_go, reason
 from repository import at, program_of
 
 CHECKS = False
@@ -94,7 +95,7 @@ def options_of(parser):
 def run(options):
     found = Comparison(options.program)
     with tempfile.TemporaryDirectory() as folder:
-        go = built_go(folder)
+        go = built_go("gzip_reader.go", folder)
         for whole in files(options):
             found.add(whole, by_go(go, folder, whole) if go else None)
     if options.keep:

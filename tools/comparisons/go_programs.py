@@ -1,0 +1,16 @@
+"""Readers in Go that others are compared with."""
+import os
+import subprocess
+
+FOLDER = os.path.dirname(os.path.realpath(__file__))
+
+
+def built_go(source, folder):
+    """The program of this source beside this file, built in a folder; None if there is no compiler."""
+    program = os.path.join(folder, source.removesuffix(".go"))
+    environment = {**os.environ, "GOCACHE": os.path.join(folder, "go"), "GO111MODULE": "off"}
+    try:
+        subprocess.run(["go", "build", "-o", program, os.path.join(FOLDER, source)], check=True, env=environment)
+    except FileNotFoundError:
+        return None
+    return program
