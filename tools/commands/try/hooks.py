@@ -1,7 +1,4 @@
-#!/usr/bin/env python3
 """Tries what other programs start: the hooks of .pre-commit-hooks.yaml, and the step of action.yml.
-
-  tools/test_hooks
 
 The hooks run by pre-commit (Debian: pre-commit) in a new repository of git, from a copy of this checkout's file; they are skipped where it
 is not there. The step runs in bash as an action's does, with the inputs set and the others at their defaults. In place of `ciderglen` is a
@@ -12,14 +9,12 @@ import os
 import re
 import shutil
 import subprocess
-import sys
 import tempfile
 import textwrap
 
-sys.dont_write_bytecode = True
-
 from repository import at, read
 
+CHECKS = False
 PROGRAM = """#!/bin/sh
 { for word in "$@"; do printf '%s\\0' "$word"; done; echo; } >> "$CALLS"
 status=0
@@ -132,10 +127,7 @@ def try_hooks(room):
         yield (sorted(map(sorted, made)), found) == (sorted(map(sorted, calls)), status), f"{hook} {more}: {made}, status {found}: {said}"
 
 
-def main():
-    if sys.argv[1:]:
-        print(__doc__.strip(), file=sys.stdout if {"-h", "--help"} & set(sys.argv) else sys.stderr)
-        return 0 if {"-h", "--help"} & set(sys.argv) else 2
+def run(_):
     passed = failed = 0
     for what in (try_actions, try_hooks):
         if what is try_hooks and not shutil.which("pre-commit"):
@@ -148,7 +140,3 @@ def main():
                     print(f"FAILED {told}")
     print(f"{passed} passed, {failed} failed")
     return 0 if failed == 0 else 1
-
-
-if __name__ == "__main__":
-    sys.exit(main())

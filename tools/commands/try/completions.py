@@ -1,7 +1,4 @@
-#!/usr/bin/env python3
 """Tries the completions of `ciderglen` in share/ as one would: types the beginning of a command, then the tab key.
-
-  tools/test_completions [SHELL..]
 
 SHELL is bash, zsh or fish; all, where none is named. A shell that is missing is skipped, which is said; one that is named has to be there.
 bash and zsh run on a terminal, and bash once more where = does not break words. fish says itself what it would complete a line to. In
@@ -14,14 +11,12 @@ import select
 import shutil
 import signal
 import subprocess
-import sys
 import tempfile
 import time
 
-sys.dont_write_bytecode = True
-
 from repository import TOP
 
+CHECKS = False
 SHARE = f"{TOP}/share"
 # what is typed before the tab key behind `ciderglen `, and the arguments that it becomes
 CASES = [
@@ -158,19 +153,16 @@ def tries(shell, folder, environment):
     terminal.close()
 
 
-def main():
-    named = sys.argv[1:]
-    if {"-h", "--help"} & set(named):
-        print(__doc__.strip())
-        return 0
-    if set(named) - {"bash", "zsh", "fish"}:
-        print(__doc__.strip(), file=sys.stderr)
-        return 2
+def options_of(parser):
+    parser.add_argument("shells", nargs="*", metavar="SHELL", choices=["bash", "zsh", "fish", []], help="bash, zsh or fish; all where none is named")
+
+
+def run(asked):
     passed = failed = 0
-    for shell in [it for it in [*STARTS, "fish"] if not named or it.split()[0] in named]:
+    for shell in [it for it in [*STARTS, "fish"] if not asked.shells or it.split()[0] in asked.shells]:
         if not shutil.which(shell.split()[0]):
             print(f"{shell}: skipped, it is not there")
-            failed += bool(named)
+            failed += bool(asked.shells)
             continue
         with tempfile.TemporaryDirectory() as folder:
             environment = prepare(folder)
@@ -182,7 +174,3 @@ def main():
                     print(f"FAILED {shell}: ciderglen {line}: became {found}, and not {wanted}")
     print(f"{passed} passed, {failed} failed")
     return 0 if failed == 0 else 1
-
-
-if __name__ == "__main__":
-    sys.exit(main())

@@ -1,7 +1,4 @@
-#!/usr/bin/env python3
 """Checks logs in SARIF 2.1.0 by the rules of the standard: those given, or what `ciderglen` writes.
-
-  tools/sarif [--program FILE] [LOG..]
 
 The standard's own JSON schema is in no package of Debian, so the objects with their members, types and bounds are described in
 tools/data/sarif.objects, with their sections, and the rules that no such table says are here. The members and which of them are required
@@ -11,7 +8,6 @@ and of files that are missing, and of `verify` over image layouts that are right
 are checked. Each rule is tried too: a right log is changed in ways that have to be found. A log of another tool is checked as any other.
 It prints `LOG: POINTER: what is wrong (section)`, and ends in `N passed, M failed`; the status is 0 if nothing failed.
 """
-import argparse
 import copy
 import glob
 import json
@@ -23,10 +19,9 @@ import sys
 import tempfile
 import urllib.parse
 
-sys.dont_write_bytecode = True
-
 from repository import TOP, at, program_of, read, rows
 
+CHECKS = False
 OBJECTS, CLASSES = "tools/data/sarif.objects", "/usr/lib/python3/dist-packages/sarif_om"
 # the names of objects that are shorter in the table, and a member that had another name in the draft that the classes are from
 FULL_NAMES = {"log": "sarifLog", "descriptor": "reportingDescriptor", "configuration": "reportingConfiguration", "text": "multiformatMessageString",
@@ -341,11 +336,12 @@ def logs_in_sessions():
                 yield f"{os.path.relpath(path, TOP)}:{number}", line
 
 
-def main():
-    words = argparse.ArgumentParser(description=__doc__, formatter_class=argparse.RawDescriptionHelpFormatter)
-    words.add_argument("--program", metavar="FILE", default=program_of("ciderglen"))
-    words.add_argument("logs", nargs="*", metavar="LOG")
-    asked = words.parse_args()
+def options_of(parser):
+    parser.add_argument("--program", metavar="FILE", default=program_of("ciderglen"), help="the program whose logs are checked")
+    parser.add_argument("logs", nargs="*", metavar="LOG", help="a log to check, in place of those of the program")
+
+
+def run(asked):
     if asked.logs:
         checked = [(name, wrong_in(open(name, encoding="utf-8").read())) for name in asked.logs]
     elif os.path.exists(asked.program):
@@ -359,7 +355,3 @@ def main():
     failed = sum(bool(wrong) for _, wrong in checked)
     print(f"{len(checked) - failed} passed, {failed} failed")
     return 1 if failed else 0
-
-
-if __name__ == "__main__":
-    sys.exit(main())

@@ -1,7 +1,4 @@
-#!/usr/bin/env python3
 """Tries `tools/deb` with stand-ins for the programs and the library, so that nothing has to be proved for it.
-
-  tools/test_deb
 
 It lays out what `tools/install` would install, with programs and a library of C that do nothing, makes the packages twice, and unpacks
 them: both times they have the same bytes and nothing against them by lintian; each file of share/ and bindings/ is in its place; C is
@@ -17,10 +14,9 @@ import subprocess
 import sys
 import tempfile
 
-sys.dont_write_bytecode = True
-
 from repository import at, read
 
+CHECKS = False
 PROGRAM = '#include <stdio.h>\nint main(void) { puts("ciderglen 0.1.0"); return 0; }\n'
 C = '#include <ciderglen.h>\nint main(void) { return ciderglen_interface() == CIDERGLEN_INTERFACE ? 0 : 1; }\n'
 GO = 'package main\n\nimport "github.com/ciderglen/ciderglen-go"\n\nfunc main() {\n\tif _, err := ciderglen.Normalize(ciderglen.Layout, nil); ' \
@@ -122,10 +118,7 @@ def try_languages(root, folder, tries):
         tries.run("Rust", ["cargo", "run", "-q", "--offline"], f"{folder}/rust", CIDERGLEN_LIB_DIR=library)
 
 
-def main():
-    if sys.argv[1:]:
-        print(__doc__.strip(), file=sys.stdout if {"-h", "--help"} & set(sys.argv) else sys.stderr)
-        return 0 if {"-h", "--help"} & set(sys.argv) else 2
+def run(_):
     missing = [it for it in TOOLS if not shutil.which(it)]
     if missing:
         sys.exit(f"not there: {', '.join(missing)}")
@@ -138,7 +131,3 @@ def main():
         try_languages(root, folder, tries)
     print(f"{tries.passed} passed, {tries.failed} failed")
     return 0 if tries.failed == 0 else 1
-
-
-if __name__ == "__main__":
-    sys.exit(main())
