@@ -11,7 +11,7 @@ ghost use Rattle.oci_rules.specs.Tables.{texts_of};
 ghost use Rattle.oci_policies.specs.Policies as policies;
 
 use crate::book::{Book, every_kind, kinds_or};
-use crate::error::{Fault, PolicyError};
+use crate::error::{Fault, PolicyError, Reason};
 use crate::rules::book;
 use crate::values::{only, some_items, under};
 use bumpalo::Bump;
@@ -35,7 +35,7 @@ impl<'a> Policy<'a> {
     ///
     /// Fails with `Toml` if the text is no TOML document, with `Rule` if the document is no policy, as one without rules, with `TooBig` if
     /// a regular expression would take too much memory, and with `Memory` if out of memory. The line of a `Rule` and of a `TooBig` is
-    /// that of the rule's header, `[[rule]]`, where each has a line of its own.
+    /// that of the rule's header, `[[rule]]`, or of a member of the document itself, where each has a line of its own.
     pub fn from_toml(text: &str, arena: &'a Bump, alloc: Global) -> Result<Policy<'a>, PolicyError>
         ensures ok { IfOk result (λ p. IsPolicy text.now (map book_view p.books.now)) }
         ensures rules { IfOk result (λ p. map worded p.rules.now ≡ policies.all_rules (map book_view p.books.now)) }
@@ -96,7 +96,10 @@ fn read_books<'a>(
 {
     match parts(arena, table, alloc) {
         Ok((kinds, items)) => books(text, kinds, items, arena, alloc),
-        Err(fault) => Err(located(fault, text, 0)),
+        Err(fault) => {
+            let line = line_of_fault(text, &fault);
+            Err(located(fault, line))
+        }
     }
 }
 
@@ -131,7 +134,7 @@ fn books<'a>(
     for (index, item) in items.iter().enumerate() {
         match book(arena, kinds, item, alloc) {
             Ok(book) => found.push(book)?,
-            Err(fault) => return Err(located(fault, text, index)),
+            Err(fault) => return Err(located(fault, line_of(text, index))),
         }
     }
     Ok(into_bump_slice(found))
@@ -148,20 +151,67 @@ fn all_rules<'a>(books: &'a [Book<'a>], arena: &'a Bump) -> Result<&'a [Rule<'a>
     Ok(into_bump_slice(found))
 }
 
-/// The error for what is wrong in the table at this index.
-fn located(fault: Fault, text: &str, index: usize) -> PolicyError
+/// The error for what is wrong in the part that begins in this line.
+fn located(fault: Fault, line: usize) -> PolicyError
     ensures memory { (result ≡ Memory) ↔ (fault ≡ reading.Memory) }
     ensures too_big { fault ≡ reading.TooBig → IsTooBig result }
 {
     match fault {
         Fault::Memory => PolicyError::Memory,
-        Fault::TooBig => PolicyError::TooBig {
-            line: line_of(text, index),
-        },
-        Fault::Refused(reason) => PolicyError::Rule {
-            line: line_of(text, index),
-            reason,
-        },
+        Fault::TooBig => PolicyError::TooBig { line },
+        Fault::Refused(reason) => PolicyError::Rule { line, reason },
+    }
+}
+
+/// The line of what is wrong with the members of the document itself.
+fn line_of_fault(text: &str, fault: &Fault) -> usize {
+    match fault {
+        Fault::Refused(reason) => line_of_key(text, key_of(reason)),
+        Fault::Memory | Fault::TooBig => 1,
+    }
+}
+
+/// The member that a reason is about; empty if there is none in the text.
+fn key_of<'a>(reason: &'a Reason) -> &'a str {
+    match reason {
+        Reason::Unknown(name) => name.as_str(),
+        Reason::Expected { key, expected: _ } => key,
+        Reason::Empty(key) => key,
+        _ => "",
+    }
+}
+
+/// The line in which the member of the document begins, or its header stands, as far as it has a line of its own; else the first.
+fn line_of_key(text: &str, key: &str) -> usize {
+    let mut line = 0usize;
+    let mut in_table = false;
+    for it in text.split('\n') {
+        line = line.saturating_add(1);
+        let start = it.trim_start();
+        let is_header = start.starts_with('[');
+        in_table = in_table || is_header;
+        if (is_header || !in_table) && !key.is_empty() && names(start, key) {
+            return line;
+        }
+    }
+    1
+}
+
+/// Whether a line begins with this key, or is a header that does.
+fn names(line: &str, key: &str) -> bool {
+    let name = line.trim_start_matches('[').trim_start();
+    let name = name.trim_start_matches('"').trim_start_matches('\'');
+    match name.strip_prefix(key) {
+        Some(rest) => !begins_bare(rest),
+        None => false,
+    }
+}
+
+/// Whether a text begins with a character of a bare key (TOML 1.0, "Keys").
+fn begins_bare(text: &str) -> bool {
+    match text.as_bytes().first() {
+        Some(byte) => byte.is_ascii_alphanumeric() || *byte == b'_' || *byte == b'-',
+        None => false,
     }
 }
 
