@@ -108,7 +108,7 @@ def wrong_values(program, commands):
     """The options and arguments of which the help lists other values than the program takes."""
     for name, page in commands.items():
         for row in [*page.rows("Arguments"), *page.rows("Options")]:
-            if row.value() and row.value() not in ("FILE", "DIR"):
+            if row.value() and row.value() not in ("FILE", "DIR", "IMAGE"):
                 told = LISTED.findall(errors_of(program, [name, *row.names()[-1:], "no such value"]))
                 values = [value for _, values in told for value in values.split(", ")]
                 if values != row.values():

@@ -5,7 +5,7 @@ the values that its help lists. Names of rules are asked of the program itself, 
 """
 FILES, FOLDERS, RULES = "FILE", "DIR", "RULE"
 # what the names of values stand for; another takes a text that nothing is known of
-KNOWN = {"FILE": FILES, "A": FILES, "B": FILES, "DIR": FOLDERS, "RULE": RULES, "NAME": RULES}
+KNOWN = {"FILE": FILES, "A": FILES, "B": FILES, "DIR": FOLDERS, "IMAGE": FILES, "RULE": RULES, "NAME": RULES}
 # prints the names of all rules: `ciderglen rules` has each on a line that is indented
 NAMES_OF_RULES = "command ciderglen rules 2>/dev/null | sed -n 's/^  \\([a-z0-9-]\\{1,\\}\\) .*/\\1/p' | sort -u"
 

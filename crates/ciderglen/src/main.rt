@@ -23,9 +23,10 @@ use line::{
     asked, escaped_words, fault_in_pin, formats_in, lack_in_digest, lack_of_files, matches_of,
     options_in, status_of,
 };
+use oci_archive::OnDisk;
 use oci_base::line_of;
 use oci_commands::texts::{complain, complain_of};
-use oci_commands::verify::Options;
+use oci_commands::verify::{ArchiveFile, Options, run_archive};
 use oci_commands::{Asked, Format, Tree};
 use oci_layout::Folder;
 use oci_policies::{Bump, Policy, PolicyError, Reason};
@@ -34,6 +35,7 @@ use std::alloc::{AllocError, Global};
 use std::fmt::Display;
 use std::fs;
 use std::process::ExitCode;
+use tar::Seekable;
 use watch::Started;
 use words::{Words, words_of};
 
@@ -97,8 +99,8 @@ fn perform(rt: &HostRuntime, arena: &Bump, matches: &ArgMatches<'_>, words: &Wor
         return 2;
     }
     match name {
-        "verify" => match given.get_str("DIR") {
-            Some(root) => verify(rt, &options_in(given, has_colors(rt, given)), root),
+        "verify" => match given.get_str("IMAGE") {
+            Some(name) => verify(rt, &options_in(given, has_colors(rt, given)), name),
             None => 2,
         },
         "tree" => tree(rt, given.get_str("FILE").unwrap_or("-")),
@@ -282,12 +284,15 @@ pub(crate) fn run_over(rt: &HostRuntime, store: &mut SystemFiles<'_>, asked: &As
     )
 }
 
-fn verify(rt: &HostRuntime, options: &Options, root: &str) -> u8 {
-    if let Err(fault) = fs::read_dir(rt, root) {
-        tell(rt, root, &fault);
-        return 3;
+/// Verifies an image layout: a folder, or a tar archive of one.
+fn verify(rt: &HostRuntime, options: &Options, name: &str) -> u8 {
+    if is_file(rt, name) {
+        return verify_archive(rt, options, name);
     }
-    let folder = Folder { rt, root };
+    if let Err(fault) = fs::read_dir(rt, name) {
+        return cannot_read(rt, name, &fault);
+    }
+    let folder = Folder { rt, root: name };
     let mut writer = rt.stdout();
     let mut errors = rt.stderr();
     oci_commands::verify::run(
@@ -298,6 +303,46 @@ fn verify(rt: &HostRuntime, options: &Options, root: &str) -> u8 {
         &mut writer,
         &mut errors,
     )
+}
+
+/// Verifies the image layout in a tar archive.
+fn verify_archive(rt: &HostRuntime, options: &Options, name: &str) -> u8 {
+    let file = match fs::open(rt, name) {
+        Ok(file) => file,
+        Err(fault) => return cannot_read(rt, name, &fault),
+    };
+    let reader = match Seekable::new(file) {
+        Ok(reader) => reader,
+        Err(fault) => return cannot_read(rt, name, &fault),
+    };
+    let archive = ArchiveFile {
+        name,
+        source: &OnDisk { rt, path: name },
+        reader,
+    };
+    let mut writer = rt.stdout();
+    let mut errors = rt.stderr();
+    run_archive(
+        archive,
+        options,
+        rt.alloc(),
+        &Started::now(rt),
+        &mut writer,
+        &mut errors,
+    )
+}
+
+/// Says why a file cannot be read, and returns the status for that.
+fn cannot_read<D: Display>(rt: &HostRuntime, name: &str, fault: &D) -> u8 {
+    tell(rt, name, fault);
+    3
+}
+
+fn is_file(rt: &HostRuntime, name: &str) -> bool {
+    match fs::metadata(rt, name) {
+        Ok(found) => found.is_file(),
+        Err(_) => false,
+    }
 }
 
 fn is_folder(rt: &HostRuntime, name: &str) -> bool {

@@ -187,8 +187,8 @@ pub static IMAGES: [Described; 3] = [
                 ..PLAIN
             },
             Argument {
-                name: "DIR",
-                help: "The folder of the image layout",
+                name: "IMAGE",
+                help: "The image layout: a folder, or a tar archive of one",
                 takes: Takes::Word,
                 ..PLAIN
             },

@@ -1,3 +1,4 @@
+pub mod Archives
 pub mod Compared
 pub mod Done
 pub mod Formats

@@ -73,7 +73,7 @@ fn status_of(is_right: bool) -> u8
 }
 
 /// Says why a verification ended before its end. Nothing is said of a reader that has gone away, as `head` does.
-fn complain<E: Write>(refusal: &OciSpecError, alloc: Global, errors: &mut E) {
+pub(crate) fn complain<E: Write>(refusal: &OciSpecError, alloc: Global, errors: &mut E) {
     if let OciSpecError::Io(fault) = refusal {
         if fault.kind() == ErrorKind::BrokenPipe {
             return;

@@ -1,0 +1,3 @@
+pub mod Denoted
+pub mod Listed
+pub mod Opened

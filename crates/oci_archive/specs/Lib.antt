@@ -1,0 +1,3 @@
+pub mod Layouts
+pub mod Listings
+pub mod Sources

@@ -1,0 +1,6 @@
+pub mod Errors
+pub mod Folders
+pub mod Marks
+pub mod Parts
+pub mod Paths
+pub mod Plain
