@@ -1,3 +1,4 @@
+pub mod Archives
 pub mod CheckIsFormat
 pub mod Entries
 pub mod Faults

@@ -1,29 +1,45 @@
 -- Whether an image layout in a tar archive is right (image specification, "Image Layout"; POSIX, pax, "ustar Interchange Format").
-use Rattle.std.specs.Prelude.{◌≡◌, ⊤, ℕ, List, map, Bool, true, false, Option, Some, None}
-use Rattle.tar.specs.Places.{IsIndexOf, entry_at}
+use Rattle.std.specs.Prelude.{◌≡◌, ⊤, ⊥, ℕ, List, Bool, true, false, Option, Some, None}
+use Rattle.tar.specs.Archives.{Holds}
+use Rattle.tar.specs.Entries.{Member, nothing_said}
 use Rattle.tar.specs.declared.index.Place.{Place}
 use Rattle.tar_folder.specs.Marks.{extents}
 use Rattle.tar_folder.specs.Plain.{IsPlainArchive}
+use Rattle.tar_folder.specs.declared.read.IndexError.{IndexError}
+use Rattle.tar_folder.specs.declared.read.IndexError.TheVariants as errors
 use Rattle.oci_archive.specs.Layouts.{contents_in, names_in, tops_in}
 use Rattle.oci_commands.specs.Layouts.{IsRightLayout}
 use Rattle.oci_commands.specs.declared.verify.options.Options.{Options}
 
 -- the bytes are an archive that is one folder to all that unpack it
 pub record IsSoundArchive (bytes : List ℕ) : Type 0 where
-  pub places : List Place
-  pub index : IsIndexOf bytes places
-  pub plain : IsPlainArchive (extents places)
+  pub entries : List (Member × List ℕ)
+  pub holds : Holds nothing_said bytes entries
+  pub plain : IsPlainArchive entries
 
 -- the same, and the layout in that folder is right
 pub record IsRightArchive (options : Options) (bytes : List ℕ) : Type 0 where
-  pub places : List Place
-  pub index : IsIndexOf bytes places
-  pub plain : IsPlainArchive (extents places)
-  pub right : IsRightLayout options (names_in (extents places)) (tops_in (map (entry_at bytes) places)) (contents_in (map (entry_at bytes) places))
+  pub entries : List (Member × List ℕ)
+  pub holds : Holds nothing_said bytes entries
+  pub plain : IsPlainArchive entries
+  pub right : IsRightLayout options (names_in entries) (tops_in entries) (contents_in entries)
 
--- where the source and the reader have the same bytes, which are known, and no read of the source fails
+-- of a source and a reader of the same bytes, which are known, where no read of the source fails
 abbrev pub OverBytes : Bool → Option (List ℕ) → Option (List ℕ) → (List ℕ → Type 0) → Type 0
 OverBytes true (Some bytes) (Some read) P = bytes ≡ read → P bytes
 OverBytes true (Some bytes) None P = ⊤
 OverBytes true None read P = ⊤
 OverBytes false source read P = ⊤
+
+-- ---- by the places of its entries
+
+-- the entries are one folder to all that unpack them, and these files of it are a right layout
+abbrev pub IsRightPlaced : Options → List Place → (List ℕ → Option (List ℕ)) → (List ℕ → Option (List ℕ)) → Type 0
+IsRightPlaced options places tops contents = IsPlainArchive (extents places) × IsRightLayout options (names_in (extents places)) tops contents
+
+-- the bytes are no archive
+abbrev pub IsBroken : IndexError → Type 0
+IsBroken errors.Memory = ⊥
+IsBroken (errors.Io e) = ⊥
+IsBroken (errors.Fault f) = ⊤
+IsBroken errors.TooMany = ⊥

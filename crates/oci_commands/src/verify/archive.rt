@@ -1,7 +1,10 @@
 //! Verifying an image layout that lies in a tar archive. Nothing is unpacked.
-ghost use Rattle.std.specs.Prelude.{◌≡◌, ◌⊎◌, false, IfSome};
-ghost use Rattle.oci_commands.specs.Archives.{IsRightArchive, IsSoundArchive, OverBytes};
-ghost use Rattle.oci_commands.specs.Layouts.{IsAnswer};
+ghost use Rattle.std.specs.Prelude.{◌≡◌, ◌⊎◌, false, IfSome, IsOk};
+ghost use Rattle.oci_archive.specs.Layouts.{contents_at, tops_at};
+ghost use Rattle.tar_folder.specs.Marks.{extents};
+ghost use Rattle.tar_folder.specs.Plain.{IsPlainArchive};
+ghost use Rattle.oci_commands.specs.Archives.{IsBroken, IsRightArchive, IsRightPlaced, IsSoundArchive, OverBytes};
+ghost use Rattle.oci_commands.specs.Layouts.{IsAnswer, OverSteady};
 
 use crate::verify::options::Options;
 use crate::verify::output::Output;
@@ -96,7 +99,13 @@ impl<'o, C, W, E> Drop for Verifier<'o, C, W, E> {
 
 impl<'o, C: Watch, W: Write, E: Write> Verifier<'o, C, W, E> {
     /// Verifies the layout in the archive that has this index, if it is one folder to all that unpack it.
-    fn verify<S: Source>(&mut self, name: &str, source: &S, index: &Index) -> u8 {
+    fn verify<S: Source>(&mut self, name: &str, source: &S, index: &Index) -> u8
+        ensures status { (result ≡ 0) ⊎ ((result ≡ 1) ⊎ (result ≡ 3)) }
+        ensures plain { result ≡ 0 → IsPlainArchive (extents index.now.places.items) }
+        ensures right { self.old.options.now.quick ≡ false
+            → OverSteady (S.steady source.now) (tops_at index.now.places.items (S.bytes source.now)) (contents_at index.now.places.items (S.bytes source.now))
+            (λ tops contents. IsAnswer result (IsRightPlaced self.old.options.now index.now.places.items tops contents)) }
+    {
         match entry_findings(self.alloc, index) {
             Ok(found) => {
                 if !found.is_empty() {
@@ -118,7 +127,10 @@ impl<'o, C: Watch, W: Write, E: Write> Verifier<'o, C, W, E> {
     }
 
     /// Says why an archive has no index.
-    fn end<S: Source>(&mut self, name: &str, source: &S, error: IndexError) -> u8 {
+    fn end<S: Source>(&mut self, name: &str, source: &S, error: IndexError) -> u8
+        ensures status { (result ≡ 1) ⊎ (result ≡ 3) }
+        ensures broken { result ≡ 1 → IsBroken error }
+    {
         match error {
             IndexError::Fault(fault) => {
                 let reported = self.report_fault(name, source, fault);
@@ -137,7 +149,10 @@ impl<'o, C: Watch, W: Write, E: Write> Verifier<'o, C, W, E> {
     }
 
     /// The status once something is reported that is wrong; if it could not be, why.
-    fn status_of(&mut self, reported: Result<()>) -> u8 {
+    fn status_of(&mut self, reported: Result<()>) -> u8
+        ensures status { (result ≡ 1) ⊎ (result ≡ 3) }
+        ensures reported { result ≡ 1 → IsOk reported }
+    {
         match reported {
             Ok(()) => 1,
             Err(refusal) => {

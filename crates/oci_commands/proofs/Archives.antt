@@ -1,0 +1,122 @@
+-- What is found of an archive by the places of its entries, and what that says of its bytes.
+use Rattle.std.proofs.Common.{◌≡◌, ℕ, Bool, true, false, List, map, Option, None, Some, inl, inr, refl, sym, subst, ◌∙◌}
+use Rattle.std.specs.Prelude.{◌≡◌, ◌↔◌, ◌⊎◌, IfSome}
+use Rattle.tar_header.specs.declared.fault.Fault.{Fault}
+use Rattle.tar.specs.Archives.{Breaks, Holds}
+use Rattle.tar.specs.Entries.{Member, nothing_said}
+use Rattle.tar.specs.Places.{IsIndexOf, entry_at}
+use Rattle.tar.specs.declared.index.Place.{Place}
+use Rattle.tar.proofs.OneReading.{never_both, one_list}
+use Rattle.tar_folder.specs.Marks.{extents}
+use Rattle.tar_folder.specs.Plain.{IsPlainArchive}
+use Rattle.tar_folder.specs.Errors.{OnFault}
+use Rattle.tar_folder.specs.declared.read.IndexError.{IndexError}
+use Rattle.tar_folder.specs.declared.read.IndexError.TheVariants as errors
+use Rattle.tar_folder.proofs.Natural.{plain_alike}
+use Rattle.oci_archive.specs.Layouts.{contents_at, contents_in, names_in, tops_at, tops_in}
+use Rattle.oci_archive.proofs.Denoted.{same_names}
+use Rattle.oci_commands.specs.Archives.{IsBroken, IsRightArchive, IsRightPlaced, IsSoundArchive, OverBytes}
+use Rattle.oci_commands.specs.Layouts.{HasNoNote, IsAnswer, IsRightLayout, OverSteady}
+use Rattle.oci_commands.specs.declared.verify.options.Options.{Options}
+
+abbrev File : Type 0
+File = List ℕ → Option (List ℕ)
+
+abbrev Names : Type 1
+Names = List ℕ → Type 0
+
+abbrev placed_in : List ℕ → List Place → List (Member × List ℕ)
+placed_in bytes places = map (entry_at bytes) places
+
+-- ---- answers
+
+pub answer_as : (status : ℕ) (P Q : Type 0) → P ↔ Q → IsAnswer status P → IsAnswer status Q
+answer_as status P Q same (inl right) = inl (right.0, same.0 right.1)
+answer_as status P Q same (inr (inl wrong)) = inr (inl (wrong.0, λ q. wrong.1 (same.1 q)))
+answer_as status P Q same (inr (inr neither)) = inr (inr neither)
+
+-- what is wrong, or could not be said
+pub answer_wrong : (status : ℕ) (P : Type 0) → (status ≡ 1) ⊎ (status ≡ 3) → (status ≡ 1 → ¬ P) → IsAnswer status P
+answer_wrong status P (inl one) wrong = inr (inl (one, wrong one))
+answer_wrong status P (inr three) wrong = inr (inr three)
+
+-- ---- a layout, by which names are below `blobs`
+
+quiet_as : (limit : ℕ) (n m : Names) (tops contents : File) → ((path : List ℕ) → m path → n path) → HasNoNote limit n tops contents → HasNoNote limit m tops contents
+quiet_as limit n m tops contents back h = record { there = h.there; reached = λ path is. h.reached path (back path is) }
+
+right_as : (o : Options) (n m : Names) (tops contents : File) → ((path : List ℕ) → m path → n path) → IsRightLayout o n tops contents → IsRightLayout o m tops contents
+right_as o n m tops contents back h = record {
+  marker = h.marker;
+  sound = h.sound;
+  notes = λ strict. quiet_as o.limit n m tops contents back (h.notes strict);
+}
+
+-- ---- an archive
+
+pub sound_archive : (bytes : List ℕ) (places : List Place) → IsIndexOf bytes places → IsPlainArchive (extents places) → IsSoundArchive bytes
+sound_archive bytes places index plain = record {
+  entries = placed_in bytes places;
+  holds = index;
+  plain = (plain_alike bytes places).0 plain;
+}
+
+right_archive : (o : Options) (bytes : List ℕ) (places : List Place) → IsIndexOf bytes places
+    → IsRightPlaced o places (tops_in (placed_in bytes places)) (contents_in (placed_in bytes places)) → IsRightArchive o bytes
+right_archive o bytes places index h =
+    let es = placed_in bytes places in
+    record {
+      entries = es;
+      holds = index;
+      plain = (plain_alike bytes places).0 h.0;
+      right = right_as o (names_in (extents places)) (names_in es) (tops_in es) (contents_in es) (λ path is. (same_names bytes es places index index path).1 is) h.1;
+    }
+
+placed_archive : (o : Options) (bytes : List ℕ) (places : List Place) → IsIndexOf bytes places
+    → IsRightArchive o bytes → IsRightPlaced o places (tops_in (placed_in bytes places)) (contents_in (placed_in bytes places))
+placed_archive o bytes places index h =
+    let es = placed_in bytes places in
+    let same : h.entries ≡ es = one_list h.holds index in
+    let plain = subst (λ (l : List (Member × List ℕ)). IsPlainArchive l) same h.plain in
+    let right = subst (λ (l : List (Member × List ℕ)). IsRightLayout o (names_in l) (tops_in l) (contents_in l)) same h.right in
+    ((plain_alike bytes places).1 plain,
+     right_as o (names_in es) (names_in (extents places)) (tops_in es) (contents_in es) (λ path is. (same_names bytes es places index index path).0 is) right)
+
+archive_is : (o : Options) (bytes : List ℕ) (places : List Place) → IsIndexOf bytes places
+    → IsRightPlaced o places (tops_in (placed_in bytes places)) (contents_in (placed_in bytes places)) ↔ IsRightArchive o bytes
+archive_is o bytes places index = (right_archive o bytes places index, placed_archive o bytes places index)
+
+-- something breaks the bytes, where they are known
+abbrev pub IfBroken : Option (List ℕ) → Type 0
+IfBroken read = IfSome read (λ bytes. (f : Fault) × Breaks nothing_said bytes f)
+
+pub broken_by : (read : Option (List ℕ)) (e : IndexError) → IsBroken e → OnFault e (λ f. IfSome read (λ bytes. Breaks nothing_said bytes f)) → IfBroken read
+broken_by None e is on = tt
+broken_by (Some bytes) errors.Memory is on = absurd is
+broken_by (Some bytes) (errors.Io e) is on = absurd is
+broken_by (Some bytes) (errors.Fault f) is on = (f, on)
+broken_by (Some bytes) errors.TooMany is on = absurd is
+
+abbrev IsPlacedAnswer : Options → Bool → Option (List ℕ) → List Place → ℕ → Type 0
+IsPlacedAnswer o steady source places status =
+    OverSteady steady (tops_at places source) (contents_at places source) (λ tops contents. IsAnswer status (IsRightPlaced o places tops contents))
+
+-- an archive that was read
+pub answer_read : (o : Options) (steady : Bool) (source read : Option (List ℕ)) (places : List Place) (status : ℕ) → IfSome read (λ bytes. IsIndexOf bytes places)
+    → IsPlacedAnswer o steady source places status → OverBytes steady source read (λ bytes. IsAnswer status (IsRightArchive o bytes))
+answer_read o true (Some bytes) (Some read) places status index h = λ same.
+    let held : IsIndexOf bytes places = subst (λ b. IsIndexOf b places) (sym same) index in
+    answer_as status (IsRightPlaced o places (tops_in (placed_in bytes places)) (contents_in (placed_in bytes places))) (IsRightArchive o bytes) (archive_is o bytes places held) h
+answer_read o true (Some bytes) None places status index h = tt
+answer_read o true None read places status index h = tt
+answer_read o false source read places status index h = tt
+
+-- bytes that are no archive
+pub answer_broken : (o : Options) (steady : Bool) (source read : Option (List ℕ)) (status : ℕ) → (status ≡ 1) ⊎ (status ≡ 3) → (status ≡ 1 → IfBroken read)
+    → OverBytes steady source read (λ bytes. IsAnswer status (IsRightArchive o bytes))
+answer_broken o true (Some bytes) (Some read) status is broken = λ same.
+    answer_wrong status (IsRightArchive o bytes) is
+      (λ one right. let (f, breaks) = broken one in never_both (subst (λ b. Holds nothing_said b right.entries) same right.holds) breaks)
+answer_broken o true (Some bytes) None status is broken = tt
+answer_broken o true None read status is broken = tt
+answer_broken o false source read status is broken = tt
