@@ -244,6 +244,7 @@ fn format_in<'a>(given: &ArgMatches<'_>, file: &'a str, output: Option<&'a str>)
         check: given.get_flag("check"),
         quiet: given.get_flag("quiet"),
         verbose: given.get_flag("verbose"),
+        keep_unknown: given.get_flag("keep-unknown"),
         drop_unknown: given.get_flag("drop-unknown"),
         output,
         file,

@@ -139,9 +139,15 @@ pub static FORMATTING: [Described; 1] = [Described {
             ..PLAIN
         },
         Argument {
+            name: "keep-unknown",
+            help: "Write members that the schema does not list, too, in their places",
+            ..PLAIN
+        },
+        Argument {
             name: "drop-unknown",
             help: "Write a file also where members are left out of it:
 unknown ones, and earlier ones of one name",
+            bond: Bond::Without(&["keep-unknown"]),
             ..PLAIN
         },
         Argument {

@@ -1,6 +1,6 @@
 -- Bytes without a canonical form, and text that is none.
 use Rattle.std.specs.Prelude.{IfErr}
-use Rattle.std.proofs.Common.{◌≡◌, ◌≢◌, Result, Ok, Err, ℕ, List, false, Some, None, inl, inr, sym, ◌∙◌, subst}
+use Rattle.std.proofs.Common.{◌≡◌, ◌≢◌, ◌⊎◌, Result, Ok, Err, ℕ, List, true, false, Some, None, inl, inr, sym, ◌∙◌, subst}
 use Rattle.serde_json.specs.Data.{Data}
 use Rattle.serde_json.specs.Read.{read}
 use Rattle.oci_model.specs.Plain.{Plain}
@@ -19,7 +19,8 @@ use Rattle.oci_base.specs.declared.error.OciSpecError.TheVariants as error
 use Rattle.oci_base.specs.declared.error.SerDeError.TheVariants as serde
 use Rattle.oci_findings.specs.Checks.{IsAllowed, IsKindIn}
 use Rattle.oci_commands.specs.declared.asked.Format.{Format}
-use Rattle.oci_commands.specs.Formats.{FormatsAs, HasNoForm, IsNotCompact, IsSerDe, IsUnformatted, IsUnformattedAs}
+use Rattle.oci_commands.specs.Formats.{FormatsAs, FormatsBy, HasNoForm, IsNotCompact, IsSerDe, IsUnformatted, IsUnformattedAs, WouldChangeKind, WouldLose}
+use Rattle.oci_commands.proofs.Held.{as_compact, by_written}
 
 refuses : (s : Shape) (d : Data) → IsRefused s d → (p : Plain) → ¬ Means s d p
 unfolding IsRefused
@@ -61,3 +62,15 @@ unformatted_as a kind bytes fits h = inr (kind, fits, h)
 
 pub unformatted_wrong : (a : Format) (bytes : List ℕ) → ¬ IsAllowed a.kind a.file.now bytes → IsUnformatted a bytes
 unformatted_wrong a bytes wrong = inl wrong
+
+-- the same of a text that was made of the document (`shown` is what was compared)
+pub refused_as : (a : Format) (kind : Kind) (bytes text shown : List ℕ) → FormatsBy a.keep_unknown kind a.pretty (Some bytes) (λ t. t ≡ text) → shown ≡ text
+    → WouldLose kind a bytes ⊎ (WouldChangeKind kind a shown ⊎ ((a.check ≡ true) × (shown ≢ bytes))) → IsUnformattedAs kind a bytes
+refused_as a kind bytes text shown form same (inl loses) = inr (inl loses)
+refused_as a kind bytes text shown form same (inr (inl changes)) =
+    inr (inr (by_written a.keep_unknown kind a.pretty (Some bytes) (λ t. t ≡ text) (WouldChangeKind kind a) (λ t made. subst (WouldChangeKind kind a) (same ∙ sym made) changes) form))
+refused_as a kind bytes text shown form same (inr (inr (checks, not))) =
+    inl (inr (
+      checks,
+      λ compact drops. not_compact kind bytes text (as_compact a.keep_unknown a.pretty kind (Some bytes) (λ t. t ≡ text) compact drops form) (λ e. not (same ∙ e)),
+    ))

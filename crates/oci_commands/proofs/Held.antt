@@ -2,7 +2,7 @@
 use Rattle.std.proofs.Common.{◌≡◌, ◌⊎◌, ◌++◌, ◌∙◌, [], inl, inr, ℕ, List, Bool, true, false, Option, Some, None, Result, Ok, Err, ap, refl, sym, subst}
 use Rattle.std.proofs.lemmas.Option.{IfSome_then}
 use Rattle.std.specs.Borrow.{Bor}
-use Rattle.std.specs.Prelude.{IfSome, OnOk}
+use Rattle.std.specs.Prelude.{IfSome, IsSome, OnOk}
 use Rattle.oci_model.specs.Shape.{Shape}
 use Rattle.oci_json.specs.Engines.{WritesDocument}
 use Rattle.oci_schema.specs.Normalizes.{WritesPretty}
@@ -14,7 +14,8 @@ use Rattle.oci_findings.proofs.Allowed.{kind_held}
 use Rattle.oci_findings.specs.Forms.{IsForm}
 use Rattle.oci_findings.specs.declared.style.Style.{Style}
 use Rattle.oci_commands.specs.Kinds.{IsKindLine}
-use Rattle.oci_commands.specs.Formats.{Formats, FormatsAs, HoldsPut}
+use Rattle.oci_commands.specs.Formats.{Formats, FormatsAs, FormatsBy, FormatsTo, HoldsPut, WritesKept}
+use Rattle.oci_commands.specs.declared.asked.Format.{Format}
 
 -- what holds of the bytes that were read
 pub held : (P : List ℕ → Type 0) (known : Option (List ℕ)) (bytes : List ℕ) → IfSome known (λ b. bytes ≡ b) → P bytes → IfSome known P
@@ -64,10 +65,25 @@ pub as_written : (kind : Kind) (pretty : Bool) (input : Option (List ℕ)) (W V 
 as_written kind false input W V f h = document_written (shape_of kind) input W V f h
 as_written kind true input W V f h = pretty_written (shape_of kind) input W V f h
 
--- the canonical form of the kind that was found is that of the document
-pub formats_asked : (asked : Option Kind) (name : List ℕ) (kind : Kind) (pretty : Bool) (input : Option (List ℕ)) (W : List ℕ → Type 0) → IsKindIn asked name input kind → FormatsAs kind pretty input W
-    → Formats asked name pretty input W
-formats_asked asked name kind pretty input W fits h = (kind, fits, h)
+-- the same of a text with unknown members
+kept_written : (kind : Kind) (pretty : Bool) (input : Option (List ℕ)) (W V : List ℕ → Type 0) → ((t : List ℕ) → W t → V t) → WritesKept kind pretty input W → WritesKept kind pretty input V
+kept_written kind pretty input W V f h = let (d, p, means, rest) = h in let (text, is, wrote) = rest in (d, p, means, (text, is, f text wrote))
+
+pub by_written : (keep : Bool) (kind : Kind) (pretty : Bool) (input : Option (List ℕ)) (W V : List ℕ → Type 0) → ((t : List ℕ) → W t → V t) → FormatsBy keep kind pretty input W → FormatsBy keep kind pretty input V
+by_written false kind pretty input W V f h = as_written kind pretty input W V f h
+by_written true kind pretty input W V f h = kept_written kind pretty input W V f h
+
+-- where neither is asked for, it is the compact text of the canonical form
+pub as_compact : (keep pretty : Bool) (kind : Kind) (input : Option (List ℕ)) (W : List ℕ → Type 0) → pretty ≡ false → keep ≡ false → FormatsBy keep kind pretty input W → FormatsAs kind false input W
+as_compact keep pretty kind input W compact drops h = subst (λ k. FormatsBy k kind false input W) drops (subst (λ p. FormatsBy keep kind p input W) compact h)
+
+-- what is written of the kind that was found is that of the document
+pub formats_asked : (a : Format) (kind : Kind) (input : Option (List ℕ)) (W : List ℕ → Type 0) → IsKindIn a.kind a.file.now input kind → FormatsBy a.keep_unknown kind a.pretty input W → Formats a input W
+formats_asked a kind input W fits h = (kind, fits, h)
+
+pub formats_to : (a : Format) (kind : Kind) (input : Option (List ℕ)) (text : List ℕ) → IsKindIn a.kind a.file.now input kind
+    → IsKindIn a.kind a.file.now (Some text) kind × FormatsBy a.keep_unknown kind a.pretty input (λ t. t ≡ text) → FormatsTo a input text
+formats_to a kind input text fits h = (kind, fits, h.0, h.1)
 
 document_held : (s : Shape) (known : Option (List ℕ)) (bytes : List ℕ) (Writes : List ℕ → Type 0) → IfSome known (λ b. bytes ≡ b) → WritesDocument s (Some bytes) Writes → WritesDocument s known Writes
 document_held s None bytes Writes is h = let (p, means, wrote) = h in (p, tt, wrote)
@@ -81,9 +97,22 @@ as_held : (kind : Kind) (pretty : Bool) (known : Option (List ℕ)) (bytes : Lis
 as_held kind false known bytes Writes is h = document_held (shape_of kind) known bytes Writes is h
 as_held kind true known bytes Writes is h = pretty_held (shape_of kind) known bytes Writes is h
 
-pub formats_held : (asked : Option Kind) (name : List ℕ) (pretty : Bool) (known : Option (List ℕ)) (bytes : List ℕ) (Writes : List ℕ → Type 0) → IfSome known (λ b. bytes ≡ b)
-    → Formats asked name pretty (Some bytes) Writes → Formats asked name pretty known Writes
-formats_held asked name pretty known bytes Writes is h = let (kind, fits, writes) = h in (kind, kind_held asked name known bytes kind is fits, as_held kind pretty known bytes Writes is writes)
+kept_held : (kind : Kind) (pretty : Bool) (known : Option (List ℕ)) (bytes : List ℕ) (Writes : List ℕ → Type 0) → IfSome known (λ b. bytes ≡ b) → WritesKept kind pretty (Some bytes) Writes → WritesKept kind pretty known Writes
+kept_held kind pretty None bytes Writes is h = let (d, p, means, wrote) = h in (d, p, tt, wrote)
+kept_held kind pretty (Some b) bytes Writes is h = subst (λ x. WritesKept kind pretty (Some x) Writes) is h
+
+by_held : (keep : Bool) (kind : Kind) (pretty : Bool) (known : Option (List ℕ)) (bytes : List ℕ) (Writes : List ℕ → Type 0) → IfSome known (λ b. bytes ≡ b) → FormatsBy keep kind pretty (Some bytes) Writes
+    → FormatsBy keep kind pretty known Writes
+by_held false kind pretty known bytes Writes is h = as_held kind pretty known bytes Writes is h
+by_held true kind pretty known bytes Writes is h = kept_held kind pretty known bytes Writes is h
+
+pub formats_held : (a : Format) (known : Option (List ℕ)) (bytes : List ℕ) (Writes : List ℕ → Type 0) → IfSome known (λ b. bytes ≡ b) → Formats a (Some bytes) Writes → Formats a known Writes
+formats_held a known bytes Writes is h =
+    let (kind, fits, writes) = h in (kind, kind_held a.kind a.file.now known bytes kind is fits, by_held a.keep_unknown kind a.pretty known bytes Writes is writes)
+
+pub to_held : (a : Format) (known : Option (List ℕ)) (bytes text : List ℕ) → IfSome known (λ b. bytes ≡ b) → FormatsTo a (Some bytes) text → FormatsTo a known text
+to_held a known bytes text is h =
+    let (kind, fits, after, writes) = h in (kind, kind_held a.kind a.file.now known bytes kind is fits, after, by_held a.keep_unknown kind a.pretty known bytes (λ t. t ≡ text) is writes)
 
 pub pinned_held : (text : List ℕ) (known : Option (List ℕ)) (bytes : List ℕ) (Writes : List ℕ → Type 0) → IfSome known (λ b. bytes ≡ b) → WritesPinned text (Some bytes) Writes → WritesPinned text known Writes
 pinned_held text None bytes Writes is h = let (parts, d, accepted, means, wrote) = h in (parts, d, accepted, tt, wrote)
@@ -97,3 +126,8 @@ fault_held N P known bytes is (inr h) = inr (held P known bytes is h)
 -- what follows of the bytes of an output
 pub put_then : (holds : List ℕ → Option (List ℕ)) (output : Option (Bor (List ℕ))) (P Q : List ℕ → Type 0) → ((bytes : List ℕ) → P bytes → Q bytes) → HoldsPut holds output P → HoldsPut holds output Q
 put_then holds output P Q f h = IfSome_then output h (λ name known. IfSome_then (holds name.now) known f)
+
+-- the same, with what holds if there is an output
+pub put_kept : (holds : List ℕ → Option (List ℕ)) (output : Option (Bor (List ℕ))) (P Q : List ℕ → Type 0) → (IsSome output → (bytes : List ℕ) → P bytes → Q bytes) → HoldsPut holds output P → HoldsPut holds output Q
+put_kept holds None P Q f h = tt
+put_kept holds (Some name) P Q f h = IfSome_then (holds name.now) h (f tt)

@@ -12,7 +12,7 @@ use Rattle.oci_commands.specs.declared.asked.Asked.TheVariants.{Check, Format, C
 use Rattle.oci_findings.specs.Checks.{HasNoKind, IsRight, IsWrong}
 use Rattle.oci_commands.specs.Compared.{HoldSame, HoldUnequal}
 use Rattle.oci_commands.specs.Kinds.{IsKindLine}
-use Rattle.oci_commands.specs.Formats.{Formats, HoldsPut, IsUnformatted, LosesNothing}
+use Rattle.oci_commands.specs.Formats.{Formats, FormatsTo, HoldsPut, IsUnformatted, LosesNothing}
 use Rattle.oci_findings.specs.declared.style.Style.{Style}
 use Rattle.oci_findings.specs.declared.style.Style.TheVariants.{Text, Color, Json, Sarif, Github}
 use Rattle.oci_commands.specs.Pins.{HasNoTarget, PinsTo}
@@ -50,9 +50,9 @@ abbrev pub IsDone : (Kind → List Rule) → (List ℕ → Option (List ℕ)) �
 IsDone books holds old new (Check a) = All (λ f. IfSome (holds f.now) (IsRight books a f.now)) a.files.now
 -- the file is canonical, or its canonical form was written; into a file only if no member is left out of it, unknown or before another of its name, or that was asked for
 IsDone books holds old new (Format a) =
-    (a.check ≡ true → IfSome (holds a.file.now) (λ bytes. Formats a.kind a.file.now a.pretty (Some bytes) (λ text. text ≡ bytes)))
-    × (a.check ≡ false → a.output ≡ None → Formats a.kind a.file.now a.pretty (holds a.file.now) (Appends old new))
-    × (a.check ≡ false → IsSome a.output → a.drop_unknown ≡ false → IfSome (holds a.file.now) (LosesNothing a.kind a.file.now))
+    (a.check ≡ true → IfSome (holds a.file.now) (λ bytes. Formats a (Some bytes) (λ text. text ≡ bytes)))
+    × (a.check ≡ false → a.output ≡ None → Formats a (holds a.file.now) (Appends old new))
+    × (a.check ≡ false → IsSome a.output → a.drop_unknown ≡ false → IfSome (holds a.file.now) (LosesNothing a))
 -- the two files hold the same document
 IsDone books holds old new (Compare a) = HoldSame a.kind a.before.now (holds a.before.now) a.after.now (holds a.after.now)
 -- each text is a reference, or a digest, and its parts were written
@@ -73,9 +73,9 @@ IsDone books holds old new (Schema outline kind) = ⊤
 -- each document is of one kind, and its line was written
 IsDone books holds old new (Kinds style files) = AppendsEach (λ f. IsKindLine style (holds f.now) f.now) files.now old new
 
--- after status 0, where `before` and `after` are the bytes of files before and after: what `fmt` was to write into holds the canonical form
+-- after status 0, where `before` and `after` are the bytes of files before and after: what `fmt` was to write into holds the canonical form, which is of the kind of the document
 abbrev pub IsPut : (List ℕ → Option (List ℕ)) → (List ℕ → Option (List ℕ)) → Asked → Type 0
-IsPut before after (Format a) = a.check ≡ false → HoldsPut after a.output (λ bytes. Formats a.kind a.file.now a.pretty (before a.file.now) (λ text. text ≡ bytes))
+IsPut before after (Format a) = a.check ≡ false → HoldsPut after a.output (FormatsTo a (before a.file.now))
 IsPut before after _ = ⊤
 
 -- after status 1

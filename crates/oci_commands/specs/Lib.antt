@@ -2,6 +2,7 @@ pub mod Archives
 pub mod Compared
 pub mod Done
 pub mod Formats
+pub mod Kept
 pub mod Kinds
 pub mod Laws
 pub mod Layouts

@@ -16,8 +16,10 @@ pub struct Format<'a> {
     pub quiet: bool,
     /// Whether the digests before and after are said.
     pub verbose: bool,
+    /// Whether members that the schema does not list are written in their place.
+    pub keep_unknown: bool,
     /// Whether members that the schema does not list, and earlier ones of one name, are left out of a file that is written; else no
-    /// file is written if there are any.
+    /// file is written if there are any that would be lost.
     pub drop_unknown: bool,
     /// The file to write, or none for standard output.
     pub output: Option<&'a str>,

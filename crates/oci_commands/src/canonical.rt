@@ -1,115 +1,33 @@
 //! The command `fmt`.
-ghost use Rattle.std.specs.Prelude.{◌≡◌, ◌≢◌, ◌⊎◌, ◌↔◌, ◌++◌, [], true, false, Some, None, IsSome, IfOk, IfErr, IfSome, OnOk};
+ghost use Rattle.std.specs.Prelude.{◌≡◌, ◌≢◌, ◌⊎◌, true, false, Some, None, IsSome, IfOk, IfErr, IfSome};
 ghost use Rattle.std.specs.Io.KnownBytes.{Appends, Keeps};
-ghost use Rattle.serde_json.specs.View.{view};
-ghost use Rattle.oci_json.specs.Engines.{WritesDocument};
-ghost use Rattle.oci_schema.specs.Normalizes.{WritesPretty};
-ghost use Rattle.oci_schemas.specs.Kinds.{shape_of};
-ghost use Rattle.oci_findings.specs.Checks.{AllKept, IsKindIn};
+ghost use Rattle.oci_findings.specs.Checks.{IsKindIn};
 ghost use Rattle.oci_findings.specs.Forms.{IsForm};
-ghost use Rattle.oci_commands.specs.Formats.{Formats, FormatsAs, HasNoForm, IsSerDe, IsUnformatted, IsUnformattedAs, KeepsAll, LosesNothing, WouldLose, HoldsPut};
+ghost use Rattle.oci_commands.specs.Formats.{Formats, FormatsAs, FormatsBy, FormatsTo, HasNoForm, HoldsPut, IsSerDe, IsUnformatted, IsUnformattedAs, KeepsAll, LosesNothing, WouldChangeKind, WouldLose};
 ghost use Rattle.oci_commands.specs.Done.{IsStatus};
 
 use crate::asked::Format;
 use crate::contents::digest_line;
 use crate::files::Files;
-use crate::left_out::say_left_out;
+use crate::forms::{canonical_text, kept_text};
+use crate::left_out::{not_in, say_left_out};
+use crate::lost::{lost, why_not};
+use crate::same_kind::{is_kind, kind_in, say_other_kind};
 use crate::texts::{complain, complain_of, is_wrong, report_findings};
-use json::Error;
 use oci_base::{OciSpecError, Result};
 use oci_content::Algorithm;
-use oci_findings::Report;
-use oci_findings::examine::lost_members;
 use oci_findings::inspect::kind_of;
 use oci_findings::left_out::{LeftOut, left_out_by_value};
 use oci_findings::quick::{Found, Wanted, look_at};
 use oci_json::write_text;
-use oci_schema::bytes::{Workspace, normalize_bytes, normalize_pretty_bytes};
-use oci_schemas::{Kind, OciRecords};
+use oci_schema::bytes::Workspace;
+use oci_schemas::Kind;
 use serde_json::Value;
 use std::alloc::Global;
 use std::io::Write;
 
 /// What is said of a file that is not its canonical form.
 const NOT_CANONICAL: &str = "not canonical";
-
-/// Why no file was written.
-const NOT_WRITTEN: &str =
-    "not written, since the members above would be lost; --drop-unknown leaves them out";
-
-/// The text of the canonical form of the document in these bytes, compact or indented. Fails as `normalize` does.
-pub fn canonical_text(
-    kind: Kind,
-    pretty: bool,
-    bytes: &[u8],
-    workspace: &mut Workspace,
-    alloc: Global,
-) -> Result<Vec<u8>>
-    ensures ok { IfOk result (λ v. FormatsAs kind pretty (Some bytes.now) (λ t. t ≡ v.items)) }
-    ensures none { IfErr result (λ e. IsSerDe e → HasNoForm kind bytes.now) }
-{
-    if pretty {
-        pretty_text(kind, bytes, workspace, alloc)
-    } else {
-        compact_text(kind, bytes, workspace, alloc)
-    }
-}
-
-fn compact_text(
-    kind: Kind,
-    bytes: &[u8],
-    workspace: &mut Workspace,
-    alloc: Global,
-) -> Result<Vec<u8>>
-    ensures ok { IfOk result (λ v. WritesDocument (shape_of kind) (Some bytes.now) (λ t. t ≡ v.items)) }
-    ensures none { IfErr result (λ e. IsSerDe e → HasNoForm kind bytes.now) }
-{
-    let mut text = Vec::new(alloc);
-    write_compact(kind, bytes, workspace, alloc, &mut text)?;
-    Ok(text)
-}
-
-/// Appends the compact text. Fails as `normalize_bytes` does.
-fn write_compact(
-    kind: Kind,
-    bytes: &[u8],
-    workspace: &mut Workspace,
-    alloc: Global,
-    out: &mut Vec<u8>,
-) -> Result<()>
-    ensures ok { OnOk result (WritesDocument (shape_of kind) (Some bytes.now) (λ t. out.new.items ≡ out.old.items ++ t)) }
-    ensures none { IfErr result (λ e. IsSerDe e → HasNoForm kind bytes.now) }
-{
-    normalize_bytes(&OciRecords, kind.schema(), alloc, bytes, workspace, out)
-}
-
-fn pretty_text(
-    kind: Kind,
-    bytes: &[u8],
-    workspace: &mut Workspace,
-    alloc: Global,
-) -> Result<Vec<u8>>
-    ensures ok { IfOk result (λ v. WritesPretty (shape_of kind) (Some bytes.now) (λ t. t ≡ v.items)) }
-    ensures none { IfErr result (λ e. IsSerDe e → HasNoForm kind bytes.now) }
-{
-    let mut text = Vec::new(alloc);
-    write_pretty(kind, bytes, workspace, alloc, &mut text)?;
-    Ok(text)
-}
-
-/// Appends the indented text. Fails as `normalize_bytes` does.
-fn write_pretty(
-    kind: Kind,
-    bytes: &[u8],
-    workspace: &mut Workspace,
-    alloc: Global,
-    out: &mut Vec<u8>,
-) -> Result<()>
-    ensures ok { OnOk result (WritesPretty (shape_of kind) (Some bytes.now) (λ t. out.new.items ≡ out.old.items ++ t)) }
-    ensures none { IfErr result (λ e. IsSerDe e → HasNoForm kind bytes.now) }
-{
-    normalize_pretty_bytes(&OciRecords, kind.schema(), alloc, bytes, workspace, out)
-}
 
 /// Writes the canonical form of a file, or compares the file with it. Returns 0 if that was done, 1 if the file holds no valid document
 /// or is to be compared and is not canonical, and 3 if it could not be read or written.
@@ -123,10 +41,10 @@ pub fn format<S: Files, W: Write, E: Write>(
 ) -> Result<u8>
     ensures status { IfOk result IsStatus }
     ensures untouched { asked.now.check ≡ true → Keeps (W.contents writer.old) (W.contents writer.new) × (S.holds store.new ≡ S.holds store.old) }
-    ensures canonical { IfOk result (λ s. s ≡ 0 → asked.now.check ≡ true → IfSome (S.holds store.old asked.now.file.now) (λ bytes. Formats asked.now.kind asked.now.file.now asked.now.pretty (Some bytes) (λ t. t ≡ bytes))) }
-    ensures written { IfOk result (λ s. s ≡ 0 → asked.now.check ≡ false → asked.now.output ≡ None → Formats asked.now.kind asked.now.file.now asked.now.pretty (S.holds store.old asked.now.file.now) (Appends (W.contents writer.old) (W.contents writer.new))) }
-    ensures put { IfOk result (λ s. s ≡ 0 → asked.now.check ≡ false → HoldsPut (S.holds store.new) asked.now.output (λ b. Formats asked.now.kind asked.now.file.now asked.now.pretty (S.holds store.old asked.now.file.now) (λ t. t ≡ b))) }
-    ensures kept { IfOk result (λ s. s ≡ 0 → asked.now.check ≡ false → IsSome asked.now.output → asked.now.drop_unknown ≡ false → IfSome (S.holds store.old asked.now.file.now) (LosesNothing asked.now.kind asked.now.file.now)) }
+    ensures canonical { IfOk result (λ s. s ≡ 0 → asked.now.check ≡ true → IfSome (S.holds store.old asked.now.file.now) (λ bytes. Formats asked.now (Some bytes) (λ t. t ≡ bytes))) }
+    ensures written { IfOk result (λ s. s ≡ 0 → asked.now.check ≡ false → asked.now.output ≡ None → Formats asked.now (S.holds store.old asked.now.file.now) (Appends (W.contents writer.old) (W.contents writer.new))) }
+    ensures put { IfOk result (λ s. s ≡ 0 → asked.now.check ≡ false → HoldsPut (S.holds store.new) asked.now.output (FormatsTo asked.now (S.holds store.old asked.now.file.now))) }
+    ensures kept { IfOk result (λ s. s ≡ 0 → asked.now.check ≡ false → IsSome asked.now.output → asked.now.drop_unknown ≡ false → IfSome (S.holds store.old asked.now.file.now) (LosesNothing asked.now)) }
     ensures refused { IfOk result (λ s. s ≡ 1 → IfSome (S.holds store.old asked.now.file.now) (IsUnformatted asked.now)) }
 {
     match store.read(alloc, asked.file) {
@@ -174,10 +92,10 @@ impl<'a> Formatting<'a> {
         requires held { IfSome (S.holds store.old self.now.asked.now.file.now) (λ b. b ≡ self.now.bytes.now) }
         ensures status { IfOk result IsStatus }
         ensures untouched { self.now.asked.now.check ≡ true → Keeps (W.contents writer.old) (W.contents writer.new) × (S.holds store.new ≡ S.holds store.old) }
-        ensures canonical { IfOk result (λ s. s ≡ 0 → self.now.asked.now.check ≡ true → Formats self.now.asked.now.kind self.now.asked.now.file.now self.now.asked.now.pretty (Some self.now.bytes.now) (λ t. t ≡ self.now.bytes.now)) }
-        ensures written { IfOk result (λ s. s ≡ 0 → self.now.asked.now.check ≡ false → self.now.asked.now.output ≡ None → Formats self.now.asked.now.kind self.now.asked.now.file.now self.now.asked.now.pretty (Some self.now.bytes.now) (Appends (W.contents writer.old) (W.contents writer.new))) }
-        ensures put { IfOk result (λ s. s ≡ 0 → self.now.asked.now.check ≡ false → HoldsPut (S.holds store.new) self.now.asked.now.output (λ b. Formats self.now.asked.now.kind self.now.asked.now.file.now self.now.asked.now.pretty (Some self.now.bytes.now) (λ t. t ≡ b))) }
-        ensures kept { IfOk result (λ s. s ≡ 0 → self.now.asked.now.check ≡ false → IsSome self.now.asked.now.output → self.now.asked.now.drop_unknown ≡ false → LosesNothing self.now.asked.now.kind self.now.asked.now.file.now self.now.bytes.now) }
+        ensures canonical { IfOk result (λ s. s ≡ 0 → self.now.asked.now.check ≡ true → Formats self.now.asked.now (Some self.now.bytes.now) (λ t. t ≡ self.now.bytes.now)) }
+        ensures written { IfOk result (λ s. s ≡ 0 → self.now.asked.now.check ≡ false → self.now.asked.now.output ≡ None → Formats self.now.asked.now (Some self.now.bytes.now) (Appends (W.contents writer.old) (W.contents writer.new))) }
+        ensures put { IfOk result (λ s. s ≡ 0 → self.now.asked.now.check ≡ false → HoldsPut (S.holds store.new) self.now.asked.now.output (FormatsTo self.now.asked.now (Some self.now.bytes.now))) }
+        ensures kept { IfOk result (λ s. s ≡ 0 → self.now.asked.now.check ≡ false → IsSome self.now.asked.now.output → self.now.asked.now.drop_unknown ≡ false → LosesNothing self.now.asked.now self.now.bytes.now) }
         ensures refused { IfOk result (λ s. s ≡ 1 → IsUnformatted self.now.asked.now self.now.bytes.now) }
     {
         let mut workspace = Workspace::new(self.alloc);
@@ -247,10 +165,10 @@ impl<'a> Formatting<'a> {
         requires held { IfSome (S.holds store.old self.now.asked.now.file.now) (λ b. b ≡ self.now.bytes.now) }
         ensures status { IfOk result IsStatus }
         ensures untouched { self.now.asked.now.check ≡ true → Keeps (W.contents writer.old) (W.contents writer.new) × (S.holds store.new ≡ S.holds store.old) }
-        ensures canonical { IfOk result (λ s. s ≡ 0 → self.now.asked.now.check ≡ true → FormatsAs found.kind self.now.asked.now.pretty (Some self.now.bytes.now) (λ t. t ≡ self.now.bytes.now)) }
-        ensures written { IfOk result (λ s. s ≡ 0 → self.now.asked.now.check ≡ false → self.now.asked.now.output ≡ None → FormatsAs found.kind self.now.asked.now.pretty (Some self.now.bytes.now) (Appends (W.contents writer.old) (W.contents writer.new))) }
-        ensures put { IfOk result (λ s. s ≡ 0 → self.now.asked.now.check ≡ false → HoldsPut (S.holds store.new) self.now.asked.now.output (λ b. FormatsAs found.kind self.now.asked.now.pretty (Some self.now.bytes.now) (λ t. t ≡ b))) }
-        ensures kept { IfOk result (λ s. s ≡ 0 → self.now.asked.now.check ≡ false → IsSome self.now.asked.now.output → self.now.asked.now.drop_unknown ≡ false → KeepsAll found.kind self.now.bytes.now) }
+        ensures canonical { IfOk result (λ s. s ≡ 0 → self.now.asked.now.check ≡ true → FormatsBy self.now.asked.now.keep_unknown found.kind self.now.asked.now.pretty (Some self.now.bytes.now) (λ t. t ≡ self.now.bytes.now)) }
+        ensures written { IfOk result (λ s. s ≡ 0 → self.now.asked.now.check ≡ false → self.now.asked.now.output ≡ None → FormatsBy self.now.asked.now.keep_unknown found.kind self.now.asked.now.pretty (Some self.now.bytes.now) (Appends (W.contents writer.old) (W.contents writer.new))) }
+        ensures put { IfOk result (λ s. s ≡ 0 → self.now.asked.now.check ≡ false → HoldsPut (S.holds store.new) self.now.asked.now.output (λ b. IsKindIn self.now.asked.now.kind self.now.asked.now.file.now (Some b) found.kind × FormatsBy self.now.asked.now.keep_unknown found.kind self.now.asked.now.pretty (Some self.now.bytes.now) (λ t. t ≡ b))) }
+        ensures kept { IfOk result (λ s. s ≡ 0 → self.now.asked.now.check ≡ false → IsSome self.now.asked.now.output → self.now.asked.now.drop_unknown ≡ false → KeepsAll self.now.asked.now.keep_unknown found.kind self.now.bytes.now) }
         ensures refused { IfOk result (λ s. s ≡ 1 → IsUnformattedAs found.kind self.now.asked.now self.now.bytes.now) }
     {
         let Found {
@@ -258,13 +176,31 @@ impl<'a> Formatting<'a> {
             left_out,
             text,
         } = found;
-        match self.canonical_form(kind, text, workspace) {
+        match self.text_to_write(kind, text, workspace) {
             Ok(text) => self.finish(kind, left_out, text.as_slice(), store, writer, errors),
             Err(OciSpecError::SerDe(_)) => {
                 self.say_no_form(kind, errors)?;
                 Ok(1)
             }
             Err(error) => Err(error),
+        }
+    }
+
+    /// The text that is to be written: with unknown members, where they are kept, or else the canonical form.
+    fn text_to_write(
+        &self,
+        kind: Kind,
+        found: Option<Vec<u8>>,
+        workspace: &mut Workspace,
+    ) -> Result<Vec<u8>>
+        requires { IfSome found (λ t. IsForm self.now.asked.now.pretty kind self.now.bytes.now t.items) }
+        ensures ok { IfOk result (λ v. FormatsBy self.now.asked.now.keep_unknown kind self.now.asked.now.pretty (Some self.now.bytes.now) (λ t. t ≡ v.items)) }
+        ensures none { IfErr result (λ e. IsSerDe e → HasNoForm kind self.now.bytes.now) }
+    {
+        if self.asked.keep_unknown {
+            kept_text(kind, self.asked.pretty, self.bytes, self.alloc)
+        } else {
+            self.canonical_form(kind, found, workspace)
         }
     }
 
@@ -311,22 +247,44 @@ impl<'a> Formatting<'a> {
         ensures untouched { self.now.asked.now.check ≡ true → Keeps (W.contents writer.old) (W.contents writer.new) × (S.holds store.new ≡ S.holds store.old) }
         ensures same { IfOk result (λ s. s ≡ 0 → self.now.asked.now.check ≡ true → text.now ≡ self.now.bytes.now) }
         ensures written { IfOk result (λ s. s ≡ 0 → self.now.asked.now.check ≡ false → self.now.asked.now.output ≡ None → Appends (W.contents writer.old) (W.contents writer.new) text.now) }
-        ensures put { IfOk result (λ s. s ≡ 0 → self.now.asked.now.check ≡ false → HoldsPut (S.holds store.new) self.now.asked.now.output (λ b. b ≡ text.now)) }
-        ensures kept { IfOk result (λ s. s ≡ 0 → self.now.asked.now.check ≡ false → IsSome self.now.asked.now.output → self.now.asked.now.drop_unknown ≡ false → KeepsAll kind self.now.bytes.now) }
-        ensures refused { IfOk result (λ s. s ≡ 1 → WouldLose kind self.now.asked.now self.now.bytes.now ⊎ ((self.now.asked.now.check ≡ true) × (text.now ≢ self.now.bytes.now))) }
+        ensures put { IfOk result (λ s. s ≡ 0 → self.now.asked.now.check ≡ false → HoldsPut (S.holds store.new) self.now.asked.now.output (λ b. IsKindIn self.now.asked.now.kind self.now.asked.now.file.now (Some b) kind × (b ≡ text.now))) }
+        ensures kept { IfOk result (λ s. s ≡ 0 → self.now.asked.now.check ≡ false → IsSome self.now.asked.now.output → self.now.asked.now.drop_unknown ≡ false → KeepsAll self.now.asked.now.keep_unknown kind self.now.bytes.now) }
+        ensures refused { IfOk result (λ s. s ≡ 1 → WouldLose kind self.now.asked.now self.now.bytes.now ⊎ (WouldChangeKind kind self.now.asked.now text.now ⊎ ((self.now.asked.now.check ≡ true) × (text.now ≢ self.now.bytes.now)))) }
     {
         let loses = self.would_lose(kind, errors)?;
         if loses {
+            return Ok(1);
+        }
+        let changes = self.would_change_kind(kind, text, errors)?;
+        if changes {
             return Ok(1);
         }
         self.say_what_changes(kind, left_out, text, errors)?;
         self.put(text, store, writer, errors)
     }
 
+    /// Whether a file would be written that is found to be of another kind, or of none; that is said on standard error, also of what is
+    /// written elsewhere.
+    fn would_change_kind<E: Write>(&self, kind: Kind, text: &[u8], errors: &mut E) -> Result<bool>
+        ensures changed { IfOk result (λ b. b ≡ true → WouldChangeKind kind self.now.asked.now text.now) }
+        ensures same { IfOk result (λ b. b ≡ false → self.now.asked.now.check ≡ false → IsSome self.now.asked.now.output → IsKindIn self.now.asked.now.kind self.now.asked.now.file.now (Some text.now) kind) }
+    {
+        let asked = self.asked;
+        if asked.check {
+            return Ok(false);
+        }
+        let other = kind_in(asked.kind, asked.file, text, self.alloc)?;
+        if is_kind(other, kind) {
+            return Ok(false);
+        }
+        say_other_kind(asked, kind, other, self.alloc, errors)?;
+        Ok(asked.output.is_some())
+    }
+
     /// Whether members would be left out of a file unasked, which is said on standard error.
     fn would_lose<E: Write>(&self, kind: Kind, errors: &mut E) -> Result<bool>
         ensures lost { IfOk result (λ b. b ≡ true → WouldLose kind self.now.asked.now self.now.bytes.now) }
-        ensures kept { IfOk result (λ b. b ≡ false → self.now.asked.now.check ≡ false → IsSome self.now.asked.now.output → self.now.asked.now.drop_unknown ≡ false → KeepsAll kind self.now.bytes.now) }
+        ensures kept { IfOk result (λ b. b ≡ false → self.now.asked.now.check ≡ false → IsSome self.now.asked.now.output → self.now.asked.now.drop_unknown ≡ false → KeepsAll self.now.asked.now.keep_unknown kind self.now.bytes.now) }
     {
         let Some(output) = self.asked.output else {
             return Ok(false);
@@ -335,12 +293,13 @@ impl<'a> Formatting<'a> {
             return Ok(false);
         }
         let value = Value::from_slice(self.alloc, self.bytes)?;
-        let found = lost(kind, &value, self.bytes, self.alloc)?;
+        let keep = self.asked.keep_unknown;
+        let found = lost(keep, kind, &value, self.bytes, self.alloc)?;
         if found.errors.is_empty() {
             return Ok(false);
         }
         report_findings(self.asked.file, &found, self.alloc, errors)?;
-        complain_of(output, &NOT_WRITTEN, self.alloc, errors);
+        complain_of(output, &why_not(keep), self.alloc, errors);
         Ok(true)
     }
 
@@ -353,7 +312,7 @@ impl<'a> Formatting<'a> {
         errors: &mut E,
     ) -> Result<()> {
         if !self.asked.quiet {
-            self.say_members(kind, left_out, errors)?;
+            self.say_members(kind, left_out, text, errors)?;
         }
         if self.asked.verbose {
             self.say_digest("before: ", self.bytes, errors)?;
@@ -362,17 +321,23 @@ impl<'a> Formatting<'a> {
         Ok(())
     }
 
-    /// Says which members are left out, renamed or repeated: those that were found out, or else by way of a value.
+    /// Says which members are left out, renamed or repeated: those that were found out, or else by way of a value. Of those that are kept
+    /// nothing is said.
     fn say_members<E: Write>(
         &self,
         kind: Kind,
         left_out: Option<Vec<LeftOut>>,
+        text: &[u8],
         errors: &mut E,
     ) -> Result<()> {
         let found = match left_out {
             Some(found) => found,
             None => left_out_by_value(kind, self.bytes, self.alloc)?,
         };
+        if self.asked.keep_unknown {
+            let written = Value::from_slice(self.alloc, text)?;
+            return say_left_out(&not_in(&written, found, self.alloc)?, self.alloc, errors);
+        }
         say_left_out(&found, self.alloc, errors)
     }
 
@@ -432,16 +397,5 @@ impl<'a> Formatting<'a> {
                 Ok(3)
             }
         }
-    }
-}
-
-/// The members that the canonical form lacks. Fails if out of memory, and for 4 GiB or more.
-fn lost(kind: Kind, before: &Value, bytes: &[u8], alloc: Global) -> Result<Report<'static>>
-    ensures { IfOk result (λ r. (r.errors.items ≡ []) ↔ AllKept kind (view before.now) bytes.now) }
-{
-    match lost_members(kind, before, bytes, alloc) {
-        Ok(report) => Ok(report),
-        Err(Error::OutOfMemory) => Err(OciSpecError::Memory),
-        Err(fault) => Err(OciSpecError::Other(format!(in alloc; "{fault}")?)),
     }
 }

@@ -6,6 +6,7 @@ ghost use Rattle.oci_commands.specs.Texts.{Joins};
 use crate::texts::complain;
 use oci_base::{Result, line_of};
 use oci_findings::left_out::{Change, LeftOut};
+use serde_json::Value;
 use std::alloc::{AllocError, Global};
 use std::io::Write;
 
@@ -14,6 +15,29 @@ pub fn say_left_out<E: Write>(found: &Vec<LeftOut>, alloc: Global, errors: &mut 
     let lines = left_out_lines(found, alloc)?;
     complain(lines.as_str(), errors);
     Ok(())
+}
+
+/// The members but for those that were to be left out and are in the value that is written. Fails if out of memory.
+pub fn not_in(
+    written: &Value,
+    found: Vec<LeftOut>,
+    alloc: Global,
+) -> std::result::Result<Vec<LeftOut>, AllocError> {
+    let mut left = Vec::new(alloc);
+    'each: for member in found {
+        if !is_kept(written, &member) {
+            left.push(member)?;
+        }
+    }
+    Ok(left)
+}
+
+/// Whether a member that was to be left out is in the value.
+fn is_kept(written: &Value, member: &LeftOut) -> bool {
+    match member.change {
+        Change::Dropped => written.pointer(member.pointer.as_str()).is_some(),
+        Change::Renamed(_) | Change::Repeated => false,
+    }
 }
 
 /// The line of each member, one behind the other.

@@ -47,6 +47,7 @@ complete -c ciderglen -n '__ciderglen_is fmt' -l compact -d 'Write no spaces; th
 complete -c ciderglen -n '__ciderglen_is fmt' -l check -d 'Write nothing; say which files are not canonical, by the exit status too'
 complete -c ciderglen -n '__ciderglen_is fmt' -s o -l output -r -F -d 'Write to this file, which is replaced as a whole'
 complete -c ciderglen -n '__ciderglen_is fmt' -s w -l write -d 'Write each file in place, as --output with its own name does'
+complete -c ciderglen -n '__ciderglen_is fmt' -l keep-unknown -d 'Write members that the schema does not list, too, in their places'
 complete -c ciderglen -n '__ciderglen_is fmt' -l drop-unknown -d 'Write a file also where members are left out of it'
 complete -c ciderglen -n '__ciderglen_is fmt' -s q -l quiet -d 'Do not say what is left out'
 complete -c ciderglen -n '__ciderglen_is fmt' -l verbose -d 'Say the digests before and after'
