@@ -1,11 +1,9 @@
 -- Digests to which references are pinned.
-use Rattle.std.proofs.Common.{◌≡◌, ◌≢◌, ◌≤◌, ◌+◌, ◌++◌, ◌∷◌, [], length, Bool, true, false, true≢false, inl, inr, ℕ, List, Option, Some, None, refl, subst, sym, ◌∙◌, arith}
-use Rattle.std.specs.Prelude.{IfSome, bytes_eq, string_bytes, option_and_then, codes}
+use Rattle.std.proofs.Common.{◌≡◌, ◌<◌, ◌≤◌, ◌+◌, ◌++◌, ◌∷◌, [], length, inl, inr, ℕ, List, Option, Some, None, refl, subst, sym, ◌∙◌, arith}
+use Rattle.std.specs.Prelude.{IfSome, string_bytes, option_and_then, codes}
 use Rattle.std.specs.Io.KnownBytes.{Appends}
 use Rattle.std.specs.Borrow.{Bor}
 use Rattle.std.proofs.lemmas.Bool.{cases_lt}
-use Rattle.std.proofs.lemmas.Slice.Eq.{bytes_eq-Decides}
-use borrow.Author.Count.{below_more}
 use Rattle.serde_json.specs.Data.{Data, null, boolean, number, string, array, object}
 use Rattle.serde_json.specs.Find.{get, get_item, at, as_array}
 use Rattle.serde_json.specs.View.{items_view}
@@ -16,13 +14,13 @@ use Rattle.oci_reference.specs.Parts.{Parts}
 use Rattle.oci_reference.specs.Replaced.{pinned}
 use Rattle.oci_reference.specs.Whole.{whole}
 use Rattle.oci_commands.specs.declared.asked.Target.{Target}
-use Rattle.oci_findings.specs.Checks.{IsAllowed}
+use Rattle.oci_findings.specs.Checks.{HasNamesOnce, IsAllowed}
 use Rattle.oci_json.specs.Engines.{ReadsAs}
 use Rattle.oci_model.specs.Means.{Means}
 use Rattle.oci_model.specs.Plain.{Plain}
 use Rattle.oci_schemas.specs.Kinds.{shape_of}
 use Rattle.oci_schemas.specs.declared.kind.Kind.TheVariants.{Index}
-use Rattle.oci_commands.specs.Pins.{HoldsOf, HoldsOnlyOf, IsTaggedAt, IsTaggedBelow, IsTaggedIn, IsTagged, IsTarget, OnSought, PinsTo}
+use Rattle.oci_commands.specs.Pins.{HoldsOf, HoldsOnlyOf, IsTaggedAt, IsTaggedBelow, IsTagged, IsTarget, OnSought, PinsTo}
 use Rattle.oci_commands.specs.declared.pins.Sought.{Sought}
 use Rattle.oci_commands.specs.declared.pins.Sought.TheVariants.{Found, Wrong, Unread}
 use Rattle.oci_commands.specs.declared.pins.Named.{Named}
@@ -41,20 +39,24 @@ tagged_held tag known bytes Unread is h = tt
 reads_one : (bytes : List ℕ) (a b : Data) → ReadsAs bytes a → ReadsAs bytes b → a ≡ b
 reads_one bytes a b (utf8, one) (also, other) = let same : Some a ≡ Some b = sym one ∙ other in cc
 
-pub is_tagged : (name tag digest bytes : List ℕ) (index : Data) → IsAllowed (Some Index) name bytes → ReadsAs bytes index → HoldsOnlyOf (IsTaggedIn index tag) digest → IsTagged tag digest bytes
-is_tagged name tag digest bytes index (kind, d, asked, reads, means) read only =
+pub is_tagged : (name tag digest bytes : List ℕ) (index : Data) → IsAllowed (Some Index) name bytes → ReadsAs bytes index → HasNamesOnce bytes → HoldsOnlyOf (IsTaggedAt index tag) digest → IsTagged tag digest bytes
+is_tagged name tag digest bytes index (kind, d, asked, reads, means) read once only =
     let same : d ≡ index = reads_one bytes d index reads read in
     let is : kind ≡ Index = cc in
     let of_kind : (p : Plain) × Means (shape_of Index) d p = subst (λ k. (p : Plain) × Means (shape_of k) d p) is means in
-    (index, read, subst (λ x. (p : Plain) × Means (shape_of Index) x p) same of_kind, only)
+    (index, read, subst (λ x. (p : Plain) × Means (shape_of Index) x p) same of_kind, once, only)
 
-pub none_tagged : (tag bytes : List ℕ) (index : Data) → ReadsAs bytes index → HoldsOf (IsTaggedIn index tag) Nothing → (digest : List ℕ) → ¬ IsTagged tag digest bytes
-none_tagged tag bytes index read none digest (d, reads, means, (is, only)) = none digest (subst (λ x. IsTaggedIn x tag digest) (reads_one bytes d index reads read) is)
+pub none_tagged : (tag bytes : List ℕ) (index : Data) → ReadsAs bytes index → HoldsOf (IsTaggedAt index tag) Nothing → (digest : List ℕ) → ¬ IsTagged tag digest bytes
+none_tagged tag bytes index read none digest (d, reads, means, once, (place, is, only)) =
+    none place digest (subst (λ x. IsTaggedAt x tag place digest) (reads_one bytes d index reads read) is)
 
-pub several_tagged : (tag bytes : List ℕ) (index : Data) → ReadsAs bytes index → HoldsOf (IsTaggedIn index tag) Several → (digest : List ℕ) → ¬ IsTagged tag digest bytes
-several_tagged tag bytes index read (a, b, one, two, differ) digest (d, reads, means, (is, only)) =
+pub several_tagged : (tag bytes : List ℕ) (index : Data) → ReadsAs bytes index → HoldsOf (IsTaggedAt index tag) Several → (digest : List ℕ) → ¬ IsTagged tag digest bytes
+several_tagged tag bytes index read (p, q, a, b, one, two, differ) digest (d, reads, means, once, (place, is, only)) =
     let same : index ≡ d = reads_one bytes index d read reads in
-    differ (only a (subst (λ x. IsTaggedIn x tag a) same one) ∙ sym (only b (subst (λ x. IsTaggedIn x tag b) same two)))
+    differ (only p a (subst (λ x. IsTaggedAt x tag p a) same one) ∙ sym (only q b (subst (λ x. IsTaggedAt x tag q b) same two)))
+
+pub twice_tagged : (tag bytes : List ℕ) → ¬ HasNamesOnce bytes → (digest : List ℕ) → ¬ IsTagged tag digest bytes
+twice_tagged tag bytes not digest (d, reads, means, once, only) = not once
 
 -- a reference with a digest that was found
 pub pins_to : (holds : List ℕ → Option (List ℕ)) (text digest : List ℕ) (target : Target) (old new : Option (List ℕ)) → IsTarget holds target digest
@@ -63,51 +65,35 @@ pins_to holds text digest target old new at (parts, is, wrote) = (digest, parts,
 
 -- ---- one place more
 
--- a name at a place has one digest
-same_digest : (index : Data) (place : ℕ) (tag a b : List ℕ) → IsTaggedAt index place tag a → IsTaggedAt index place tag b → a ≡ b
-same_digest index place tag a b (one, here, named, is) (other, also, called, be) =
-    let same : one ≡ other = cc in
-    cc
+-- a place is below the limit, or it is the limit
+split : (limit place : ℕ) {Q : Type 0} → (place < limit → Q) → (place ≡ limit → Q) → place < limit + 1 → Q
+split limit place {Q} below here lt = elim (cases_lt place limit) [ inl less ↦ below less | inr le ↦ here (omega arith) ]
 
--- it is at a lower place, or here
-split : (index : Data) (limit : ℕ) (tag digest : List ℕ) {Q : Type 0} → (IsTaggedBelow index limit tag digest → Q) → (IsTaggedAt index limit tag digest → Q) → IsTaggedBelow index (limit + 1) tag digest → Q
-split index limit tag digest {Q} below here (place, lt, is) =
-    below_more (λ p. IsTaggedAt index p tag digest → Q) limit (λ p less at. below (p, less, at)) here place lt is
+raise : (index : Data) (tag : List ℕ) (limit place : ℕ) (digest : List ℕ) → IsTaggedBelow index tag limit place digest → IsTaggedBelow index tag (limit + 1) place digest
+raise index tag limit place digest (lt, is) = (omega arith, is)
 
-raise : (index : Data) (limit : ℕ) (tag digest : List ℕ) → IsTaggedBelow index limit tag digest → IsTaggedBelow index (limit + 1) tag digest
-raise index limit tag digest (place, lt, is) = (place, omega arith, is)
+module _ (index : Data) (tag : List ℕ) (limit : ℕ) where
+  pub none_more : (found : Named) → HoldsOf (IsTaggedBelow index tag limit) found → ((digest : List ℕ) → ¬ IsTaggedAt index tag limit digest) → HoldsOf (IsTaggedBelow index tag (limit + 1)) found
+  none_more Nothing h none = λ place digest at. split limit place (λ less. h place digest (less, at.1)) (λ is. none digest (subst (λ p. IsTaggedAt index tag p digest) is at.1)) at.0
+  none_more (One d) (place, is, only) none = (
+    place,
+    raise index tag limit place d.now is,
+    λ other e at. split limit other (λ less. only other e (less, at.1)) (λ here. absurd (none e (subst (λ p. IsTaggedAt index tag p e) here at.1))) at.0,
+  )
+  none_more Several (p, q, a, b, one, two, differ) none = (p, q, a, b, raise index tag limit p a one, raise index tag limit q b two, differ)
 
-pub none_more : (index : Data) (limit : ℕ) (tag : List ℕ) (found : Named) → HoldsOf (IsTaggedBelow index limit tag) found → ((digest : List ℕ) → ¬ IsTaggedAt index limit tag digest) → HoldsOf (IsTaggedBelow index (limit + 1) tag) found
-none_more index limit tag Nothing h none = λ digest. split index limit tag digest (h digest) (none digest)
-none_more index limit tag (One d) (is, only) none = (raise index limit tag d.now is, λ other. split index limit tag other (only other) (λ here. absurd (none other here)))
-none_more index limit tag Several (a, b, one, two, differ) none = (a, b, raise index limit tag a one, raise index limit tag b two, differ)
+  pub first_more : (d : Bor (List ℕ)) → HoldsOf (IsTaggedBelow index tag limit) Nothing → IsTaggedAt index tag limit d.now → HoldsOf (IsTaggedBelow index tag (limit + 1)) (One d)
+  first_more d h here = (limit, (omega arith, here), λ other e at. split limit other (λ less. absurd (h other e (less, at.1))) (λ same. same) at.0)
 
-pub first_more : (index : Data) (limit : ℕ) (tag : List ℕ) (d : Bor (List ℕ)) → HoldsOf (IsTaggedBelow index limit tag) Nothing → IsTaggedAt index limit tag d.now → HoldsOf (IsTaggedBelow index (limit + 1) tag) (One d)
-first_more index limit tag d h here = ((limit, omega arith, here), λ other. split index limit tag other (λ below. absurd (h other below)) (λ also. same_digest index limit tag other d.now also here))
+  pub one_more : (o d : Bor (List ℕ)) → HoldsOf (IsTaggedBelow index tag limit) (One o) → IsTaggedAt index tag limit d.now → HoldsOf (IsTaggedBelow index tag (limit + 1)) Several
+  one_more o d (place, is, only) here = (place, limit, o.now, d.now, raise index tag limit place o.now is, (omega arith, here), λ same. absurd (omega (arith, same, is.0)))
 
-same_more : (index : Data) (limit : ℕ) (tag : List ℕ) (o d : Bor (List ℕ)) → HoldsOf (IsTaggedBelow index limit tag) (One o) → IsTaggedAt index limit tag d.now → o.now ≡ d.now → HoldsOf (IsTaggedBelow index (limit + 1) tag) (One d)
-same_more index limit tag o d (is, only) here same =
-    ((limit, omega arith, here), λ other. split index limit tag other (λ below. only other below ∙ same) (λ also. same_digest index limit tag other d.now also here))
-
-other_more : (index : Data) (limit : ℕ) (tag : List ℕ) (o d : Bor (List ℕ)) → HoldsOf (IsTaggedBelow index limit tag) (One o) → IsTaggedAt index limit tag d.now → o.now ≢ d.now → HoldsOf (IsTaggedBelow index (limit + 1) tag) Several
-other_more index limit tag o d (is, only) here differ = (o.now, d.now, raise index limit tag o.now is, (limit, omega arith, here), differ)
-
-pub one_more : (index : Data) (limit : ℕ) (tag : List ℕ) (o d : Bor (List ℕ)) (next : Named) → HoldsOf (IsTaggedBelow index limit tag) (One o) → IsTaggedAt index limit tag d.now → (o.now ≡ d.now → next ≡ One d)
-    → (o.now ≢ d.now → next ≡ Several) → HoldsOf (IsTaggedBelow index (limit + 1) tag) next
-one_more index limit tag o d next h here same differ = by_case (bytes_eq o.now d.now) refl
-  where
-    by_case : (b : Bool) → bytes_eq o.now d.now ≡ b → HoldsOf (IsTaggedBelow index (limit + 1) tag) next
-    by_case true e = let is : o.now ≡ d.now = (bytes_eq-Decides o.now d.now).0 e in subst (HoldsOf (IsTaggedBelow index (limit + 1) tag)) (sym (same is)) (same_more index limit tag o d h here is)
-    by_case false e =
-        let other : o.now ≢ d.now = λ is. true≢false (sym ((bytes_eq-Decides o.now d.now).1 is) ∙ e) in
-        subst (HoldsOf (IsTaggedBelow index (limit + 1) tag)) (sym (differ other)) (other_more index limit tag o d h here other)
-
-pub several_more : (index : Data) (limit : ℕ) (tag : List ℕ) → HoldsOf (IsTaggedBelow index limit tag) Several → HoldsOf (IsTaggedBelow index (limit + 1) tag) Several
-several_more index limit tag (a, b, one, two, differ) = (a, b, raise index limit tag a one, raise index limit tag b two, differ)
+  pub several_more : HoldsOf (IsTaggedBelow index tag limit) Several → HoldsOf (IsTaggedBelow index tag (limit + 1)) Several
+  several_more (p, q, a, b, one, two, differ) = (p, q, a, b, raise index tag limit p a one, raise index tag limit q b two, differ)
 
 -- nothing is below the first place
-pub none_yet : (index : Data) (tag : List ℕ) → HoldsOf (IsTaggedBelow index 0 tag) Nothing
-none_yet index tag = λ digest at. let (place, lt, is) = at in absurd (omega arith)
+pub none_yet : (index : Data) (tag : List ℕ) → HoldsOf (IsTaggedBelow index tag 0) Nothing
+none_yet index tag = λ place digest at. let (lt, is) = at in absurd (omega arith)
 
 -- ---- all places
 
@@ -131,12 +117,13 @@ no_array (Some (array ds)) place e = absurd (cc)
 no_array (Some (object ms)) place e = refl
 
 -- what has a name has it below the number of places
-low : (index : Data) (count place : ℕ) (tag digest : List ℕ) → ((q : ℕ) → count ≤ q → option_and_then (at q) (get (codes "manifests") index) ≡ None) → IsTaggedAt index place tag digest → IsTaggedBelow index count tag digest
-low index count place tag digest none (manifest, is, named, said) =
-    elim (cases_lt place count) [ inl lt ↦ (place, lt, (manifest, is, named, said)) | inr le ↦ absurd (let missing = none place le in cc) ]
+low : (index : Data) (tag : List ℕ) (count place : ℕ) (digest : List ℕ) → ((q : ℕ) → count ≤ q → option_and_then (at q) (get (codes "manifests") index) ≡ None) → IsTaggedAt index tag place digest
+    → IsTaggedBelow index tag count place digest
+low index tag count place digest none (manifest, is, named, said) =
+    elim (cases_lt place count) [ inl lt ↦ (lt, (manifest, is, named, said)) | inr le ↦ absurd (let missing = none place le in cc) ]
 
-pub all_places : (index : Data) (count : ℕ) (tag : List ℕ) (found : Named) → ((q : ℕ) → count ≤ q → option_and_then (at q) (get (codes "manifests") index) ≡ None)
-    → HoldsOf (IsTaggedBelow index count tag) found → HoldsOf (IsTaggedIn index tag) found
-all_places index count tag Nothing none h = λ digest at. let (place, is) = at in h digest (low index count place tag digest none is)
-all_places index count tag (One d) none ((place, lt, is), only) = ((place, is), λ other at. let (p, here) = at in only other (low index count p tag other none here))
-all_places index count tag Several none (a, b, (p, l, one), (q, m, two), differ) = (a, b, (p, one), (q, two), differ)
+pub all_places : (index : Data) (tag : List ℕ) (count : ℕ) (found : Named) → ((q : ℕ) → count ≤ q → option_and_then (at q) (get (codes "manifests") index) ≡ None)
+    → HoldsOf (IsTaggedBelow index tag count) found → HoldsOf (IsTaggedAt index tag) found
+all_places index tag count Nothing none h = λ place digest at. h place digest (low index tag count place digest none at)
+all_places index tag count (One d) none (place, is, only) = (place, is.1, λ other e at. only other e (low index tag count other e none at))
+all_places index tag count Several none (p, q, a, b, one, two, differ) = (p, q, a, b, one.1, two.1, differ)

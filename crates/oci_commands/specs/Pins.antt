@@ -9,6 +9,7 @@ use Rattle.oci_model.specs.Means.{Means}
 use Rattle.oci_model.specs.Plain.{Plain}
 use Rattle.oci_schemas.specs.Kinds.{shape_of}
 use Rattle.oci_schemas.specs.declared.kind.Kind.TheVariants.{Index}
+use Rattle.oci_findings.specs.Checks.{HasNamesOnce}
 use Rattle.oci_content.specs.Content.{digest_text}
 use Rattle.oci_content.specs.declared.algorithm.Algorithm.TheVariants.{Sha256}
 use Rattle.oci_reference.specs.Accepted.{Accepted}
@@ -31,24 +32,22 @@ abbrev pub digest_of : Data → Option (List ℕ)
 digest_of manifest = option_and_then as_str (get (codes "digest") manifest)
 
 -- the descriptor at a place of an index has this name and this digest
-abbrev pub IsTaggedAt : Data → ℕ → List ℕ → List ℕ → Type 0
-IsTaggedAt index place tag digest =
+abbrev pub IsTaggedAt : Data → List ℕ → ℕ → List ℕ → Type 0
+IsTaggedAt index tag place digest =
     (manifest : Data) × (option_and_then (at place) (get (codes "manifests") index) ≡ Some manifest) × (ref_name manifest ≡ Some tag) × (digest_of manifest ≡ Some digest)
 
--- some descriptor of the index has, or one at a lower place
-abbrev pub IsTaggedIn : Data → List ℕ → List ℕ → Type 0
-IsTaggedIn index tag digest = (place : ℕ) × IsTaggedAt index place tag digest
+-- the same of a place below a limit
+abbrev pub IsTaggedBelow : Data → List ℕ → ℕ → ℕ → List ℕ → Type 0
+IsTaggedBelow index tag limit place digest = (place < limit) × IsTaggedAt index tag place digest
 
-abbrev pub IsTaggedBelow : Data → ℕ → List ℕ → List ℕ → Type 0
-IsTaggedBelow index limit tag digest = (place : ℕ) × (place < limit) × IsTaggedAt index place tag digest
+-- P holds of this digest at a place, and at no other place of any
+abbrev pub HoldsOnlyOf : (ℕ → List ℕ → Type 0) → List ℕ → Type 0
+HoldsOnlyOf P digest = (place : ℕ) × P place digest × ((other : ℕ) (d : List ℕ) → P other d → other ≡ place)
 
--- P holds of this text alone
-abbrev pub HoldsOnlyOf : (List ℕ → Type 0) → List ℕ → Type 0
-HoldsOnlyOf P digest = P digest × ((other : List ℕ) → P other → other ≡ digest)
-
--- the bytes are an index in which the name is that of this digest alone
+-- the bytes are an index, in which no object has a name twice, and the one descriptor with the name has this digest
 abbrev pub IsTagged : List ℕ → List ℕ → List ℕ → Type 0
-IsTagged tag digest bytes = (index : Data) × ReadsAs bytes index × ((p : Plain) × Means (shape_of Index) index p) × HoldsOnlyOf (IsTaggedIn index tag) digest
+IsTagged tag digest bytes =
+    (index : Data) × ReadsAs bytes index × ((p : Plain) × Means (shape_of Index) index p) × HasNamesOnce bytes × HoldsOnlyOf (IsTaggedAt index tag) digest
 
 -- the digest that is asked for: a digest itself, that of the bytes of a file, or that of a descriptor by its name, where the bytes are known
 abbrev pub IsTarget : (List ℕ → Option (List ℕ)) → Target → List ℕ → Type 0
@@ -73,8 +72,8 @@ OnSought P N (Found digest) = P (string_bytes digest)
 OnSought P N Wrong = N
 OnSought P N Unread = ⊤
 
--- for how many texts P holds: none, this one alone, or several
-abbrev pub HoldsOf : (List ℕ → Type 0) → Named → Type 0
-HoldsOf P Nothing = (digest : List ℕ) → ¬ P digest
+-- at how many places P holds: at none, at one, with this digest, or at several
+abbrev pub HoldsOf : (ℕ → List ℕ → Type 0) → Named → Type 0
+HoldsOf P Nothing = (place : ℕ) (digest : List ℕ) → ¬ P place digest
 HoldsOf P (One digest) = HoldsOnlyOf P digest.now
-HoldsOf P Several = (digest other : List ℕ) × P digest × P other × (digest ≢ other)
+HoldsOf P Several = (place other : ℕ) × (digest d : List ℕ) × P place digest × P other d × (place ≢ other)

@@ -1,9 +1,10 @@
 //! What would be lost of a document, were it written.
-ghost use Rattle.std.specs.Prelude.{◌≡◌, ◌↔◌, [], IfOk};
+ghost use Rattle.std.specs.Prelude.{◌≡◌, ◌↔◌, [], true, false, IfOk};
 ghost use Rattle.serde_json.specs.View.{view};
-ghost use Rattle.oci_findings.specs.Checks.{HasNamesOnce};
+ghost use Rattle.oci_findings.specs.Checks.{AllKept, HasNamesOnce};
 ghost use Rattle.oci_commands.specs.Formats.{AllWritten};
 
+use crate::texts::report_findings;
 use json::Error;
 use oci_base::{OciSpecError, Result};
 use oci_findings::Report;
@@ -12,6 +13,7 @@ use oci_findings::repeated::repeated_findings;
 use oci_schemas::Kind;
 use serde_json::Value;
 use std::alloc::Global;
+use std::io::Write;
 
 /// Why no file was written.
 const NOT_WRITTEN: &str =
@@ -31,36 +33,59 @@ pub fn lost(
 ) -> Result<Report<'static>>
     ensures { IfOk result (λ r. (r.errors.items ≡ []) ↔ AllWritten keep kind (view before.now) bytes.now) }
 {
-    match found_lost(keep, kind, before, bytes, alloc) {
-        Ok(report) => Ok(report),
-        Err(Error::OutOfMemory) => Err(OciSpecError::Memory),
-        Err(fault) => Err(OciSpecError::Other(format!(in alloc; "{fault}")?)),
-    }
-}
-
-fn found_lost(
-    keep: bool,
-    kind: Kind,
-    before: &Value,
-    bytes: &[u8],
-    alloc: Global,
-) -> std::result::Result<Report<'static>, Error>
-    ensures { IfOk result (λ r. (r.errors.items ≡ []) ↔ AllWritten keep kind (view before.now) bytes.now) }
-{
     if keep {
-        repeated_members(bytes, alloc)
+        repeated(bytes, alloc)
     } else {
-        lost_members(kind, before, bytes, alloc)
+        all_lost(kind, before, bytes, alloc)
     }
 }
 
-/// The members whose name an earlier one of the same object has.
-fn repeated_members(bytes: &[u8], alloc: Global) -> std::result::Result<Report<'static>, Error>
+/// The members that the canonical form lacks.
+fn all_lost(kind: Kind, before: &Value, bytes: &[u8], alloc: Global) -> Result<Report<'static>>
+    ensures { IfOk result (λ r. (r.errors.items ≡ []) ↔ AllKept kind (view before.now) bytes.now) }
+{
+    match lost_members(kind, before, bytes, alloc) {
+        Ok(report) => Ok(report),
+        Err(fault) => Err(error_of(fault, alloc)),
+    }
+}
+
+/// The members whose name an earlier one of the same object has. Fails as `lost` does.
+fn repeated(bytes: &[u8], alloc: Global) -> Result<Report<'static>>
     ensures { IfOk result (λ r. (r.errors.items ≡ []) ↔ HasNamesOnce bytes.now) }
 {
-    let errors = repeated_findings(bytes, false, alloc)?;
-    let report = Report::new(errors, Vec::new(alloc), bytes, alloc)?;
-    Ok(report)
+    match repeated_findings(bytes, false, alloc) {
+        Ok(errors) => Ok(Report::new(errors, Vec::new(alloc), bytes, alloc)?),
+        Err(fault) => Err(error_of(fault, alloc)),
+    }
+}
+
+fn error_of(fault: Error, alloc: Global) -> OciSpecError {
+    match fault {
+        Error::OutOfMemory => OciSpecError::Memory,
+        fault => match format!(in alloc; "{fault}") {
+            Ok(text) => OciSpecError::Other(text),
+            Err(_) => OciSpecError::Memory,
+        },
+    }
+}
+
+/// Whether an object in the bytes of a file has a name twice, which is said on standard error.
+pub fn has_name_twice<E: Write>(
+    name: &str,
+    bytes: &[u8],
+    alloc: Global,
+    errors: &mut E,
+) -> Result<bool>
+    ensures twice { IfOk result (λ b. b ≡ true → ¬ HasNamesOnce bytes.now) }
+    ensures once { IfOk result (λ b. b ≡ false → HasNamesOnce bytes.now) }
+{
+    let found = repeated(bytes, alloc)?;
+    if found.errors.is_empty() {
+        return Ok(false);
+    }
+    report_findings(name, &found, alloc, errors)?;
+    Ok(true)
 }
 
 /// Why no file was written.

@@ -1,5 +1,5 @@
 //! The command `pin` with a digest that is not that of a descriptor's file.
-ghost use Rattle.std.specs.Prelude.{◌≡◌, ◌≢◌, ◌⊎◌, ◌≤◌, ◌+◌, ◌++◌, ◌∷◌, [], ℕ, List, None, option_map, option_and_then, codes, true, false, IfOk, IfSome, string_bytes};
+ghost use Rattle.std.specs.Prelude.{◌≡◌, ◌⊎◌, ◌≤◌, ◌+◌, ◌++◌, ◌∷◌, [], ℕ, List, None, option_map, option_and_then, codes, true, false, IfOk, IfSome, string_bytes};
 ghost use Rattle.std.specs.Io.KnownBytes.{Appends};
 ghost use Rattle.serde_json.specs.Find.{as_array, at, get};
 ghost use Rattle.serde_json.specs.View.{items_view, view};
@@ -11,11 +11,12 @@ ghost use Rattle.oci_reference.specs.Parts.{Parts};
 ghost use Rattle.oci_reference.specs.Replaced.{pinned};
 ghost use Rattle.oci_reference.specs.Whole.{whole};
 ghost use Rattle.oci_commands.specs.Done.{IsStatus};
-ghost use Rattle.oci_commands.specs.Pins.{IsTaggedAt, IsTaggedBelow, IsTaggedIn, IsTagged, ref_name, digest_of, IsTarget, PinsTo, HasNoTarget, HoldsOf, OnSought};
+ghost use Rattle.oci_commands.specs.Pins.{IsTaggedAt, IsTaggedBelow, IsTagged, ref_name, digest_of, IsTarget, PinsTo, HasNoTarget, HoldsOf, OnSought};
 ghost use Rattle.oci_commands.specs.Refused.{IsNoReference, IsNoDigest};
 
 use crate::asked::Target;
 use crate::files::Files;
+use crate::lost::has_name_twice;
 use crate::texts::{complain_of, is_digest, is_wrong, refused};
 use oci_base::Result;
 use oci_content::Algorithm;
@@ -176,15 +177,24 @@ fn by_name_in<E: Write>(
     if is_wrong(Some(Kind::Index), file, bytes, alloc, errors)? {
         return Ok(Sought::Wrong);
     }
+    if has_name_twice(file, bytes, alloc, errors)? {
+        return Ok(Sought::Wrong);
+    }
     let index = Value::from_slice(alloc, bytes)?;
     match digest_named(&index, tag) {
         Named::One(digest) => Ok(Sought::Found(String::from_str(alloc, digest)?)),
         Named::Several => {
-            say_of_name(file, tag, "several contents have the name", alloc, errors)?;
+            say_of_name(
+                file,
+                tag,
+                "several descriptors have the name",
+                alloc,
+                errors,
+            )?;
             Ok(Sought::Wrong)
         }
         Named::Nothing => {
-            say_of_name(file, tag, "no content has the name", alloc, errors)?;
+            say_of_name(file, tag, "no descriptor has the name", alloc, errors)?;
             Ok(Sought::Wrong)
         }
     }
@@ -202,20 +212,20 @@ fn say_of_name<E: Write>(
     Ok(())
 }
 
-/// The digests that have a name.
+/// The descriptors that have a name.
 #[derive(Clone, Copy)]
 pub enum Named<'a> {
     /// There is none.
     Nothing,
-    /// There is this one.
+    /// There is one, with this digest.
     One(&'a str),
     /// There are several.
     Several,
 }
 
-/// The digests of the descriptors of an index that have this name.
+/// The digest of the descriptor of an index that has this name, if it is the only one.
 fn digest_named<'a>(index: &'a Value, tag: &str) -> Named<'a>
-    ensures { HoldsOf (IsTaggedIn (view index.now) tag.now) result }
+    ensures { HoldsOf (IsTaggedAt (view index.now) tag.now) result }
 {
     let mut found = Named::Nothing;
     for place in 0..count_of(index) {
@@ -243,35 +253,23 @@ fn manifests_of(index: &Value) -> Option<&Vec<Value>>
 
 /// What is found with the descriptor at one place more.
 fn with_place<'a>(found: Named<'a>, index: &'a Value, place: usize, tag: &str) -> Named<'a>
-    requires { HoldsOf (IsTaggedBelow (view index.now) place tag.now) found }
-    ensures { HoldsOf (IsTaggedBelow (view index.now) (place + 1) tag.now) result }
+    requires { HoldsOf (IsTaggedBelow (view index.now) tag.now place) found }
+    ensures { HoldsOf (IsTaggedBelow (view index.now) tag.now (place + 1)) result }
 {
     match named_at(index, place, tag) {
         None => found,
         Some(digest) => match found {
             Named::Nothing => Named::One(digest),
-            Named::One(other) => one_or_several(other, digest),
+            Named::One(_) => Named::Several,
             Named::Several => Named::Several,
         },
     }
 }
 
-/// What two digests of a name are.
-fn one_or_several<'a>(one: &'a str, other: &'a str) -> Named<'a>
-    ensures same { one.entry.now ≡ other.entry.now → result ≡ Named.One other.entry }
-    ensures differ { one.entry.now ≢ other.entry.now → result ≡ Named.Several }
-{
-    if one == other {
-        Named::One(other)
-    } else {
-        Named::Several
-    }
-}
-
 /// The digest of the descriptor at a place of an index, if it has this name.
 fn named_at<'a>(index: &'a Value, place: usize, tag: &str) -> Option<&'a str>
-    ensures some { IfSome result (λ d. IsTaggedAt (view index.now) place tag.now d.now) }
-    ensures none { result ≡ None → (digest : List ℕ) → ¬ IsTaggedAt (view index.now) place tag.now digest }
+    ensures some { IfSome result (λ d. IsTaggedAt (view index.now) tag.now place d.now) }
+    ensures none { result ≡ None → (digest : List ℕ) → ¬ IsTaggedAt (view index.now) tag.now place digest }
 {
     let manifest = manifest_at(index, place)?;
     if ref_name_of(manifest)? != tag {

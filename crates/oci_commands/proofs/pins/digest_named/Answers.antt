@@ -8,4 +8,4 @@ loop-place-init c = none_yet (view c.args.index.now) c.args.tag.now
 
 pub returns : goal.returns
 returns c =
-    all_places (view c.args.index.now) c.loop-place.place c.args.tag.now c.loop-place.found (λ q le. c.count_of-place-end.ensures q (omega arith)) c.loop-place.invariant
+    all_places (view c.args.index.now) c.args.tag.now c.loop-place.place c.loop-place.found (λ q le. c.count_of-place-end.ensures q (omega arith)) c.loop-place.invariant

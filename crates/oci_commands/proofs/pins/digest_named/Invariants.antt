@@ -3,4 +3,4 @@ use Rattle.oci_commands.specs.Pins.{HoldsOf, IsTaggedBelow}
 use Rattle.oci_commands.proofs.pins.digest_named.Given as goal
 
 abbrev pub invariant-loop-place : goal.invariant-loop-place
-invariant-loop-place l = HoldsOf (IsTaggedBelow (view l.index) l.place l.tag) l.found
+invariant-loop-place l = HoldsOf (IsTaggedBelow (view l.index) l.tag l.place) l.found
