@@ -6,14 +6,18 @@ use Rattle.std.specs.Str.Lines.{lines}
 use Rattle.oci_content.specs.Content.{IsBy, algorithm_name, digest_text}
 use Rattle.oci_content.specs.declared.algorithm.Algorithm.{Algorithm}
 
+-- the byte is not in the text
+abbrev pub Lacks : ℕ → List ℕ → Type 0
+Lacks byte text = (i : ℕ) → i < length text → slice_index text i ≢ byte
+
 -- a line: a text without a space, two spaces, and the name of a file
 abbrev pub IsEntry : List ℕ → List ℕ → List ℕ → Type 0
-IsEntry line text name = (line ≡ text ++ 32 ∷ (32 ∷ name)) × ((i : ℕ) → i < length text → slice_index text i ≢ 32)
+IsEntry line text name = (line ≡ text ++ 32 ∷ (32 ∷ name)) × Lacks 32 text
 
--- the digest that the text is, by this algorithm; or the text alone, where it names no algorithm, behind the one that is asked for
+-- the digest that the text is, by this algorithm; or the text alone, where it has no colon, behind the one that is asked for
 abbrev pub IsSaid : Algorithm → List ℕ → Algorithm → List ℕ → Type 0
 IsSaid asked text algorithm digest =
-    (IsBy algorithm text × (digest ≡ text)) ⊎ (((a : Algorithm) → ¬ IsBy a text) × (algorithm ≡ asked) × (digest ≡ algorithm_name asked ++ 58 ∷ text))
+    (IsBy algorithm text × (digest ≡ text)) ⊎ (Lacks 58 text × (algorithm ≡ asked) × (digest ≡ algorithm_name asked ++ 58 ∷ text))
 
 -- the file that a line names has the digest that it says, where its bytes are known
 pub record Matches (holds : List ℕ → Option (List ℕ)) (asked : Algorithm) (line : List ℕ) : Type 0 where
@@ -25,7 +29,7 @@ pub record Matches (holds : List ℕ → Option (List ℕ)) (asked : Algorithm) 
   pub is_said : IsSaid asked text algorithm digest
   pub same : IfSome (holds name) (λ bytes. digest ≡ digest_text algorithm bytes)
 
--- the line names no file, or the file that it names has another digest than it says
+-- the line names no file, or says no digest of it by an algorithm that is known, or the file has another digest
 abbrev pub Differs : (List ℕ → Option (List ℕ)) → Algorithm → List ℕ → Type 0
 Differs holds asked line = (text name digest : List ℕ) (algorithm : Algorithm) → IsEntry line text name → IsSaid asked text algorithm digest
     → IfSome (holds name) (λ bytes. digest ≢ digest_text algorithm bytes)

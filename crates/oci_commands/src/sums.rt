@@ -1,10 +1,11 @@
 //! The command `digest --check`: whether files have the digests of a list.
-ghost use Rattle.std.specs.Prelude.{◌≡◌, ◌≢◌, ◌<◌, ℕ, List, None, map, length, IfOk, IfSome, string_bytes};
+ghost use Rattle.std.specs.Prelude.{◌≡◌, ◌≢◌, ◌<◌, ℕ, List, None, true, false, map, length, IfOk, IfSome, string_bytes};
 ghost use Rattle.std.specs.List.{All, HoldsAt};
 ghost use Rattle.std.specs.Str.Lines.{lines};
 ghost use Rattle.oci_content.specs.Content.{digest_text};
+ghost use Rattle.oci_content.specs.declared.algorithm.Algorithm.{Algorithm as algorithm_type};
 ghost use Rattle.oci_commands.specs.Done.{IsStatus};
-ghost use Rattle.oci_commands.specs.Sums.{IsEntry, IsSaid, Matches, Differs, AllMatch, OneDiffers};
+ghost use Rattle.oci_commands.specs.Sums.{IsEntry, IsSaid, Lacks, Matches, Differs, AllMatch, OneDiffers};
 ghost use Rattle.oci_commands.specs.declared.outcome.Outcome.TheVariants.{Right, Wrong};
 
 use crate::files::Files;
@@ -40,7 +41,8 @@ impl<'o, W, E> Drop for Outputs<'o, W, E> {
 }
 
 /// Writes a line for each file that the lists name, whether it has the digest that stands before it; digests without an algorithm are by
-/// the one that is asked for. Returns 0 if each has, 1 if one has not, or if a list has a line that is none or no line at all, and 3 if
+/// the one that is asked for. Returns 0 if each has, 1 if one has not, or if a list has a line that is none or names an algorithm that is
+/// not known, or no line at all, and 3 if
 /// a list or a file could not be read, which a line on standard error says. Fails if the lines cannot be written, or if out of memory.
 pub fn check_digests<S: Files, W: Write, E: Write>(
     asked: Algorithm,
@@ -173,14 +175,17 @@ impl Lists {
         ensures wrong { IfOk result (λ o. o ≡ Wrong → Differs (S.holds store.old) self.asked line.now) }
         ensures kept { S.holds store.new ≡ S.holds store.old }
     {
-        match entry_of(line) {
-            Some((text, name)) => {
-                let (algorithm, digest) = digest_said(self.asked, text, self.alloc)?;
+        let Some((text, name)) = entry_of(line) else {
+            say_of_line(file, number, NO_ENTRY, self.alloc, outputs.errors)?;
+            return Ok(Outcome::Wrong);
+        };
+        match digest_said(self.asked, text, self.alloc)? {
+            Some((algorithm, digest)) => {
                 self.check_file(algorithm, digest.as_str(), name, store, outputs)
             }
             None => {
-                let at = format!(in self.alloc; "{file}:{number}")?;
-                complain_of(at.as_str(), &NO_ENTRY, self.alloc, outputs.errors);
+                let fault = unknown_algorithm(text, self.alloc)?;
+                say_of_line(file, number, fault.as_str(), self.alloc, outputs.errors)?;
                 Ok(Outcome::Wrong)
             }
         }
@@ -244,19 +249,54 @@ fn entry_of(line: &str) -> Option<(&str, &str)>
     Some((text, name))
 }
 
-/// The digest that a text is, with its algorithm, or that it is behind the algorithm that is asked for.
+/// The digest that a text is, with its algorithm; one that names none is behind the algorithm that is asked for. `None` if it names another
+/// than those that are known.
 fn digest_said(
     asked: Algorithm,
     text: &str,
     alloc: Global,
-) -> std::result::Result<(Algorithm, String), AllocError>
-    ensures { IfOk result (λ r. IsSaid asked text.now r.0 (string_bytes r.1)) }
+) -> std::result::Result<Option<(Algorithm, String)>, AllocError>
+    ensures some { IfOk result (λ o. IfSome o (λ r. IsSaid asked text.now r.0 (string_bytes r.1))) }
+    ensures none { IfOk result (λ o. o ≡ None → (algorithm : algorithm_type) (digest : List ℕ) → ¬ IsSaid asked text.now algorithm digest) }
 {
     match Algorithm::of_digest(text) {
-        Some(algorithm) => Ok((algorithm, String::from_str(alloc, text)?)),
+        Some(algorithm) => Ok(Some((algorithm, String::from_str(alloc, text)?))),
         None => {
+            if has_colon(text) {
+                return Ok(None);
+            }
             let name = asked.name();
-            Ok((asked, format!(in alloc; "{name}:{text}")?))
+            Ok(Some((asked, format!(in alloc; "{name}:{text}")?)))
         }
     }
+}
+
+/// Whether a text names an algorithm: whether it has a colon.
+fn has_colon(text: &str) -> bool
+    ensures has { result ≡ true → ¬ Lacks 58 text.now }
+    ensures lacks { result ≡ false → Lacks 58 text.now }
+{
+    match text.split_once(':') {
+        Some((name, rest)) => true,
+        None => false,
+    }
+}
+
+/// That the algorithm that a text names is not known.
+fn unknown_algorithm(text: &str, alloc: Global) -> std::result::Result<String, AllocError> {
+    let (name, _) = text.split_once(':').unwrap_or((text, ""));
+    format!(in alloc; "unknown algorithm {name}; sha256, sha384 and sha512 are known")
+}
+
+/// Says what is wrong with a line of a list on standard error.
+fn say_of_line<E: Write>(
+    file: &str,
+    number: u64,
+    fault: &str,
+    alloc: Global,
+    errors: &mut E,
+) -> Result<()> {
+    let at = format!(in alloc; "{file}:{number}")?;
+    complain_of(at.as_str(), &fault, alloc, errors);
+    Ok(())
 }

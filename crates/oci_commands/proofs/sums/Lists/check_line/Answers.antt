@@ -1,14 +1,14 @@
-use Rattle.std.proofs.Common.{◌≢◌, subst}
+use Rattle.std.proofs.Common.{◌≢◌, None, refl, subst}
 use Rattle.std.specs.Prelude.{IfSome, string_bytes}
 use Rattle.std.proofs.lemmas.Result.{IfOk-weaker}
 use Rattle.oci_content.specs.Content.{digest_text}
-use Rattle.oci_commands.proofs.Entries.{line_differs}
+use Rattle.oci_commands.proofs.Entries.{line_differs, none_known}
 use Rattle.oci_commands.proofs.sums.Lists.check_line.Goals as goal
 
-pub returns-in_ok-algorithm-in-Some-clause-wrong : goal.returns-in_ok-algorithm-in-Some-clause-wrong
-returns-in_ok-algorithm-in-Some-clause-wrong g c =
+pub returns-in-Some-clause-wrong : goal.returns-in-Some-clause-wrong
+returns-in-Some-clause-wrong g c =
     IfOk-weaker c.check_file.result _ _
-    (λ o found wrong. line_differs (g.S.Files.holds c.args.store.now) c.args.self.asked c.args.line.now c.in-Some.text.now c.in-Some.name.now (string_bytes c.in_ok-algorithm-in-Some.digest) c.in_ok-algorithm-in-Some.algorithm
-    c.in-Some.ensures.one c.in_ok-algorithm-in-Some.ensures
-    (subst (λ q. IfSome (g.S.Files.holds c.args.store.now c.in-Some.name.now) (λ bytes. q ≢ digest_text c.in_ok-algorithm-in-Some.algorithm bytes)) c.as_str.ensures.value (found wrong)))
+    (λ o found wrong. line_differs (g.S.Files.holds c.args.store.now) c.args.self.asked c.args.line.now c.in-Some.text.now c.in-Some.name.now (string_bytes c.in-Some-2.digest) c.in-Some-2.algorithm
+    c.in-Some.ensures.one c.in-Some-2.ensures.some
+    (subst (λ q. IfSome (g.S.Files.holds c.args.store.now c.in-Some.name.now) (λ bytes. q ≢ digest_text c.in-Some-2.algorithm bytes)) c.as_str.ensures.value (found wrong)))
     c.check_file.ensures.wrong
