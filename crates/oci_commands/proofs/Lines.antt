@@ -4,9 +4,7 @@ use Rattle.std.specs.Io.KnownBytes.{Appends}
 use Rattle.std.proofs.lemmas.List.{append_assoc, append-nil, get_or_default, take_all}
 use Rattle.oci_content.specs.declared.algorithm.Algorithm.{Algorithm}
 use Rattle.oci_commands.specs.Done.{AppendsEach}
-use Rattle.std.specs.Borrow.{Bor}
-use Rattle.oci_doc_run.specs.Outputs.{WritesReference, WritesDigest, reference_lines, digest_lines}
-use Rattle.oci_commands.specs.Texts.{IsFileLine, AreReferenceLines, AreDigestLines, Joins}
+use Rattle.oci_commands.specs.Texts.{IsFileLine, Joins}
 use Rattle.oci_findings.proofs.Each.{one_more}
 
 -- the line of a file that nothing changed
@@ -61,14 +59,3 @@ module _ {A : Type 0} (Is : A → List ℕ → Type 0) where
   -- no item is left
   pub appends_all : (xs : List A) (i : ℕ) (old new : Option (List ℕ)) → length xs ≤ i → AppendsEach Is (take i xs) old new → AppendsEach Is xs old new
   appends_all xs i old new over h = subst (λ q. AppendsEach Is q old new) (take_all i xs over) h
-
--- the same where a command wrote the lines of a text
-pub references_more : (xs : List (Bor (List ℕ))) (i : ℕ) (d : Bor (List ℕ)) (old mid new : Option (List ℕ)) → i < length xs → AppendsEach AreReferenceLines (take i xs) old mid
-    → WritesReference (get_or xs i d).now (Appends mid new) → AppendsEach AreReferenceLines (take (i + 1) xs) old new
-references_more xs i d old mid new below before (parts, accepted, wrote) =
-    appends_more AreReferenceLines xs i d old mid new below before (reference_lines parts, (parts, accepted, refl), wrote)
-
-pub digests_more : (xs : List (Bor (List ℕ))) (i : ℕ) (d : Bor (List ℕ)) (old mid new : Option (List ℕ)) → i < length xs → AppendsEach AreDigestLines (take i xs) old mid
-    → WritesDigest (get_or xs i d).now (Appends mid new) → AppendsEach AreDigestLines (take (i + 1) xs) old new
-digests_more xs i d old mid new below before (algorithm, encoded, is, wrote) =
-    appends_more AreDigestLines xs i d old mid new below before (digest_lines algorithm encoded, (algorithm, encoded, is, refl), wrote)

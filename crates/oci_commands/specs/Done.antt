@@ -3,7 +3,6 @@ use Rattle.std.specs.Prelude.{◌≡◌, ◌⊎◌, ◌<◌, ℕ, List, length, 
 use Rattle.std.specs.List.{All, HoldsAt}
 use Rattle.std.specs.Borrow.{Bor}
 use Rattle.std.specs.Io.KnownBytes.{Appends}
-use Rattle.oci_base.specs.Digest.{IsDigestText}
 use Rattle.oci_doc_run.specs.Outputs.{WritesPinned}
 use Rattle.oci_schemas.specs.declared.kind.Kind.{Kind}
 use Rattle.oci_rules.specs.Rules.{Rule}
@@ -13,12 +12,10 @@ use Rattle.oci_findings.specs.Checks.{HasNoKind, IsRight, IsWrong}
 use Rattle.oci_commands.specs.Compared.{HoldSame, HoldUnequal}
 use Rattle.oci_commands.specs.Kinds.{IsKindLine}
 use Rattle.oci_commands.specs.Formats.{Formats, FormatsTo, HoldsPut, IsUnformatted, LosesNothing}
-use Rattle.oci_findings.specs.declared.style.Style.{Style}
-use Rattle.oci_findings.specs.declared.style.Style.TheVariants.{Text, Color, Json, Sarif, Github}
 use Rattle.oci_commands.specs.Pins.{HasNoTarget, PinsTo}
 use Rattle.oci_commands.specs.Refused.{IsNoReference, IsNoDigest, IsNoDescriptor, HasNone}
 use Rattle.oci_commands.specs.Sums.{AllMatch, OneDiffers}
-use Rattle.oci_commands.specs.Texts.{IsReference, AreReferenceLines, AreDigestLines, IsFileLine, Joins}
+use Rattle.oci_commands.specs.Texts.{IsShownReference, IsShownDigest, IsFileLine, Joins}
 
 -- the exit statuses of a command: done, the input is wrong, something could not be read or written
 abbrev pub IsStatus : ℕ → Type 0
@@ -27,22 +24,6 @@ IsStatus status = (status ≡ 0) ⊎ ((status ≡ 1) ⊎ (status ≡ 3))
 -- what is written of each item was appended
 abbrev pub AppendsEach : {A : Type 0} → (A → List ℕ → Type 0) → List A → Option (List ℕ) → Option (List ℕ) → Type 0
 AppendsEach Is items old new = (text : List ℕ) × Joins Is items text × Appends old new text
-
--- each text is a reference, and its lines were written where they are lines
-abbrev pub WroteReferences : Style → List (Bor (List ℕ)) → Option (List ℕ) → Option (List ℕ) → Type 0
-WroteReferences Text texts old new = AppendsEach AreReferenceLines texts old new
-WroteReferences Color texts old new = AppendsEach AreReferenceLines texts old new
-WroteReferences Json texts old new = All (λ t. IsReference t.now) texts
-WroteReferences Sarif texts old new = AppendsEach AreReferenceLines texts old new
-WroteReferences Github texts old new = AppendsEach AreReferenceLines texts old new
-
--- the same of digests
-abbrev pub WroteDigests : Style → List (Bor (List ℕ)) → Option (List ℕ) → Option (List ℕ) → Type 0
-WroteDigests Text texts old new = AppendsEach AreDigestLines texts old new
-WroteDigests Json texts old new = All (λ t. IsDigestText t.now) texts
-WroteDigests Sarif texts old new = AppendsEach AreDigestLines texts old new
-WroteDigests Github texts old new = AppendsEach AreDigestLines texts old new
-WroteDigests Color texts old new = AppendsEach AreDigestLines texts old new
 
 -- after status 0, where `books` are the rules of the specifications by kinds, `holds` are the bytes of files, and `old` and `new` is what was written before and after, where they are known
 abbrev pub IsDone : (Kind → List Rule) → (List ℕ → Option (List ℕ)) → Option (List ℕ) → Option (List ℕ) → Asked → Type 0
@@ -56,8 +37,8 @@ IsDone books holds old new (Format a) =
 -- the two files hold the same document
 IsDone books holds old new (Compare a) = HoldSame a.kind a.before.now (holds a.before.now) a.after.now (holds a.after.now)
 -- each text is a reference, or a digest, and its parts were written
-IsDone books holds old new (Reference style texts) = WroteReferences style texts.now old new
-IsDone books holds old new (Digest style texts) = WroteDigests style texts.now old new
+IsDone books holds old new (Reference style texts) = AppendsEach (λ t. IsShownReference style t.now) texts.now old new
+IsDone books holds old new (Digest style texts) = AppendsEach (λ t. IsShownDigest style t.now) texts.now old new
 -- the digests of the files were written
 IsDone books holds old new (FileDigests algorithm files) = AppendsEach (λ f. IsFileLine algorithm (holds f.now) f.now) files.now old new
 -- the files that the lists name have the digests that stand there

@@ -7,6 +7,7 @@ pub mod Kinds
 pub mod Laws
 pub mod Layouts
 pub mod LeftOut
+pub mod Objects
 pub mod Pins
 pub mod Refused
 pub mod Sums

@@ -1,15 +1,16 @@
 //! The command `kind`.
-ghost use Rattle.std.specs.Prelude.{◌≡◌, ◌<◌, ℕ, List, Some, None, length, IfOk, IfSome, string_bytes};
+ghost use Rattle.std.specs.Prelude.{◌≡◌, ◌<◌, ◌++◌, ℕ, List, Some, None, length, IfOk, IfSome, OnOk, string_bytes};
 ghost use Rattle.std.specs.List.{HoldsAt};
 ghost use Rattle.std.specs.Io.KnownBytes.{Appends};
 ghost use Rattle.oci_base.specs.Escaped.{IsLine};
 ghost use Rattle.oci_findings.specs.Checks.{HasNoKind};
 ghost use Rattle.oci_commands.specs.Done.{IsStatus, AppendsEach};
-ghost use Rattle.oci_commands.specs.Kinds.{IsKindText, IsShownKind, IsKindLine};
+ghost use Rattle.oci_commands.specs.Kinds.{IsKindObject, IsKindText, IsShownKind, IsKindLine, only_candidate};
 ghost use Rattle.oci_commands.specs.declared.outcome.Outcome.TheVariants.{Right, Wrong};
 
 use crate::asked::Style;
 use crate::files::Files;
+use crate::objects::{begun, ended, text_member};
 use crate::outcome::Outcome;
 use crate::texts::complain_of;
 use json::Writer;
@@ -17,7 +18,7 @@ use oci_base::{Result, line_of};
 use oci_findings::Finding;
 use oci_findings::detect::candidates;
 use oci_findings::inspect::{Reading, read_value};
-use oci_findings::render::{json_line, text_member};
+use oci_findings::render::json_line;
 use oci_json::write_text;
 use oci_schemas::Kind;
 use serde_json::Value;
@@ -119,15 +120,25 @@ fn kind_text(name: &str, kind: Kind, alloc: Global) -> std::result::Result<Strin
 }
 
 fn kind_object(name: &str, kind: Kind, alloc: Global) -> std::result::Result<String, AllocError>
-    ensures { IfOk result (λ t. IsLine (string_bytes t)) }
+    ensures { IfOk result (λ t. IsKindObject name.now kind (string_bytes t)) }
 {
-    let mut out = Writer::new(Vec::new(alloc));
-    out.begin_object()?;
+    let word = kind.word();
+    let mut out = begun(alloc)?;
     text_member(&mut out, "file", name)?;
-    text_member(&mut out, "kind", kind.word())?;
-    put_candidates(&mut out, &[kind])?;
-    out.end_object()?;
-    json_line(out, alloc)
+    text_member(&mut out, "kind", word)?;
+    put_candidate(&mut out, word)?;
+    ended(out, alloc)
+}
+
+/// Adds the only kind that is possible.
+fn put_candidate(out: &mut Writer, word: &str) -> std::result::Result<(), AllocError>
+    ensures before { OnOk result (out.new.before ≡ out.old.before) }
+    ensures tokens { OnOk result (out.new.tokens ≡ out.old.tokens ++ only_candidate word.now) }
+{
+    out.key("candidates")?;
+    out.begin_array()?;
+    out.string(word)?;
+    out.end_array()
 }
 
 /// The line of a document of which no kind was found, for this reason.

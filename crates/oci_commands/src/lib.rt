@@ -17,6 +17,7 @@ pub mod laws;
 pub mod left_out;
 pub mod lost;
 pub mod nearest;
+pub mod objects;
 pub mod outcome;
 pub mod outline;
 pub mod pins;

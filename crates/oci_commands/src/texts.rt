@@ -1,27 +1,28 @@
 //! The commands on references and digests, and what is said on standard error.
-ghost use Rattle.std.specs.Prelude.{◌≡◌, ◌⊎◌, true, false, [], Some, IfOk, IfSome, string_bytes};
-ghost use Rattle.std.specs.List.{All};
+ghost use Rattle.std.specs.Prelude.{◌≡◌, ◌⊎◌, ℕ, List, true, false, [], Some, IfOk, IfSome, string_bytes};
 ghost use Rattle.std.specs.Io.KnownBytes.{Appends};
 ghost use Rattle.oci_findings.specs.Checks.{IsAllowed};
 ghost use Rattle.oci_base.specs.Digest.{IsDigestText};
 ghost use Rattle.oci_base.specs.Escaped.{IsLine};
 ghost use Rattle.oci_doc_run.specs.Commands.{asked as asked_of, pin};
 ghost use Rattle.oci_doc_run.specs.Outputs.{Writes, WritesPinned};
-ghost use Rattle.oci_commands.specs.Done.{IsStatus, AppendsEach, WroteDigests, WroteReferences};
+ghost use Rattle.oci_commands.specs.Done.{IsStatus, AppendsEach};
+ghost use Rattle.oci_commands.specs.Objects.{line_of as line_of_tokens};
 ghost use Rattle.oci_commands.specs.Refused.{IsAtFault, IsFault, IsNoReference, IsNoDigest, IsNoDescriptor, HasNone};
-ghost use Rattle.oci_commands.specs.Texts.{IsReference, AreReferenceLines, AreDigestLines};
+ghost use Rattle.oci_commands.specs.Texts.{AreReferenceLines, AreDigestLines, IsDigestObject, IsReferenceObject, IsShownDigest, IsShownReference, reference_tokens};
 
 use crate::asked::Style;
 use crate::files::Files;
-use json::Writer;
+use crate::objects::{begun, ended, text_member, text_member_if};
 use oci_base::{OciSpecError, Result, line_of};
 use oci_doc_run::{Command, Refusal};
 use oci_findings::Report;
 use oci_findings::inspect::inspect;
-use oci_findings::render::{lines_of, text_member};
+use oci_findings::render::lines_of;
 use oci_json::write_text;
 use oci_reference::{ParseError, Reference};
 use oci_schemas::Kind;
+use oci_text::Digest;
 use std::alloc::{AllocError, Global};
 use std::io::Write;
 use std::{fmt, io};
@@ -86,8 +87,8 @@ pub(crate) fn is_wrong<E: Write>(
     Ok(true)
 }
 
-/// Writes the parts of each reference. Returns 0 if each text is a reference, and 1 if one is none, which a line on standard error
-/// says; the others are written all the same. Fails if they cannot be written, or if out of memory.
+/// Writes the parts of each reference, or an object a line. Returns 0 if each text is a reference, and 1 if one is none, which a line on
+/// standard error says; the others are written all the same. Fails if they cannot be written, or if out of memory.
 pub fn references<W: Write, E: Write>(
     style: Style,
     texts: &[&str],
@@ -96,53 +97,47 @@ pub fn references<W: Write, E: Write>(
     errors: &mut E,
 ) -> Result<u8>
     ensures status { IfOk result IsStatus }
-    ensures right { IfOk result (λ s. s ≡ 0 → WroteReferences style texts.now (W.contents writer.old) (W.contents writer.new)) }
+    ensures right { IfOk result (λ s. s ≡ 0 → AppendsEach (λ t. IsShownReference style t.now) texts.now (W.contents writer.old) (W.contents writer.new)) }
     ensures wrong { IfOk result (λ s. s ≡ 1 → HasNone IsNoReference texts.now) }
+{
+    let mut wrong = false;
+    for text in texts {
+        if !show_reference(style, text, alloc, writer, errors)? {
+            wrong = true;
+        }
+    }
+    Ok(if wrong { 1 } else { 0 })
+}
+
+/// Writes what is shown of a reference, and returns whether that was done. If the text is none, a line on standard error says why.
+fn show_reference<W: Write, E: Write>(
+    style: Style,
+    text: &str,
+    alloc: Global,
+    writer: &mut W,
+    errors: &mut E,
+) -> Result<bool>
+    ensures right { IfOk result (λ b. b ≡ true → (shown : List ℕ) × IsShownReference style text.now shown × Appends (W.contents writer.old) (W.contents writer.new) shown) }
+    ensures wrong { IfOk result (λ b. b ≡ false → IsNoReference text.now) }
 {
     match style {
-        Style::Json => reference_objects(texts, alloc, writer, errors),
+        Style::Json => reference_as_json(text, alloc, writer, errors),
         Style::Text | Style::Color | Style::Sarif | Style::Github => {
-            reference_lines(texts, alloc, writer, errors)
+            reference_as_lines(text, alloc, writer, errors)
         }
     }
 }
 
-fn reference_lines<W: Write, E: Write>(
-    texts: &[&str],
+fn reference_as_lines<W: Write, E: Write>(
+    text: &str,
     alloc: Global,
     writer: &mut W,
     errors: &mut E,
-) -> Result<u8>
-    ensures status { IfOk result IsStatus }
-    ensures right { IfOk result (λ s. s ≡ 0 → AppendsEach AreReferenceLines texts.now (W.contents writer.old) (W.contents writer.new)) }
-    ensures wrong { IfOk result (λ s. s ≡ 1 → HasNone IsNoReference texts.now) }
+) -> Result<bool>
+    ensures right { IfOk result (λ b. b ≡ true → (shown : List ℕ) × AreReferenceLines text.now shown × Appends (W.contents writer.old) (W.contents writer.new) shown) }
+    ensures wrong { IfOk result (λ b. b ≡ false → IsNoReference text.now) }
 {
-    let mut wrong = false;
-    for text in texts {
-        if !perform(Command::Reference(text), text, alloc, writer, errors)? {
-            wrong = true;
-        }
-    }
-    Ok(if wrong { 1 } else { 0 })
-}
-
-fn reference_objects<W: Write, E: Write>(
-    texts: &[&str],
-    alloc: Global,
-    writer: &mut W,
-    errors: &mut E,
-) -> Result<u8>
-    ensures status { IfOk result IsStatus }
-    ensures right { IfOk result (λ s. s ≡ 0 → All (λ t. IsReference t.now) texts.now) }
-    ensures wrong { IfOk result (λ s. s ≡ 1 → HasNone IsNoReference texts.now) }
-{
-    let mut wrong = false;
-    for text in texts {
-        if !reference_as_json(text, alloc, writer, errors)? {
-            wrong = true;
-        }
-    }
-    Ok(if wrong { 1 } else { 0 })
+    perform(Command::Reference(text), text, alloc, writer, errors)
 }
 
 fn reference_as_json<W: Write, E: Write>(
@@ -151,13 +146,13 @@ fn reference_as_json<W: Write, E: Write>(
     writer: &mut W,
     errors: &mut E,
 ) -> Result<bool>
-    ensures right { IfOk result (λ b. b ≡ true → IsReference text.now) }
+    ensures right { IfOk result (λ b. b ≡ true → (shown : List ℕ) × IsReferenceObject text.now shown × Appends (W.contents writer.old) (W.contents writer.new) shown) }
     ensures wrong { IfOk result (λ b. b ≡ false → IsNoReference text.now) }
 {
     match Reference::from_str(alloc, text) {
         Ok(reference) => {
             let line = reference_object(text, &reference, alloc)?;
-            write_text(line.as_slice(), writer)?;
+            write_text(line.as_bytes(), writer)?;
             Ok(true)
         }
         Err(error) => refused(Refusal::Reference(error), text, alloc, errors),
@@ -212,54 +207,19 @@ pub(crate) fn refused<E: Write>(
 }
 
 /// The object of a reference's parts.
-fn reference_object(text: &str, reference: &Reference, alloc: Global) -> Result<Vec<u8>> {
+fn reference_object(text: &str, reference: &Reference, alloc: Global) -> Result<String>
+    ensures { IfOk result (λ t. string_bytes t ≡ line_of_tokens (reference_tokens text.now reference.now)) }
+{
     let whole = reference.whole()?;
-    Ok(object_line(text, reference, whole.as_str(), alloc)?)
-}
-
-fn object_line(
-    text: &str,
-    reference: &Reference,
-    whole: &str,
-    alloc: Global,
-) -> std::result::Result<Vec<u8>, AllocError> {
-    let mut out = Writer::new(Vec::new(alloc));
-    put_reference(&mut out, text, reference, whole)?;
-    let mut line = out.into_inner();
-    line.push(b'\n')?;
-    Ok(line)
-}
-
-fn put_reference(
-    out: &mut Writer,
-    text: &str,
-    reference: &Reference,
-    whole: &str,
-) -> std::result::Result<(), AllocError> {
-    out.begin_object()?;
-    text_member(out, "input", text)?;
-    put_parts(out, reference)?;
-    text_member(out, "whole", whole)?;
-    text_member(out, "resolve", reference.resolve_registry())?;
-    out.end_object()
-}
-
-fn put_parts(out: &mut Writer, reference: &Reference) -> std::result::Result<(), AllocError> {
-    text_member(out, "registry", reference.registry())?;
-    text_member(out, "repository", reference.repository())?;
-    member_if(out, "tag", reference.tag())?;
-    member_if(out, "digest", reference.digest())
-}
-
-fn member_if(
-    out: &mut Writer,
-    name: &str,
-    value: Option<&str>,
-) -> std::result::Result<(), AllocError> {
-    match value {
-        Some(value) => text_member(out, name, value),
-        None => Ok(()),
-    }
+    let mut out = begun(alloc)?;
+    text_member(&mut out, "input", text)?;
+    text_member(&mut out, "registry", reference.registry())?;
+    text_member(&mut out, "repository", reference.repository())?;
+    text_member_if(&mut out, "tag", reference.tag())?;
+    text_member_if(&mut out, "digest", reference.digest())?;
+    text_member(&mut out, "whole", whole.as_str())?;
+    text_member(&mut out, "resolve", reference.resolve_registry())?;
+    Ok(ended(out, alloc)?)
 }
 
 /// Writes the parts of each digest, as `references` does.
@@ -271,51 +231,64 @@ pub fn digests<W: Write, E: Write>(
     errors: &mut E,
 ) -> Result<u8>
     ensures status { IfOk result IsStatus }
-    ensures right { IfOk result (λ s. s ≡ 0 → WroteDigests style texts.now (W.contents writer.old) (W.contents writer.new)) }
-    ensures wrong { IfOk result (λ s. s ≡ 1 → HasNone IsNoDigest texts.now) }
-{
-    match style {
-        Style::Json => digest_objects(texts, alloc, writer, errors),
-        Style::Text | Style::Color | Style::Sarif | Style::Github => digest_lines(
-            texts, alloc, writer, errors,
-        ),
-    }
-}
-
-fn digest_objects<W: Write, E: Write>(
-    texts: &[&str],
-    alloc: Global,
-    writer: &mut W,
-    errors: &mut E,
-) -> Result<u8>
-    ensures status { IfOk result IsStatus }
-    ensures right { IfOk result (λ s. s ≡ 0 → All (λ t. IsDigestText t.now) texts.now) }
+    ensures right { IfOk result (λ s. s ≡ 0 → AppendsEach (λ t. IsShownDigest style t.now) texts.now (W.contents writer.old) (W.contents writer.new)) }
     ensures wrong { IfOk result (λ s. s ≡ 1 → HasNone IsNoDigest texts.now) }
 {
     let mut wrong = false;
     for text in texts {
-        if !digest_as_json(text, alloc, writer, errors)? {
+        if !show_digest(style, text, alloc, writer, errors)? {
             wrong = true;
         }
     }
     Ok(if wrong { 1 } else { 0 })
 }
 
-/// Writes the object of a digest's parts, and returns whether that was done. If the text is no digest, a line on standard error says why.
+/// Writes what is shown of a digest, and returns whether that was done. If the text is none, a line on standard error says why.
+fn show_digest<W: Write, E: Write>(
+    style: Style,
+    text: &str,
+    alloc: Global,
+    writer: &mut W,
+    errors: &mut E,
+) -> Result<bool>
+    ensures right { IfOk result (λ b. b ≡ true → (shown : List ℕ) × IsShownDigest style text.now shown × Appends (W.contents writer.old) (W.contents writer.new) shown) }
+    ensures wrong { IfOk result (λ b. b ≡ false → IsNoDigest text.now) }
+{
+    match style {
+        Style::Json => digest_as_json(text, alloc, writer, errors),
+        Style::Text | Style::Color | Style::Sarif | Style::Github => digest_as_lines(
+            text, alloc, writer, errors,
+        ),
+    }
+}
+
+fn digest_as_lines<W: Write, E: Write>(
+    text: &str,
+    alloc: Global,
+    writer: &mut W,
+    errors: &mut E,
+) -> Result<bool>
+    ensures right { IfOk result (λ b. b ≡ true → (shown : List ℕ) × AreDigestLines text.now shown × Appends (W.contents writer.old) (W.contents writer.new) shown) }
+    ensures wrong { IfOk result (λ b. b ≡ false → IsNoDigest text.now) }
+{
+    perform(Command::Digest(text), text, alloc, writer, errors)
+}
+
 fn digest_as_json<W: Write, E: Write>(
     text: &str,
     alloc: Global,
     writer: &mut W,
     errors: &mut E,
 ) -> Result<bool>
-    ensures right { IfOk result (λ b. b ≡ true → IsDigestText text.now) }
+    ensures right { IfOk result (λ b. b ≡ true → (shown : List ℕ) × IsDigestObject text.now shown × Appends (W.contents writer.old) (W.contents writer.new) shown) }
     ensures wrong { IfOk result (λ b. b ≡ false → IsNoDigest text.now) }
 {
     if !is_digest(text, alloc, errors)? {
         return Ok(false);
     }
-    let line = digest_object(text, alloc)?;
-    write_text(line.as_slice(), writer)?;
+    let digest = Digest::from_str(alloc, text)?;
+    let line = digest_object(&digest, alloc)?;
+    write_text(line.as_bytes(), writer)?;
     Ok(true)
 }
 
@@ -329,36 +302,14 @@ pub(crate) fn is_digest<E: Write>(text: &str, alloc: Global, errors: &mut E) -> 
 }
 
 /// The object of a digest's parts.
-fn digest_object(text: &str, alloc: Global) -> std::result::Result<Vec<u8>, AllocError> {
-    let (algorithm, encoded) = text.split_once(':').unwrap_or((text, ""));
-    let mut out = Writer::new(Vec::new(alloc));
-    out.begin_object()?;
-    text_member(&mut out, "input", text)?;
-    text_member(&mut out, "algorithm", algorithm)?;
-    text_member(&mut out, "encoded", encoded)?;
-    out.end_object()?;
-    let mut line = out.into_inner();
-    line.push(b'\n')?;
-    Ok(line)
-}
-
-fn digest_lines<W: Write, E: Write>(
-    texts: &[&str],
-    alloc: Global,
-    writer: &mut W,
-    errors: &mut E,
-) -> Result<u8>
-    ensures status { IfOk result IsStatus }
-    ensures right { IfOk result (λ s. s ≡ 0 → AppendsEach AreDigestLines texts.now (W.contents writer.old) (W.contents writer.new)) }
-    ensures wrong { IfOk result (λ s. s ≡ 1 → HasNone IsNoDigest texts.now) }
+fn digest_object(digest: &Digest, alloc: Global) -> std::result::Result<String, AllocError>
+    ensures { IfOk result (λ t. IsDigestObject digest.now (string_bytes t)) }
 {
-    let mut wrong = false;
-    for text in texts {
-        if !perform(Command::Digest(text), text, alloc, writer, errors)? {
-            wrong = true;
-        }
-    }
-    Ok(if wrong { 1 } else { 0 })
+    let mut out = begun(alloc)?;
+    text_member(&mut out, "input", digest.as_ref())?;
+    text_member(&mut out, "algorithm", digest.algorithm().as_ref())?;
+    text_member(&mut out, "encoded", digest.digest())?;
+    ended(out, alloc)
 }
 
 /// Writes the reference with the digest of the descriptor in a file. Returns 0 if that was done, 1 if the text is no reference or the
