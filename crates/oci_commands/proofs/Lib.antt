@@ -6,6 +6,7 @@ pub mod Forms
 pub mod Held
 pub mod Layouts
 pub mod Lines
+pub mod Rows
 pub mod Sides
 pub mod Targets
 pub mod Written

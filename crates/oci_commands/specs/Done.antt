@@ -9,6 +9,7 @@ use Rattle.oci_rules.specs.Rules.{Rule}
 use Rattle.oci_commands.specs.declared.asked.Asked.{Asked}
 use Rattle.oci_commands.specs.declared.asked.Asked.TheVariants.{Check, Format, Compare, Reference, Digest, FileDigests, CheckDigests, Pin, PinTo, Tree, Rules, Explain, Schema, Kinds}
 use Rattle.oci_findings.specs.Checks.{HasNoKind, IsRight, IsWrong}
+use Rattle.oci_commands.specs.Books.{IsNoKind, WroteRules}
 use Rattle.oci_commands.specs.Compared.{HoldSame, HoldUnequal}
 use Rattle.oci_commands.specs.Kinds.{IsKindLine}
 use Rattle.oci_commands.specs.Formats.{Formats, FormatsTo, HoldsPut, IsUnformatted, LosesNothing}
@@ -48,7 +49,8 @@ IsDone books holds old new (Pin text file) = WritesPinned text.now (holds file.n
 -- or with the digest that was asked for
 IsDone books holds old new (PinTo text target) = PinsTo holds text.now target old new
 IsDone books holds old new (Tree file) = ⊤
-IsDone books holds old new (Rules style name) = ⊤
+-- the rules of all kinds, or of one, were written
+IsDone books holds old new (Rules style name) = WroteRules books style name old new
 IsDone books holds old new (Explain name) = ⊤
 IsDone books holds old new (Schema outline kind) = ⊤
 -- each document is of one kind, and its line was written
@@ -78,6 +80,8 @@ IsRejected books holds (Pin text file) = IsNoReference text.now ⊎ IfSome (hold
 -- one of the documents is no JSON, or of no kind, or possibly of several
 IsRejected books holds (Kinds style files) = (i : ℕ) × (i < length files.now) × HoldsAt (λ f. IfSome (holds f.now) (HasNoKind None f.now)) files.now i
 IsRejected books holds (PinTo text target) = IsNoReference text.now ⊎ HasNoTarget holds target
+-- the name is that of no kind of documents; of a rule nothing is said
+IsRejected books holds (Rules style name) = IsNoKind name
 IsRejected books holds _ = ⊤
 
 -- the command writes neither output nor file

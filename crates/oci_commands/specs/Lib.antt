@@ -1,4 +1,5 @@
 pub mod Archives
+pub mod Books
 pub mod Compared
 pub mod Done
 pub mod Formats

@@ -1,4 +1,10 @@
 //! The books of rules, for people.
+ghost use Rattle.std.specs.Prelude.{◌≡◌, ◌++◌, ◌∷◌, List, ℕ, map, IfOk, OnOk, string_bytes};
+ghost use Rattle.std.specs.List.{flat_map};
+ghost use Rattle.oci_base.specs.Names.{is_listed};
+ghost use Rattle.oci_rules.specs.Tables.{rule_of};
+ghost use Rattle.oci_commands.specs.Books.{apart, AreAllRules, IsRow, IsSection, Rows, with_new};
+
 use oci_findings::RuleBooks;
 use oci_rules::{Platforms, Rule, RuntimePlatform, Step};
 use oci_schemas::{KINDS, Kind};
@@ -25,43 +31,66 @@ pub fn rules_of_kind<B: RuleBooks>(
     books: &B,
     kind: Kind,
     alloc: Global,
-) -> Result<String, AllocError> {
-    let mut text = String::from_str(alloc, kind.title())?;
-    text.push_str("\n")?;
-    let mut there = Vec::new(alloc);
-    for book in books.books_of(kind, alloc)? {
-        push_new_rules(&mut text, &mut there, book, alloc)?;
+) -> Result<String, AllocError>
+    ensures { IfOk result (λ t. IsSection (B.rules books.now kind) (string_bytes t)) }
+{
+    let mut rows = Vec::new(alloc);
+    let found = books.books_of(kind, alloc)?;
+    for book in &found {
+        add_rows(&mut rows, book, alloc)?;
     }
-    Ok(text)
+    section_of(kind.title(), &rows, alloc)
 }
 
-/// Adds the rules of a book, but for those that are there: those of the same name that want the same.
-fn push_new_rules<'a>(
-    text: &mut String,
-    there: &mut Vec<&'a Rule<'a>>,
-    book: &'a [Rule<'a>],
-    alloc: Global,
-) -> Result<(), AllocError> {
+/// Adds the row of each rule of a book, unless it is there.
+fn add_rows(rows: &mut Vec<String>, book: &[Rule<'_>], alloc: Global) -> Result<(), AllocError>
+    ensures { OnOk result (Rows (map rule_of book.now) (map string_bytes rows.old.items) (map string_bytes rows.new.items)) }
+{
     for rule in book {
-        if !is_there(there, rule) {
-            there.push(rule)?;
-            push_rule(text, rule, alloc)?;
-        }
+        let row = row_of(rule, alloc)?;
+        add_new(rows, row)?;
     }
     Ok(())
 }
 
-fn is_there(there: &Vec<&Rule<'_>>, rule: &Rule<'_>) -> bool {
-    for other in there {
-        if other.name == rule.name && other.wanted == rule.wanted {
+/// Adds a row, unless it is there.
+fn add_new(rows: &mut Vec<String>, row: String) -> Result<(), AllocError>
+    ensures { OnOk result (map string_bytes rows.new.items ≡ with_new (string_bytes row) (map string_bytes rows.old.items)) }
+{
+    if !has_text(rows, row.as_str()) {
+        rows.push(row)?;
+    }
+    Ok(())
+}
+
+/// Whether a text is one of these.
+pub(crate) fn has_text(texts: &Vec<String>, text: &str) -> bool
+    ensures { result ≡ is_listed (map string_bytes texts.now.items) text.now }
+{
+    for it in texts {
+        if it.as_str() == text {
             return true;
         }
     }
     false
 }
 
+/// The title, and the rows one behind the other.
+fn section_of(title: &str, rows: &Vec<String>, alloc: Global) -> Result<String, AllocError>
+    ensures { IfOk result (λ t. string_bytes t ≡ title.now ++ 10 ∷ flat_map string_bytes rows.now.items) }
+{
+    let mut text = String::from_str(alloc, title)?;
+    text.push_str("\n")?;
+    for row in rows {
+        text.push_str(row.as_str())?;
+    }
+    Ok(text)
+}
+
 /// The rules of all kinds, and in the last line the versions of the specifications that they hold to.
-pub fn all_rules<B: RuleBooks + Versions>(books: &B, alloc: Global) -> Result<String, AllocError> {
+pub fn all_rules<B: RuleBooks + Versions>(books: &B, alloc: Global) -> Result<String, AllocError>
+    ensures { IfOk result (λ t. AreAllRules (B.rules books.now) (string_bytes t)) }
+{
     let mut text = String::new(alloc);
     for kind in &KINDS {
         push_rules(&mut text, books, *kind, alloc)?;
@@ -78,7 +107,9 @@ fn push_rules<B: RuleBooks>(
     books: &B,
     kind: Kind,
     alloc: Global,
-) -> Result<(), AllocError> {
+) -> Result<(), AllocError>
+    ensures { OnOk result ((section : List ℕ) × IsSection (B.rules books.now kind) section × (string_bytes text.new ≡ apart (string_bytes text.old) section)) }
+{
     let rules = rules_of_kind(books, kind, alloc)?;
     if !text.is_empty() {
         text.push_str("\n")?;
@@ -87,10 +118,17 @@ fn push_rules<B: RuleBooks>(
 }
 
 fn push_rule(text: &mut String, rule: &Rule<'_>, alloc: Global) -> Result<(), AllocError> {
+    let row = row_of(rule, alloc)?;
+    text.push_str(row.as_str())
+}
+
+/// The row of a rule: its name, its level and section, and what it wants.
+fn row_of(rule: &Rule<'_>, alloc: Global) -> Result<String, AllocError>
+    ensures { IfOk result (λ t. IsRow (rule_of rule.now) (string_bytes t)) }
+{
     let (name, wanted) = (rule.name, rule.wanted);
     let (level, section) = (rule.level.word(), rule.section);
-    let row = format!(in alloc; "  {name} [{level}: {section}]: {wanted}\n")?;
-    text.push_str(row.as_str())
+    format!(in alloc; "  {name} [{level}: {section}]: {wanted}\n")
 }
 
 /// The rules of a name, each thing that they want with the places at which it is; none if there is no such rule.

@@ -1,5 +1,5 @@
 //! The books of rules, for programs: an object a line for each rule of a kind of documents.
-use crate::books::push_place;
+use crate::books::{has_text, push_place};
 use json::Writer;
 use oci_findings::RuleBooks;
 use oci_findings::render::{json_line, text_member};
@@ -148,15 +148,6 @@ fn place_text(rule: &Rule<'_>, alloc: Global) -> Result<String, AllocError> {
     }
     let steps = steps.as_str();
     format!(in alloc; "/{steps}")
-}
-
-fn has_text(texts: &Vec<String>, text: &str) -> bool {
-    for it in texts {
-        if it.as_str() == text {
-            return true;
-        }
-    }
-    false
 }
 
 fn object_line(kind: Kind, gathered: &Gathered, alloc: Global) -> Result<String, AllocError> {

@@ -1,5 +1,6 @@
 //! The commands `rules` and `schema`.
-ghost use Rattle.std.specs.Prelude.{IfOk};
+ghost use Rattle.std.specs.Prelude.{◌≡◌, None, IfOk, IfSome, string_bytes};
+ghost use Rattle.oci_commands.specs.Books.{AreRulesNamed, AreShownRules, IsNoKind, WroteRules};
 ghost use Rattle.oci_commands.specs.Done.{IsStatus};
 
 use crate::asked::{Outline, Style};
@@ -26,7 +27,9 @@ pub fn rules<B: RuleBooks + Versions, W: Write, E: Write>(
     writer: &mut W,
     errors: &mut E,
 ) -> Result<u8>
-    ensures { IfOk result IsStatus }
+    ensures status { IfOk result IsStatus }
+    ensures done { IfOk result (λ s. s ≡ 0 → WroteRules (B.rules books.now) style name.entry (W.contents writer.old) (W.contents writer.new)) }
+    ensures wrong { IfOk result (λ s. s ≡ 1 → IsNoKind name.entry) }
 {
     match chosen(books, style, name, alloc)? {
         Some(text) => {
@@ -68,7 +71,10 @@ fn chosen<B: RuleBooks + Versions>(
     style: Style,
     name: Option<&str>,
     alloc: Global,
-) -> std::result::Result<Option<String>, AllocError> {
+) -> std::result::Result<Option<String>, AllocError>
+    ensures some { IfOk result (λ o. IfSome o (λ t. AreShownRules (B.rules books.now) style name.entry (string_bytes t))) }
+    ensures none { IfOk result (λ o. o ≡ None → IsNoKind name.entry) }
+{
     match style {
         Style::Json => objects(books, name, alloc),
         Style::Text | Style::Color | Style::Sarif | Style::Github => text_of(books, name, alloc),
@@ -80,14 +86,25 @@ fn objects<B: RuleBooks>(
     books: &B,
     name: Option<&str>,
     alloc: Global,
-) -> std::result::Result<Option<String>, AllocError> {
-    let text = match name {
+) -> std::result::Result<Option<String>, AllocError>
+    ensures { IfOk result (λ o. o ≡ None → IsNoKind name.entry) }
+{
+    match name {
+        None => Ok(Some(objects_of_rules(books, None, alloc)?)),
         Some(name) => match kind_named(name) {
-            Some(kind) => objects_of_kind(books, kind, None, alloc)?,
-            None => objects_of_rules(books, Some(name), alloc)?,
+            Some(kind) => Ok(Some(objects_of_kind(books, kind, None, alloc)?)),
+            None => objects_named(books, name, alloc),
         },
-        None => objects_of_rules(books, None, alloc)?,
-    };
+    }
+}
+
+/// The rules of a name as JSON Lines; none if there is no such.
+fn objects_named<B: RuleBooks>(
+    books: &B,
+    name: &str,
+    alloc: Global,
+) -> std::result::Result<Option<String>, AllocError> {
+    let text = objects_of_rules(books, Some(name), alloc)?;
     Ok(if text.is_empty() { None } else { Some(text) })
 }
 
@@ -96,7 +113,10 @@ fn text_of<B: RuleBooks + Versions>(
     books: &B,
     name: Option<&str>,
     alloc: Global,
-) -> std::result::Result<Option<String>, AllocError> {
+) -> std::result::Result<Option<String>, AllocError>
+    ensures some { IfOk result (λ o. IfSome o (λ t. AreRulesNamed (B.rules books.now) name.entry (string_bytes t))) }
+    ensures none { IfOk result (λ o. o ≡ None → IsNoKind name.entry) }
+{
     match name {
         None => Ok(Some(all_rules(books, alloc)?)),
         Some(name) => match kind_named(name) {

@@ -1,0 +1,49 @@
+-- Rows of rules, each once, and sections of kinds.
+use Rattle.std.proofs.Common.{◌≡◌, ◌<◌, ◌≤◌, ◌+◌, ◌∙◌, ℕ, suc, List, [], ◌∷◌, ◌++◌, length, take, drop, map, get_or, refl, sym, ap, subst, arith, drop-cons}
+use Rattle.std.proofs.lemmas.List.{flat_map_more, take_all}
+use Rattle.std.specs.List.{flat_map}
+use Rattle.oci_rules.specs.Rules.{Rule}
+use Rattle.oci_schemas.specs.declared.kind.Kind.{Kind}
+use Rattle.oci_findings.proofs.Each.{map_both, one_more}
+use Rattle.oci_commands.specs.Books.{apart, IsRow, IsSection, Rows, Sections, with_new}
+
+rows_both : (rs qs : List Rule) (a b c : List (List ℕ)) → Rows rs a b → Rows qs b c → Rows (rs ++ qs) a c
+rows_both [] qs a b c none more = subst (λ x. Rows qs x c) none more
+rows_both (r ∷ rs) qs a b c (row, is, rest) more = (row, is, rows_both rs qs (with_new row a) b c rest more)
+
+up_to : {X : Type 0} (xs : List X) (i : ℕ) (x : X) → i < length xs → x ≡ get_or xs i x → take (i + 1) xs ≡ take i xs ++ x ∷ []
+up_to xs i x below same = let step : i + 1 ≡ suc i = omega arith in ap (λ n. take n xs) step ∙ one_more xs i x below same
+
+-- the row of one rule more
+pub row_more : {X : Type 0} (f : X → Rule) (xs : List X) (i : ℕ) (x : X) (row : List ℕ) (a b c : List (List ℕ)) → i < length xs → x ≡ get_or xs i x → Rows (map f (take i xs)) a b → IsRow (f x) row
+    → c ≡ with_new row b → Rows (map f (take (i + 1) xs)) a c
+row_more f xs i x row a b c below same before is made =
+    subst (λ q. Rows (map f q) a c) (sym (up_to xs i x below same))
+    (subst (λ q. Rows q a c) (sym (map_both f (take i xs) x)) (rows_both (map f (take i xs)) (f x ∷ []) a b c before (row, is, made)))
+
+pub row_all : {X : Type 0} (f : X → Rule) (xs : List X) (i : ℕ) (a b : List (List ℕ)) → length xs ≤ i → Rows (map f (take i xs)) a b → Rows (map f xs) a b
+row_all f xs i a b over h = subst (λ q. Rows (map f q) a b) (take_all i xs over) h
+
+-- the rows of one book more
+pub book_more : {X : Type 0} (f : X → List Rule) (xs : List X) (i : ℕ) (x : X) (a b c : List (List ℕ)) → i < length xs → x ≡ get_or xs i x → Rows (flat_map f (take i xs)) a b → Rows (f x) b c
+    → Rows (flat_map f (take (i + 1) xs)) a c
+book_more f xs i x a b c below same before more =
+    subst (λ q. Rows (flat_map f q) a c) (sym (up_to xs i x below same))
+    (subst (λ q. Rows q a c) (flat_map_more f [] (take i xs) x) (rows_both (flat_map f (take i xs)) (f x) a b c before more))
+
+pub book_all : {X : Type 0} (f : X → List Rule) (xs : List X) (i : ℕ) (a b : List (List ℕ)) → length xs ≤ i → Rows (flat_map f (take i xs)) a b → Rows (flat_map f xs) a b
+book_all f xs i a b over h = subst (λ q. Rows (flat_map f q) a b) (take_all i xs over) h
+
+-- texts that were told apart from their strings
+pub flat_of_map : {X : Type 0} (f : X → List ℕ) (xs : List X) → flat_map (λ row. row) (map f xs) ≡ flat_map f xs
+flat_of_map f [] = refl
+flat_of_map f (x ∷ xs) = ap (λ q. f x ++ q) (flat_of_map f xs)
+
+-- one section more is before what is still to come
+pub section_more : (books : Kind → List Rule) (kinds : List Kind) (i : ℕ) (kind : Kind) (now next after section : List ℕ) → i < length kinds → kind ≡ get_or kinds i kind → IsSection (books kind) section
+    → next ≡ apart now section → Sections books (drop (i + 1) kinds) next after → Sections books (drop i kinds) now after
+section_more books kinds i kind now next after section below same is made rest =
+    let step : i + 1 ≡ suc i = omega arith in
+    let cut : drop i kinds ≡ kind ∷ drop (suc i) kinds = drop-cons kinds i kind below ∙ ap (λ k. k ∷ drop (suc i) kinds) (sym same) in
+    subst (λ q. Sections books q now after) (sym cut)
+    (section, is, subst (λ q. Sections books q (apart now section) after) (ap (λ n. drop n kinds) step) (subst (λ q. Sections books (drop (i + 1) kinds) q after) made rest))

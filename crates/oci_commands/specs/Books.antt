@@ -1,0 +1,68 @@
+-- What `rules` writes.
+use Rattle.std.specs.Prelude.{◌≡◌, ◌++◌, ◌∷◌, [], ℕ, List, Option, Some, None, codes, if◌then◌else◌, ⊤}
+use Rattle.std.specs.List.{flat_map}
+use Rattle.std.specs.Borrow.{Bor}
+use Rattle.std.specs.Io.KnownBytes.{Appends}
+use Rattle.oci_base.specs.Names.{is_listed}
+use Rattle.oci_rules.specs.Rules.{Rule}
+use Rattle.oci_rules.specs.Words.{level_named}
+use Rattle.oci_schemas.specs.declared.kind.Kind.{Kind}
+use Rattle.oci_findings.specs.FoundKind.{all_kinds}
+use Rattle.oci_findings.specs.Kinds.{kind_named}
+use Rattle.oci_findings.specs.declared.style.Style.{Style}
+use Rattle.oci_findings.specs.declared.style.Style.TheVariants.{Text, Color, Json, Sarif, Github}
+
+-- the row of a rule: its name, the word for its level, its section, and what it wants
+abbrev pub IsRow : Rule → List ℕ → Type 0
+IsRow r row =
+    (level : List ℕ) × (wanted : List ℕ) × (level_named level ≡ Some r.level)
+    × (row ≡ codes "  " ++ (r.name ++ (codes " [" ++ (level ++ (codes ": " ++ (r.section ++ (codes "]: " ++ (wanted ++ 10 ∷ []))))))))
+
+-- the texts with one more, unless it is there
+abbrev pub with_new : List ℕ → List (List ℕ) → List (List ℕ)
+with_new text texts = if is_listed texts text then texts else texts ++ text ∷ []
+
+-- the rows of the rules in their order, each once, were put behind others
+abbrev pub Rows : List Rule → List (List ℕ) → List (List ℕ) → Type 0
+Rows [] before after = after ≡ before
+Rows (r ∷ rs) before after = (row : List ℕ) × IsRow r row × Rows rs (with_new row before) after
+
+-- the rules of a kind: a title, and their rows
+abbrev pub IsSection : List Rule → List ℕ → Type 0
+IsSection rules text = (title : List ℕ) × (rows : List (List ℕ)) × Rows rules [] rows × (text ≡ title ++ 10 ∷ flat_map (λ row. row) rows)
+
+-- a section behind others, with an empty line between them
+abbrev pub apart : List ℕ → List ℕ → List ℕ
+apart [] section = section
+apart (x ∷ xs) section = (x ∷ xs) ++ 10 ∷ section
+
+-- the sections of these kinds in their order, behind what there is
+abbrev pub Sections : (Kind → List Rule) → List Kind → List ℕ → List ℕ → Type 0
+Sections books [] before after = after ≡ before
+Sections books (kind ∷ kinds) before after = (section : List ℕ) × IsSection (books kind) section × Sections books kinds (apart before section) after
+
+-- those of all kinds, an empty line, and the line of the versions
+abbrev pub AreAllRules : (Kind → List Rule) → List ℕ → Type 0
+AreAllRules books text = (sections : List ℕ) × (versions : List ℕ) × Sections books all_kinds [] sections × (text ≡ sections ++ 10 ∷ (versions ++ 10 ∷ []))
+
+-- those of the kind of this name, if it is one; of a rule nothing is said
+abbrev pub AreRulesNamed : (Kind → List Rule) → Option (Bor (List ℕ)) → List ℕ → Type 0
+AreRulesNamed books None text = AreAllRules books text
+AreRulesNamed books (Some name) text = (kind : Kind) → kind_named name.now ≡ Some kind → IsSection (books kind) text
+
+-- for people; of JSON nothing is said
+abbrev pub AreShownRules : (Kind → List Rule) → Style → Option (Bor (List ℕ)) → List ℕ → Type 0
+AreShownRules books Text name text = AreRulesNamed books name text
+AreShownRules books Color name text = AreRulesNamed books name text
+AreShownRules books Json name text = ⊤
+AreShownRules books Sarif name text = AreRulesNamed books name text
+AreShownRules books Github name text = AreRulesNamed books name text
+
+-- such a text was written
+abbrev pub WroteRules : (Kind → List Rule) → Style → Option (Bor (List ℕ)) → Option (List ℕ) → Option (List ℕ) → Type 0
+WroteRules books style name old new = (text : List ℕ) × AreShownRules books style name text × Appends old new text
+
+-- the name is that of no kind
+abbrev pub IsNoKind : Option (Bor (List ℕ)) → Type 0
+IsNoKind None = ⊥
+IsNoKind (Some name) = kind_named name.now ≡ None
