@@ -99,7 +99,8 @@ pub fn kept_text(kind: Kind, pretty: bool, bytes: &[u8], alloc: Global) -> Resul
     ensures none { IfErr result (λ e. IsSerDe e → HasNoForm kind bytes.now) }
 {
     let value = kept_value(kind, bytes, alloc)?;
-    Ok(text_of(&value, pretty, alloc)?)
+    let text = text_of(&value, pretty, alloc)?;
+    Ok(text)
 }
 
 /// The value of that text.
@@ -109,7 +110,8 @@ fn kept_value(kind: Kind, bytes: &[u8], alloc: Global) -> Result<Value>
 {
     let canonical = canonical_value(kind, bytes, alloc)?;
     let read = read_value(kind, bytes, alloc)?;
-    Ok(with_unknown(&OciRecords, kind.schema(), &read, &canonical, alloc)?)
+    let whole = with_unknown(&OciRecords, kind.schema(), &read, &canonical, alloc)?;
+    Ok(whole)
 }
 
 /// The canonical form of the document in these bytes as a value.
