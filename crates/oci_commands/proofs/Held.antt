@@ -14,7 +14,7 @@ use Rattle.oci_findings.proofs.Allowed.{kind_held}
 use Rattle.oci_findings.specs.Forms.{IsForm}
 use Rattle.oci_findings.specs.declared.style.Style.{Style}
 use Rattle.oci_commands.specs.Kinds.{IsKindLine}
-use Rattle.oci_commands.specs.Formats.{Formats, FormatsAs, FormatsBy, FormatsTo, HoldsPut, WritesKept}
+use Rattle.oci_commands.specs.Formats.{Formats, FormatsAs, FormatsBy, FormatsTo, HasNoUnknown, HoldsPut, IsKeptText}
 use Rattle.oci_commands.specs.declared.asked.Format.{Format}
 
 -- what holds of the bytes that were read
@@ -66,12 +66,10 @@ as_written kind false input W V f h = document_written (shape_of kind) input W V
 as_written kind true input W V f h = pretty_written (shape_of kind) input W V f h
 
 -- the same of a text with unknown members
-kept_written : (kind : Kind) (pretty : Bool) (input : Option (List ℕ)) (W V : List ℕ → Type 0) → ((t : List ℕ) → W t → V t) → WritesKept kind pretty input W → WritesKept kind pretty input V
-kept_written kind pretty input W V f h = let (d, p, means, rest) = h in let (text, is, wrote) = rest in (d, p, means, (text, is, f text wrote))
-
 pub by_written : (keep : Bool) (kind : Kind) (pretty : Bool) (input : Option (List ℕ)) (W V : List ℕ → Type 0) → ((t : List ℕ) → W t → V t) → FormatsBy keep kind pretty input W → FormatsBy keep kind pretty input V
 by_written false kind pretty input W V f h = as_written kind pretty input W V f h
-by_written true kind pretty input W V f h = kept_written kind pretty input W V f h
+by_written true kind pretty input W V f (inl (none, h)) = inl (none, as_written kind pretty input W V f h)
+by_written true kind pretty input W V f (inr (text, made, wrote)) = inr (text, made, f text wrote)
 
 -- where neither is asked for, it is the compact text of the canonical form
 pub as_compact : (keep pretty : Bool) (kind : Kind) (input : Option (List ℕ)) (W : List ℕ → Type 0) → pretty ≡ false → keep ≡ false → FormatsBy keep kind pretty input W → FormatsAs kind false input W
@@ -97,14 +95,11 @@ as_held : (kind : Kind) (pretty : Bool) (known : Option (List ℕ)) (bytes : Lis
 as_held kind false known bytes Writes is h = document_held (shape_of kind) known bytes Writes is h
 as_held kind true known bytes Writes is h = pretty_held (shape_of kind) known bytes Writes is h
 
-kept_held : (kind : Kind) (pretty : Bool) (known : Option (List ℕ)) (bytes : List ℕ) (Writes : List ℕ → Type 0) → IfSome known (λ b. bytes ≡ b) → WritesKept kind pretty (Some bytes) Writes → WritesKept kind pretty known Writes
-kept_held kind pretty None bytes Writes is h = let (d, p, means, wrote) = h in (d, p, tt, wrote)
-kept_held kind pretty (Some b) bytes Writes is h = subst (λ x. WritesKept kind pretty (Some x) Writes) is h
-
 by_held : (keep : Bool) (kind : Kind) (pretty : Bool) (known : Option (List ℕ)) (bytes : List ℕ) (Writes : List ℕ → Type 0) → IfSome known (λ b. bytes ≡ b) → FormatsBy keep kind pretty (Some bytes) Writes
     → FormatsBy keep kind pretty known Writes
 by_held false kind pretty known bytes Writes is h = as_held kind pretty known bytes Writes is h
-by_held true kind pretty known bytes Writes is h = kept_held kind pretty known bytes Writes is h
+by_held true kind pretty known bytes Writes is (inl (none, h)) = inl (held (HasNoUnknown kind) known bytes is none, as_held kind pretty known bytes Writes is h)
+by_held true kind pretty known bytes Writes is (inr (text, made, wrote)) = inr (text, held (λ b. IsKeptText kind pretty b text × ¬ HasNoUnknown kind b) known bytes is made, wrote)
 
 pub formats_held : (a : Format) (known : Option (List ℕ)) (bytes : List ℕ) (Writes : List ℕ → Type 0) → IfSome known (λ b. bytes ≡ b) → Formats a (Some bytes) Writes → Formats a known Writes
 formats_held a known bytes Writes is h =

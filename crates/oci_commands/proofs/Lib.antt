@@ -4,6 +4,7 @@ pub mod Entries
 pub mod Faults
 pub mod Forms
 pub mod Held
+pub mod KeptRecords
 pub mod Layouts
 pub mod Lines
 pub mod Rows

@@ -20,16 +20,25 @@ abbrev pub FormatsAs : Kind → Bool → Option (List ℕ) → (List ℕ → Typ
 FormatsAs kind false input Writes = WritesDocument (shape_of kind) input Writes
 FormatsAs kind true input Writes = WritesPretty (shape_of kind) input Writes
 
--- a text of it is written in which each member that the schema does not list stands as it was read
-abbrev pub WritesKept : Kind → Bool → Option (List ℕ) → (List ℕ → Type 0) → Type 0
-WritesKept kind pretty input Writes =
-    (d : Data) × (p : Plain) × IfSome input (λ bytes. ReadsAs bytes d × MeansBytes (shape_of kind) bytes p)
-    × ((text : List ℕ) × IsTextOf pretty (kept (shape_of kind) d (json_of (shape_of kind) p)) text × Writes text)
+-- the schema of the kind lists all members of the value in the bytes
+abbrev pub HasNoUnknown : Kind → List ℕ → Type 0
+HasNoUnknown kind bytes = (d : Data) × ReadsAs bytes d × AllListed kind d
 
--- the one or the other: the latter where unknown members are to be kept
+-- the canonical form of the document, in which each member that the schema does not list stands as it was read; and a text of it
+abbrev pub IsKeptValue : Kind → List ℕ → Data → Type 0
+IsKeptValue kind bytes v = (d : Data) × (p : Plain) × ReadsAs bytes d × MeansBytes (shape_of kind) bytes p × (v ≡ kept (shape_of kind) d (json_of (shape_of kind) p))
+
+abbrev pub IsKeptText : Kind → Bool → List ℕ → List ℕ → Type 0
+IsKeptText kind pretty bytes text = (v : Data) × IsKeptValue kind bytes v × IsTextOf pretty v text
+
+-- there are such members, and the text is written
+abbrev pub WritesKept : Kind → Bool → Option (List ℕ) → (List ℕ → Type 0) → Type 0
+WritesKept kind pretty input Writes = (text : List ℕ) × IfSome input (λ bytes. IsKeptText kind pretty bytes text × ¬ HasNoUnknown kind bytes) × Writes text
+
+-- where unknown members are to be kept (first) and there are some, such a text is written, and else the canonical one
 abbrev pub FormatsBy : Bool → Kind → Bool → Option (List ℕ) → (List ℕ → Type 0) → Type 0
 FormatsBy false kind pretty input Writes = FormatsAs kind pretty input Writes
-FormatsBy true kind pretty input Writes = WritesKept kind pretty input Writes
+FormatsBy true kind pretty input Writes = (IfSome input (HasNoUnknown kind) × FormatsAs kind pretty input Writes) ⊎ WritesKept kind pretty input Writes
 
 -- the same of the file that is asked for, whose kind is the one that is asked for, or the one that is found
 abbrev pub Formats : Format → Option (List ℕ) → (List ℕ → Type 0) → Type 0

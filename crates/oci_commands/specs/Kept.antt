@@ -73,11 +73,10 @@ abbrev mutual
   kept (cap_set table) d c = c
   kept (list s) d c = in_array (each_kept (kept s) d 0) (as_array c) c
   kept (shape.map s) d c = in_object (λ cs. kept_entries (kept s) d cs no_members) (as_object c) c
-  -- the members of its objects, too, are listed nowhere
-  kept key_set d c = d
+  kept key_set d c = c
   kept detail d c = c
   kept free_map d c = c
-  kept (rows rs) d c = object (with_unlisted_in (names rs) (as_object d) (kept_rows rs d c no_members))
+  kept (rows rs) d c = in_object (λ cs. with_unlisted_in (names rs) (as_object d) (kept_rows rs d c no_members)) (as_object c) c
 
   -- the listed members, put to others; what was read of one is under its alias or its name
   pub kept_rows : Rows → Data → Data → Members → Members

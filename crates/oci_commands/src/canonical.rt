@@ -9,7 +9,7 @@ ghost use Rattle.oci_commands.specs.Done.{IsStatus};
 use crate::asked::Format;
 use crate::contents::digest_line;
 use crate::files::Files;
-use crate::forms::{canonical_text, kept_text};
+use crate::forms::{canonical_text, has_unknown, kept_text};
 use crate::left_out::{not_in, say_left_out};
 use crate::lost::{lost, why_not};
 use crate::same_kind::{is_kind, kind_in, say_other_kind};
@@ -186,7 +186,7 @@ impl<'a> Formatting<'a> {
         }
     }
 
-    /// The text that is to be written: with unknown members, where they are kept, or else the canonical form.
+    /// The text that is to be written: with unknown members, where they are kept and there are some, or else the canonical form.
     fn text_to_write(
         &self,
         kind: Kind,
@@ -197,7 +197,11 @@ impl<'a> Formatting<'a> {
         ensures ok { IfOk result (λ v. FormatsBy self.now.asked.now.keep_unknown kind self.now.asked.now.pretty (Some self.now.bytes.now) (λ t. t ≡ v.items)) }
         ensures none { IfErr result (λ e. IsSerDe e → HasNoForm kind self.now.bytes.now) }
     {
-        if self.asked.keep_unknown {
+        if !self.asked.keep_unknown {
+            return self.canonical_form(kind, found, workspace);
+        }
+        let unknown = has_unknown(kind, self.bytes, self.alloc)?;
+        if unknown {
             kept_text(kind, self.asked.pretty, self.bytes, self.alloc)
         } else {
             self.canonical_form(kind, found, workspace)

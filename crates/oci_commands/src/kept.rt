@@ -12,12 +12,12 @@ ghost use Rattle.oci_schema.specs.Reported.{names_in};
 ghost use Rattle.oci_schema.specs.Shapes.{alias_of, members_in, part_shape, schema_shape};
 ghost use Rattle.oci_commands.specs.Kept.{each_kept, kept, kept_entries, kept_or, kept_rows, kept_there, unless_listed, with_unlisted, with_unlisted_in};
 
-use oci_schema::{Member, Part, Records, Scalar, Schema};
+use oci_schema::{Member, Part, Records, Schema};
 use serde_json::{Map, Value};
 use std::alloc::{AllocError, Global};
 
-/// The canonical form of a value with each member of the value that the schema does not list, whatever it holds, in its place. Of an
-/// object that is a set of keys, all is kept. Fails if out of memory.
+/// The canonical form of a value with each member of the value that the schema does not list, whatever it holds, in its place. Fails if out
+/// of memory.
 #[cycle(keeps)]
 pub fn with_unknown<T: Records>(
     records: &T,
@@ -52,7 +52,6 @@ fn keep_part<T: Records>(
     ensures { IfOk result (λ v. view v ≡ kept (part_shape (T.shape_at records.now) part.now) (view read.now) (view canonical.now)) }
 {
     match part {
-        Part::Scalar(Scalar::Keys) => read.clone(),
         Part::Scalar(_) => canonical.clone(),
         Part::Record(place) => keep_record(records, *place, read, canonical, alloc),
     }
@@ -121,9 +120,25 @@ fn keep_record<T: Records>(
     ensures { IfOk result (λ v. view v ≡ kept (T.shape_at records.now place) (view read.now) (view canonical.now)) }
 {
     let record = records.record(place);
+    match canonical.as_object() {
+        Some(_) => keep_object(records, record.members, read, canonical, alloc),
+        None => canonical.clone(),
+    }
+}
+
+#[cycle(keeps)]
+fn keep_object<T: Records>(
+    records: &T,
+    members: &[Member],
+    read: &Value,
+    canonical: &Value,
+    alloc: Global,
+) -> Result<Value, AllocError>
+    ensures { IfOk result (λ v. view v ≡ object (with_unlisted_in (names_in members.now) (as_object (view read.now)) (kept_rows (members_in (T.shape_at records.now) members.now) (view read.now) (view canonical.now) no_members))) }
+{
     let mut made = Map::new(alloc);
-    keep_members(records, record.members, read, canonical, &mut made, alloc)?;
-    put_unlisted(record.members, read, &mut made, alloc)?;
+    keep_members(records, members, read, canonical, &mut made, alloc)?;
+    put_unlisted(members, read, &mut made, alloc)?;
     Ok(Value::Object(made))
 }
 

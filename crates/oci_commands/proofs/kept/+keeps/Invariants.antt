@@ -8,28 +8,31 @@ use Rattle.oci_commands.specs.Kept.{each_kept, kept, kept_entries, kept_rows}
 use Rattle.oci_commands.proofs.kept.+keeps.Given as goal
 
 abbrev pub decreases-with_unknown : goal.decreases-with_unknown
-decreases-with_unknown g l = 6 * size (view l.canonical.now) + 5
+decreases-with_unknown g l = 7 * size (view l.canonical.now) + 6
 
 abbrev pub decreases-keep_part_or : goal.decreases-keep_part_or
-decreases-keep_part_or g l = 6 * size (view l.canonical.now) + 4
+decreases-keep_part_or g l = 7 * size (view l.canonical.now) + 5
 
 abbrev pub decreases-keep_part : goal.decreases-keep_part
-decreases-keep_part g l = 6 * size (view l.canonical.now) + 3
+decreases-keep_part g l = 7 * size (view l.canonical.now) + 4
 
 abbrev pub decreases-keep_record : goal.decreases-keep_record
-decreases-keep_record g l = 6 * size (view l.canonical.now) + 2
+decreases-keep_record g l = 7 * size (view l.canonical.now) + 3
+
+abbrev pub decreases-keep_object : goal.decreases-keep_object
+decreases-keep_object g l = 7 * size (view l.canonical.now) + 2
 
 abbrev pub decreases-keep_members : goal.decreases-keep_members
-decreases-keep_members g l = 6 * size (view l.canonical.now) + 1
+decreases-keep_members g l = 7 * size (view l.canonical.now) + 1
 
 abbrev pub decreases-keep_member : goal.decreases-keep_member
-decreases-keep_member g l = 6 * size (view l.canonical.now)
+decreases-keep_member g l = 7 * size (view l.canonical.now)
 
 abbrev pub decreases-keep_items : goal.decreases-keep_items
-decreases-keep_items g l = 6 * items_size (items_view l.items.now.items) + 5
+decreases-keep_items g l = 7 * items_size (items_view l.items.now.items) + 6
 
 abbrev pub decreases-keep_entries : goal.decreases-keep_entries
-decreases-keep_entries g l = 6 * members_size (members_view l.entries.now.entries) + 5
+decreases-keep_entries g l = 7 * members_size (members_view l.entries.now.entries) + 6
 
 -- what was made, with what is still to be made, is all
 abbrev pub invariant-keep_items-loop-index : goal.invariant-keep_items-loop-index
