@@ -1,11 +1,11 @@
 -- Rows of rules, each once, and sections of kinds.
-use Rattle.std.proofs.Common.{◌≡◌, ◌<◌, ◌≤◌, ◌+◌, ◌∙◌, ℕ, suc, List, [], ◌∷◌, ◌++◌, length, take, drop, map, get_or, refl, sym, ap, subst, arith, drop-cons}
+use Rattle.std.proofs.Common.{◌≡◌, ◌<◌, ◌≤◌, ◌+◌, ◌∙◌, ◌||◌, Bool, true, false, bytes_eq, ℕ, suc, List, [], ◌∷◌, ◌++◌, length, take, drop, map, get_or, refl, sym, ap, subst, arith, drop-cons}
 use Rattle.std.proofs.lemmas.List.{flat_map_more, take_all}
-use Rattle.std.specs.List.{flat_map}
+use Rattle.std.specs.List.{flat_map, list_any}
 use Rattle.oci_rules.specs.Rules.{Rule}
 use Rattle.oci_schemas.specs.declared.kind.Kind.{Kind}
 use Rattle.oci_findings.proofs.Each.{map_both, one_more}
-use Rattle.oci_commands.specs.Books.{apart, IsRow, IsSection, Rows, Sections, with_new}
+use Rattle.oci_commands.specs.Books.{apart, has_rule, IsRow, IsSection, Rows, Sections, with_new}
 
 rows_both : (rs qs : List Rule) (a b c : List (List ℕ)) → Rows rs a b → Rows qs b c → Rows (rs ++ qs) a c
 rows_both [] qs a b c none more = subst (λ x. Rows qs x c) none more
@@ -47,3 +47,26 @@ section_more books kinds i kind now next after section below same is made rest =
     let cut : drop i kinds ≡ kind ∷ drop (suc i) kinds = drop-cons kinds i kind below ∙ ap (λ k. k ∷ drop (suc i) kinds) (sym same) in
     subst (λ q. Sections books q now after) (sym cut)
     (section, is, subst (λ q. Sections books q (apart now section) after) (ap (λ n. drop n kinds) step) (subst (λ q. Sections books (drop (i + 1) kinds) q after) made rest))
+
+any_both : {X : Type 0} (p : X → Bool) (xs ys : List X) → list_any p (xs ++ ys) ≡ (list_any p xs || list_any p ys)
+any_both p [] ys = refl
+any_both p (x ∷ xs) ys = or_more (p x) (list_any p (xs ++ ys)) (list_any p xs) (list_any p ys) (any_both p xs ys)
+  where
+    or_more : (a b c d : Bool) → b ≡ (c || d) → (a || b) ≡ ((a || c) || d)
+    or_more true b c d e = refl
+    or_more false b c d e = e
+
+module _ {X : Type 0} (f : X → List Rule) (name : List ℕ) (xs : List X) (i : ℕ) (x : X) (below : i < length xs) (same : x ≡ get_or xs i x) where
+  cut_books : has_rule name (flat_map f (drop i xs)) ≡ (has_rule name (f x) || has_rule name (flat_map f (drop (i + 1) xs)))
+  cut_books =
+      let step : i + 1 ≡ suc i = omega arith in
+      let cut : drop i xs ≡ x ∷ drop (suc i) xs = drop-cons xs i x below ∙ ap (λ k. k ∷ drop (suc i) xs) (sym same) in
+      ap (λ q. has_rule name (flat_map f q)) cut ∙ any_both (λ r. bytes_eq r.name name) (f x) (flat_map f (drop (suc i) xs))
+      ∙ ap (λ n. has_rule name (f x) || has_rule name (flat_map f (drop n xs))) (sym step)
+
+  -- a book with the rule is among the books, and one without it is as none
+  pub in_book : has_rule name (f x) ≡ true → has_rule name (flat_map f (drop i xs)) ≡ true
+  in_book here = cut_books ∙ ap (λ b. b || has_rule name (flat_map f (drop (i + 1) xs))) here
+
+  pub not_in_book : has_rule name (f x) ≡ false → has_rule name (flat_map f (drop i xs)) ≡ has_rule name (flat_map f (drop (i + 1) xs))
+  not_in_book none = cut_books ∙ ap (λ b. b || has_rule name (flat_map f (drop (i + 1) xs))) none

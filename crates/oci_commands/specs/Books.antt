@@ -1,6 +1,6 @@
 -- What `rules` writes.
-use Rattle.std.specs.Prelude.{◌≡◌, ◌++◌, ◌∷◌, [], ℕ, List, Option, Some, None, codes, if◌then◌else◌, ⊤}
-use Rattle.std.specs.List.{flat_map}
+use Rattle.std.specs.Prelude.{◌≡◌, ◌++◌, ◌∷◌, [], ℕ, List, Bool, true, false, Option, Some, None, bytes_eq, codes, if◌then◌else◌, ⊤}
+use Rattle.std.specs.List.{flat_map, list_any}
 use Rattle.std.specs.Borrow.{Bor}
 use Rattle.std.specs.Io.KnownBytes.{Appends}
 use Rattle.oci_base.specs.Names.{is_listed}
@@ -45,7 +45,14 @@ Sections books (kind ∷ kinds) before after = (section : List ℕ) × IsSection
 abbrev pub AreAllRules : (Kind → List Rule) → List ℕ → Type 0
 AreAllRules books text = (sections : List ℕ) × (versions : List ℕ) × Sections books all_kinds [] sections × (text ≡ sections ++ 10 ∷ (versions ++ 10 ∷ []))
 
--- those of the kind of this name, if it is one; of a rule nothing is said
+-- a rule of the list has the name; a rule for some kind of documents has
+abbrev pub has_rule : List ℕ → List Rule → Bool
+has_rule name = list_any (λ r. bytes_eq r.name name)
+
+abbrev pub is_rule : (Kind → List Rule) → List ℕ → Bool
+is_rule books name = list_any (λ kind. has_rule name (books kind)) all_kinds
+
+-- the rules of the kind of this name, if it is one; or it is the name of a rule, of whose text nothing is said
 abbrev pub AreRulesNamed : (Kind → List Rule) → Option (Bor (List ℕ)) → List ℕ → Type 0
 AreRulesNamed books None text = AreAllRules books text
 AreRulesNamed books (Some name) text = (kind : Kind) → kind_named name.now ≡ Some kind → IsSection (books kind) text
@@ -58,11 +65,16 @@ AreShownRules books Json name text = ⊤
 AreShownRules books Sarif name text = AreRulesNamed books name text
 AreShownRules books Github name text = AreRulesNamed books name text
 
+-- there is no name, or it is that of a kind or of a rule
+abbrev pub IsKnown : (Kind → List Rule) → Option (Bor (List ℕ)) → Type 0
+IsKnown books None = ⊤
+IsKnown books (Some name) = kind_named name.now ≡ None → is_rule books name.now ≡ true
+
 -- such a text was written
 abbrev pub WroteRules : (Kind → List Rule) → Style → Option (Bor (List ℕ)) → Option (List ℕ) → Option (List ℕ) → Type 0
-WroteRules books style name old new = (text : List ℕ) × AreShownRules books style name text × Appends old new text
+WroteRules books style name old new = IsKnown books name × ((text : List ℕ) × AreShownRules books style name text × Appends old new text)
 
--- the name is that of no kind
-abbrev pub IsNoKind : Option (Bor (List ℕ)) → Type 0
-IsNoKind None = ⊥
-IsNoKind (Some name) = kind_named name.now ≡ None
+-- the name is that of no kind and of no rule
+abbrev pub IsUnknown : (Kind → List Rule) → Option (Bor (List ℕ)) → Type 0
+IsUnknown books None = ⊥
+IsUnknown books (Some name) = (kind_named name.now ≡ None) × (is_rule books name.now ≡ false)

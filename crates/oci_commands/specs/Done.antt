@@ -9,7 +9,7 @@ use Rattle.oci_rules.specs.Rules.{Rule}
 use Rattle.oci_commands.specs.declared.asked.Asked.{Asked}
 use Rattle.oci_commands.specs.declared.asked.Asked.TheVariants.{Check, Format, Compare, Reference, Digest, FileDigests, CheckDigests, Pin, PinTo, Tree, Rules, Explain, Schema, Kinds}
 use Rattle.oci_findings.specs.Checks.{HasNoKind, IsRight, IsWrong}
-use Rattle.oci_commands.specs.Books.{IsNoKind, WroteRules}
+use Rattle.oci_commands.specs.Books.{is_rule, IsUnknown, WroteRules}
 use Rattle.oci_commands.specs.Compared.{HoldSame, HoldUnequal}
 use Rattle.oci_commands.specs.Kinds.{IsKindLine}
 use Rattle.oci_commands.specs.Formats.{Formats, FormatsTo, HoldsPut, IsUnformatted, LosesNothing}
@@ -51,7 +51,8 @@ IsDone books holds old new (PinTo text target) = PinsTo holds text.now target ol
 IsDone books holds old new (Tree file) = ⊤
 -- the rules of all kinds, or of one, were written
 IsDone books holds old new (Rules style name) = WroteRules books style name old new
-IsDone books holds old new (Explain name) = ⊤
+-- there is a rule of this name
+IsDone books holds old new (Explain name) = is_rule books name.now ≡ true
 IsDone books holds old new (Schema outline kind) = ⊤
 -- each document is of one kind, and its line was written
 IsDone books holds old new (Kinds style files) = AppendsEach (λ f. IsKindLine style (holds f.now) f.now) files.now old new
@@ -80,8 +81,9 @@ IsRejected books holds (Pin text file) = IsNoReference text.now ⊎ IfSome (hold
 -- one of the documents is no JSON, or of no kind, or possibly of several
 IsRejected books holds (Kinds style files) = (i : ℕ) × (i < length files.now) × HoldsAt (λ f. IfSome (holds f.now) (HasNoKind None f.now)) files.now i
 IsRejected books holds (PinTo text target) = IsNoReference text.now ⊎ HasNoTarget holds target
--- the name is that of no kind of documents; of a rule nothing is said
-IsRejected books holds (Rules style name) = IsNoKind name
+-- the name is that of no kind of documents and of no rule, or of no rule
+IsRejected books holds (Rules style name) = IsUnknown books name
+IsRejected books holds (Explain name) = is_rule books name.now ≡ false
 IsRejected books holds _ = ⊤
 
 -- the command writes neither output nor file

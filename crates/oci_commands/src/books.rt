@@ -1,9 +1,9 @@
 //! The books of rules, for people.
-ghost use Rattle.std.specs.Prelude.{◌≡◌, ◌++◌, ◌∷◌, List, ℕ, map, IfOk, OnOk, string_bytes};
+ghost use Rattle.std.specs.Prelude.{◌≡◌, ◌++◌, ◌∷◌, List, ℕ, None, true, false, map, IfOk, IsSome, OnOk, string_bytes};
 ghost use Rattle.std.specs.List.{flat_map};
 ghost use Rattle.oci_base.specs.Names.{is_listed};
 ghost use Rattle.oci_rules.specs.Tables.{rule_of};
-ghost use Rattle.oci_commands.specs.Books.{apart, AreAllRules, IsRow, IsSection, Rows, with_new};
+ghost use Rattle.oci_commands.specs.Books.{apart, AreAllRules, has_rule as has_rule_of, is_rule as is_rule_of, IsRow, IsSection, Rows, with_new};
 
 use oci_findings::RuleBooks;
 use oci_rules::{Platforms, Rule, RuntimePlatform, Step};
@@ -131,17 +131,64 @@ fn row_of(rule: &Rule<'_>, alloc: Global) -> Result<String, AllocError>
     format!(in alloc; "  {name} [{level}: {section}]: {wanted}\n")
 }
 
+/// Whether a rule for some kind of documents has this name.
+pub fn is_rule<B: RuleBooks>(books: &B, name: &str, alloc: Global) -> Result<bool, AllocError>
+    ensures { IfOk result (λ b. b ≡ is_rule_of (B.rules books.now) name.now) }
+{
+    for kind in &KINDS {
+        if is_rule_for(books, *kind, name, alloc)? {
+            return Ok(true);
+        }
+    }
+    Ok(false)
+}
+
+/// Whether a rule for a kind of documents has this name.
+fn is_rule_for<B: RuleBooks>(
+    books: &B,
+    kind: Kind,
+    name: &str,
+    alloc: Global,
+) -> Result<bool, AllocError>
+    ensures { IfOk result (λ b. b ≡ has_rule_of name.now (B.rules books.now kind)) }
+{
+    let found = books.books_of(kind, alloc)?;
+    for book in &found {
+        if has_rule(book, name) {
+            return Ok(true);
+        }
+    }
+    Ok(false)
+}
+
+fn has_rule(book: &[Rule<'_>], name: &str) -> bool
+    ensures { result ≡ has_rule_of name.now (map rule_of book.now) }
+{
+    for rule in book {
+        if rule.name == name {
+            return true;
+        }
+    }
+    false
+}
+
 /// The rules of a name, each thing that they want with the places at which it is; none if there is no such rule.
 pub fn rules_of_name<B: RuleBooks>(
     books: &B,
     name: &str,
     alloc: Global,
-) -> Result<Option<String>, AllocError> {
+) -> Result<Option<String>, AllocError>
+    ensures some { IfOk result (λ o. IsSome o → is_rule_of (B.rules books.now) name.now ≡ true) }
+    ensures none { IfOk result (λ o. o ≡ None → is_rule_of (B.rules books.now) name.now ≡ false) }
+{
+    if !is_rule(books, name, alloc)? {
+        return Ok(None);
+    }
     let mut text = String::new(alloc);
     for kind in &KINDS {
         add_of_kind(books, name, *kind, &mut text, alloc)?;
     }
-    Ok(if text.is_empty() { None } else { Some(text) })
+    Ok(Some(text))
 }
 
 fn add_of_kind<B: RuleBooks>(

@@ -1,5 +1,6 @@
 //! The command `explain`.
-ghost use Rattle.std.specs.Prelude.{IfOk};
+ghost use Rattle.std.specs.Prelude.{◌≡◌, true, false, IfOk};
+ghost use Rattle.oci_commands.specs.Books.{is_rule};
 ghost use Rattle.oci_commands.specs.Done.{IsStatus};
 
 use crate::books::rules_of_name;
@@ -21,7 +22,9 @@ pub fn explain<B: RuleBooks, W: Write, E: Write>(
     writer: &mut W,
     errors: &mut E,
 ) -> Result<u8>
-    ensures { IfOk result IsStatus }
+    ensures status { IfOk result IsStatus }
+    ensures done { IfOk result (λ s. s ≡ 0 → is_rule (B.rules books.now) name.now ≡ true) }
+    ensures wrong { IfOk result (λ s. s ≡ 1 → is_rule (B.rules books.now) name.now ≡ false) }
 {
     match rules_of_name(books, name, alloc)? {
         Some(mut text) => {

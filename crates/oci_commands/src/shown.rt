@@ -1,10 +1,10 @@
 //! The commands `rules` and `schema`.
-ghost use Rattle.std.specs.Prelude.{◌≡◌, None, IfOk, IfSome, string_bytes};
-ghost use Rattle.oci_commands.specs.Books.{AreRulesNamed, AreShownRules, IsNoKind, WroteRules};
+ghost use Rattle.std.specs.Prelude.{◌≡◌, None, true, false, IfOk, IfSome, IsSome, string_bytes};
+ghost use Rattle.oci_commands.specs.Books.{AreRulesNamed, AreShownRules, is_rule as is_rule_of, IsKnown, IsUnknown, WroteRules};
 ghost use Rattle.oci_commands.specs.Done.{IsStatus};
 
 use crate::asked::{Outline, Style};
-use crate::books::{Versions, all_rules, rules_of_kind, rules_of_name};
+use crate::books::{Versions, all_rules, is_rule, rules_of_kind, rules_of_name};
 use crate::json_schema::json_schema_of;
 use crate::nearest::nearest_rule_or_kind;
 use crate::rule_objects::{objects_of_kind, objects_of_rules};
@@ -29,7 +29,7 @@ pub fn rules<B: RuleBooks + Versions, W: Write, E: Write>(
 ) -> Result<u8>
     ensures status { IfOk result IsStatus }
     ensures done { IfOk result (λ s. s ≡ 0 → WroteRules (B.rules books.now) style name.entry (W.contents writer.old) (W.contents writer.new)) }
-    ensures wrong { IfOk result (λ s. s ≡ 1 → IsNoKind name.entry) }
+    ensures wrong { IfOk result (λ s. s ≡ 1 → IsUnknown (B.rules books.now) name.entry) }
 {
     match chosen(books, style, name, alloc)? {
         Some(text) => {
@@ -72,8 +72,8 @@ fn chosen<B: RuleBooks + Versions>(
     name: Option<&str>,
     alloc: Global,
 ) -> std::result::Result<Option<String>, AllocError>
-    ensures some { IfOk result (λ o. IfSome o (λ t. AreShownRules (B.rules books.now) style name.entry (string_bytes t))) }
-    ensures none { IfOk result (λ o. o ≡ None → IsNoKind name.entry) }
+    ensures some { IfOk result (λ o. IfSome o (λ t. IsKnown (B.rules books.now) name.entry × AreShownRules (B.rules books.now) style name.entry (string_bytes t))) }
+    ensures none { IfOk result (λ o. o ≡ None → IsUnknown (B.rules books.now) name.entry) }
 {
     match style {
         Style::Json => objects(books, name, alloc),
@@ -87,7 +87,8 @@ fn objects<B: RuleBooks>(
     name: Option<&str>,
     alloc: Global,
 ) -> std::result::Result<Option<String>, AllocError>
-    ensures { IfOk result (λ o. o ≡ None → IsNoKind name.entry) }
+    ensures some { IfOk result (λ o. IsSome o → IsKnown (B.rules books.now) name.entry) }
+    ensures none { IfOk result (λ o. o ≡ None → IsUnknown (B.rules books.now) name.entry) }
 {
     match name {
         None => Ok(Some(objects_of_rules(books, None, alloc)?)),
@@ -103,9 +104,14 @@ fn objects_named<B: RuleBooks>(
     books: &B,
     name: &str,
     alloc: Global,
-) -> std::result::Result<Option<String>, AllocError> {
-    let text = objects_of_rules(books, Some(name), alloc)?;
-    Ok(if text.is_empty() { None } else { Some(text) })
+) -> std::result::Result<Option<String>, AllocError>
+    ensures some { IfOk result (λ o. IsSome o → is_rule_of (B.rules books.now) name.now ≡ true) }
+    ensures none { IfOk result (λ o. o ≡ None → is_rule_of (B.rules books.now) name.now ≡ false) }
+{
+    if !is_rule(books, name, alloc)? {
+        return Ok(None);
+    }
+    Ok(Some(objects_of_rules(books, Some(name), alloc)?))
 }
 
 /// The rules of all kinds, or of the kind or rule of this name; none if there is no such.
@@ -114,8 +120,8 @@ fn text_of<B: RuleBooks + Versions>(
     name: Option<&str>,
     alloc: Global,
 ) -> std::result::Result<Option<String>, AllocError>
-    ensures some { IfOk result (λ o. IfSome o (λ t. AreRulesNamed (B.rules books.now) name.entry (string_bytes t))) }
-    ensures none { IfOk result (λ o. o ≡ None → IsNoKind name.entry) }
+    ensures some { IfOk result (λ o. IfSome o (λ t. IsKnown (B.rules books.now) name.entry × AreRulesNamed (B.rules books.now) name.entry (string_bytes t))) }
+    ensures none { IfOk result (λ o. o ≡ None → IsUnknown (B.rules books.now) name.entry) }
 {
     match name {
         None => Ok(Some(all_rules(books, alloc)?)),

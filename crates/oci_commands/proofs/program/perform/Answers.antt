@@ -1,6 +1,6 @@
 use Rattle.std.proofs.Common.{◌≡◌, IfOk, subst}
 use Rattle.oci_commands.specs.Done.{IsDone, IsRejected}
-use Rattle.oci_commands.specs.declared.asked.Asked.TheVariants.{Reference, Digest, FileDigests, Kinds, CheckDigests, PinTo, Rules}
+use Rattle.oci_commands.specs.declared.asked.Asked.TheVariants.{Reference, Digest, FileDigests, Kinds, CheckDigests, PinTo, Rules, Explain}
 use Rattle.oci_commands.proofs.program.perform.Goals as goal
 
 pub returns-in-Reference-clause-done : goal.returns-in-Reference-clause-done
@@ -88,3 +88,16 @@ pub returns-in-Rules-clause-wrong : goal.returns-in-Rules-clause-wrong
 returns-in-Rules-clause-wrong g c =
     let same : Rules c.in-Rules.style c.in-Rules.name ≡ c.args.asked.now = (let is = c.in-Rules.is in cc) in
     subst (λ asked. IfOk c.rules.result (λ s. s ≡ 1 → IsRejected (g.B.RuleBooks.rules c.args.books.now) (g.S.Files.holds c.args.store.now) asked)) same c.rules.ensures.wrong
+
+pub returns-in-Explain-clause-done : goal.returns-in-Explain-clause-done
+returns-in-Explain-clause-done g c =
+    let same : Explain c.in-Explain.name ≡ c.args.asked.now = (let is = c.in-Explain.is in cc) in
+    subst
+    (λ asked. IfOk c.explain.result
+    (λ s. s ≡ 0 → IsDone (g.B.RuleBooks.rules c.args.books.now) (g.S.Files.holds c.args.store.now) (g.W.Write.contents c.args.writer.now) (g.W.Write.contents c.explain.new.writer) asked))
+    same c.explain.ensures.done
+
+pub returns-in-Explain-clause-wrong : goal.returns-in-Explain-clause-wrong
+returns-in-Explain-clause-wrong g c =
+    let same : Explain c.in-Explain.name ≡ c.args.asked.now = (let is = c.in-Explain.is in cc) in
+    subst (λ asked. IfOk c.explain.result (λ s. s ≡ 1 → IsRejected (g.B.RuleBooks.rules c.args.books.now) (g.S.Files.holds c.args.store.now) asked)) same c.explain.ensures.wrong
