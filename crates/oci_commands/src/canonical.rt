@@ -8,8 +8,8 @@ ghost use Rattle.oci_commands.specs.Done.{IsStatus};
 
 use crate::asked::Format;
 use crate::contents::digest_line;
+use crate::document_texts::{canonical_text, has_unknown, kept_text};
 use crate::files::Files;
-use crate::forms::{canonical_text, has_unknown, kept_text};
 use crate::left_out::{not_in, say_left_out};
 use crate::lost::{lost, why_not};
 use crate::same_kind::{is_kind, kind_in, say_other_kind};

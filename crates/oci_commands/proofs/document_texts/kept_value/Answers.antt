@@ -2,7 +2,7 @@ use Rattle.std.proofs.Common.{◌≡◌, ◌∙◌, ap, subst}
 use Rattle.serde_json.specs.View.{view}
 use Rattle.oci_schemas.specs.Kinds.{shape_of}
 use Rattle.oci_commands.specs.Kept.{kept}
-use Rattle.oci_commands.proofs.forms.kept_value.Goals as goal
+use Rattle.oci_commands.proofs.document_texts.kept_value.Goals as goal
 
 pub returns-clause-ok : goal.returns-clause-ok
 returns-clause-ok c =

@@ -4,7 +4,7 @@ use Rattle.oci_json.specs.Engines.{IsNotNormalized}
 use Rattle.oci_schema.specs.Normalizes.{WritesPretty}
 use Rattle.oci_base.specs.Refused.{IsSchema}
 use Rattle.oci_commands.proofs.Forms.{no_form_of}
-use Rattle.oci_commands.proofs.forms.write_pretty.Goals as goal
+use Rattle.oci_commands.proofs.document_texts.write_pretty.Goals as goal
 
 pub returns-clause-ok : goal.returns-clause-ok
 returns-clause-ok c =

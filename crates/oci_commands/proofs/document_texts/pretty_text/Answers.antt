@@ -1,6 +1,6 @@
 use Rattle.oci_schemas.specs.Kinds.{shape_of}
 use Rattle.oci_commands.proofs.Held.{pretty_made}
-use Rattle.oci_commands.proofs.forms.pretty_text.Goals as goal
+use Rattle.oci_commands.proofs.document_texts.pretty_text.Goals as goal
 
 pub returns : goal.returns
 returns c = record {

@@ -8,7 +8,7 @@ use Rattle.oci_model.specs.Plain.{Plain}
 use Rattle.oci_model.specs.Value.{value as json_of}
 use Rattle.oci_model.specs.Writable.{Writable}
 use Rattle.oci_commands.proofs.Forms.{no_form_of}
-use Rattle.oci_commands.proofs.forms.canonical_value.Goals as goal
+use Rattle.oci_commands.proofs.document_texts.canonical_value.Goals as goal
 
 pub returns-clause-ok : goal.returns-clause-ok
 returns-clause-ok c =

@@ -3,7 +3,7 @@ use Rattle.std.specs.Prelude.{IfErr, OnOk}
 use Rattle.oci_json.specs.Engines.{IsNotNormalized, WritesDocument}
 use Rattle.oci_base.specs.Refused.{IsSchema}
 use Rattle.oci_commands.proofs.Forms.{no_form_of}
-use Rattle.oci_commands.proofs.forms.write_compact.Goals as goal
+use Rattle.oci_commands.proofs.document_texts.write_compact.Goals as goal
 
 pub returns-clause-ok : goal.returns-clause-ok
 returns-clause-ok c =
