@@ -167,7 +167,7 @@ def manifest_size(layout):
     layout.index({**layout.manifest, "size": layout.manifest["size"] - 1})
 
 
-@faulty("one blob under two sizes", "size", change=lambda m: m["layers"].append({**m["layers"][0], "size": 1}))
+@faulty("one blob under two sizes", "size + image-diff-ids-count", change=lambda m: m["layers"].append({**m["layers"][0], "size": 1}))
 def two_sizes(layout):
     pass
 
@@ -177,7 +177,7 @@ def config_list(layout):
     pass
 
 
-@faulty("configuration of a wrong shape", "schema", config={"architecture": 5, "os": "linux", "rootfs": {"type": "layers", "diff_ids": []}})
+@faulty("configuration of a wrong shape", "schema + image-diff-ids-count", config={"architecture": 5, "os": "linux", "rootfs": {"type": "layers", "diff_ids": []}})
 def config_shape(layout):
     pass
 
@@ -192,6 +192,21 @@ def manifest_shape(root):
 def manifest_text(root):
     layout = Layout(root)
     layout.index(layout.blob(b"{", MANIFEST))
+
+
+@faulty("no DiffID for a layer", "+ image-diff-ids-count", config={"architecture": "amd64", "os": "linux", "rootfs": {"type": "layers", "diff_ids": []}})
+def no_diff_id(layout):
+    pass
+
+
+@faulty("DiffID of another layer", "image-diff-id", types=(MANIFEST, CONFIG, "application/vnd.oci.image.layer.v1.tar"))
+def other_diff_id(layout):
+    pass
+
+
+@faulty("`index.json` says arm64, the configuration amd64", "+ image-platform-architecture")
+def other_platform(layout):
+    layout.index({**layout.manifest, "platform": {"architecture": "arm64", "os": "linux"}})
 
 
 @faulty("nested index", "")
@@ -303,13 +318,13 @@ def subject(layout):
     pass
 
 
-@faulty("nondistributable layer with `urls`, no blob", "+ missing",
+@faulty("nondistributable layer with `urls`, no blob", "+ image-diff-ids-count missing",
         change=lambda m: m["layers"].append({"mediaType": FOREIGN, "digest": "sha256:" + "1" * 64, "size": 3, "urls": ["https://example.com/x"]}))
 def foreign(layout):
     pass
 
 
-@faulty("nondistributable layer without `urls`, no blob", "missing",
+@faulty("nondistributable layer without `urls`, no blob", "missing + image-diff-ids-count",
         change=lambda m: m["layers"].append({"mediaType": FOREIGN, "digest": "sha256:" + "1" * 64, "size": 3}))
 def foreign_nowhere(layout):
     pass

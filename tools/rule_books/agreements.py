@@ -11,7 +11,8 @@ What the documents of one image say of each other: the descriptor that leads to 
 the descriptors of one content say of it. Nothing is asked where one of them does not say it. Those on layers are asked where the type of
 the configuration is that of an image's and each layer is one of a filesystem, those on the platform and on labels where the former is so.
 The variant of an `arm64` that says none is `v8` (image-index.md, "Platform Variants"), and digests by different algorithms are not compared.
-The calls of `oci_agreement` ask them; no command does yet.
+`ciderglen verify` asks what the documents of one image say of each other, of each image in a layout; what the descriptors of one content say,
+the calls of `oci_agreement` alone.
 
 | agreement | shown | level | by | section | wanted |
 |---|---|---|---|---|---|

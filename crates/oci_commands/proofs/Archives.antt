@@ -49,6 +49,7 @@ right_as : (o : Options) (n m : Names) (tops contents : File) → ((path : List 
 right_as o n m tops contents back h = record {
   marker = h.marker;
   sound = h.sound;
+  agree = h.agree;
   notes = λ strict. quiet_as o.limit n m tops contents back (h.notes strict);
 }
 

@@ -6,6 +6,7 @@ use Rattle.std.proofs.lemmas.Option.{slice_get-get_or, get_or_from_slice_get}
 use Rattle.std.proofs.lemmas.List.Elements.{All-contains, Contains-append_left, Contains-push, Contains-push_cases}
 use Rattle.std.proofs.lemmas.List.{get_or_default}
 use Rattle.std.proofs.lemmas.Slice.Eq.{bytes_eq-Decides}
+use Rattle.oci_json.specs.Engines.{ReadsAs}
 use Rattle.oci_layout.specs.Documents.{IsRead}
 use Rattle.oci_layout.specs.Looks.{Contents, IsShownIn, Shows}
 use Rattle.oci_layout.specs.Marker.{HasMarker, IsMarker, IsMarkerIn, IsMarked}
@@ -22,7 +23,8 @@ use Rattle.oci_layout.specs.declared.top.Top.{Top}
 use Rattle.oci_layout.specs.declared.top.Top.TheVariants.{Missing, Unreadable, TooLarge, Bytes}
 use Rattle.oci_layout.proofs.Once.{document_once}
 use Rattle.oci_layout.proofs.Sound.{sound_where_reached, fine_where_sound, contained, there_where_found, found_where_there, reached_of}
-use Rattle.oci_commands.specs.Layouts.{ArePathsOf, HasNoNote, IsAnswer, IsJudged, IsJudgedIndex, IsNameOf, IsQuiet, IsReached, IsRightIndex, IsRightLayout, OverSteady}
+use Rattle.oci_commands.specs.Images.{ClaimKeeps, ImagesKeep}
+use Rattle.oci_commands.specs.Layouts.{AllAgree, ArePathsOf, HasNoNote, IsAnswer, IsJudged, IsJudgedIndex, IsNameOf, IsQuiet, IsReached, IsRightIndex, IsRightLayout, OverSteady}
 use Rattle.oci_commands.specs.declared.verify.options.Options.{Options}
 
 some : {X : Type 0} {x y : X} → Some x ≡ Some y → x ≡ y
@@ -34,23 +36,23 @@ File = List ℕ → Option (List ℕ)
 -- ---- the index
 
 -- what was found of a walk over known contents, in full
-full_walk : (options : Options) (steady : Bool) (names : List ℕ → Type 0) (contents : File) (before : Option Fault) (first : List Claim) (right : Bool) → options.quick ≡ false
-    → (j : IsJudged options steady names (Some contents) before first right) → IsWalk (Shows false steady options.limit (Some contents)) first j.claims j.faults
-full_walk options steady names contents before first right full j =
+full_walk : (options : Options) (steady : Bool) (names : List ℕ → Type 0) (contents : File) (index : List ℕ) (before : Option Fault) (first : List Claim) (right : Bool) → options.quick ≡ false
+    → (j : IsJudged options steady names (Some contents) index before first right) → IsWalk (Shows false steady options.limit (Some contents)) first j.claims j.faults
+full_walk options steady names contents index before first right full j =
     subst (λ q. IsWalk (Shows q steady options.limit (Some contents)) first j.claims j.faults) full j.walk
 
 sound_by : (options : Options) (steady : Bool) (names : List ℕ → Type 0) (tops contents : File) (index : List ℕ) (right : Bool) → tops (codes "index.json") ≡ Some index
     → length index ≤ options.limit → IsJudgedIndex options steady names (Some contents) index right → IsTrue right → options.quick ≡ false → IsSoundBy options.limit tops contents
 sound_by options steady names tops contents index right there small i is full =
     let j = i.judged in
-    let found = j.told.0 is in
+    let found = (j.told.0 is).0 in
     record {
       index = index;
       there = there;
       small = small;
       claims = i.first;
       document = subst (λ f. IsRead Index index f i.first) found.index i.read;
-      reached = sound_where_reached options.limit steady contents i.first j.claims j.faults (full_walk options steady names contents i.before i.first right full j) found.fine;
+      reached = sound_where_reached options.limit steady contents i.first j.claims j.faults (full_walk options steady names contents index i.before i.first right full j) found.fine;
     }
 
 pub sound_index : (options : Options) (steady : Bool) (names : List ℕ → Type 0) (tops contents : Contents) (bytes : Vec ℕ Global) (right : Bool)
@@ -95,8 +97,8 @@ no_note : (options : Options) (names : List ℕ → Type 0) (tops contents : Fil
     → HasNoNote options.limit names tops contents
 no_note options names tops contents index right there i is full strict =
     let j = i.judged in
-    let found = j.told.0 is in
-    let walk = full_walk options true names contents i.before i.first right full j in
+    let found = (j.told.0 is).0 in
+    let walk = full_walk options true names contents index i.before i.first right full j in
     let read = subst (λ f. IsRead Index index f i.first) found.index i.read in
     let quiet = found.quiet strict in
     record {
@@ -107,6 +109,9 @@ no_note options names tops contents index right there i is full strict =
 
 at_itself : (ls : List Listed) (k : ℕ) (d : Listed) → k < length ls → get_or ls k (get_or ls k d) ≡ get_or ls k d
 at_itself ls k d below = get_or_from_slice_get ls k (get_or ls k d) (get_or ls k d) (slice_get-get_or ls k d below)
+
+claim_itself : (cs : List Claim) (k : ℕ) (c : Claim) → k < length cs → get_or cs k (get_or cs k c) ≡ get_or cs k c
+claim_itself cs k c below = get_or_from_slice_get cs k (get_or cs k c) (get_or cs k c) (slice_get-get_or cs k c below)
 
 quiet_by : (options : Options) (names : List ℕ → Type 0) (tops contents : File) (index : List ℕ) (right : Bool) → tops (codes "index.json") ≡ Some index
     → (i : IsJudgedIndex options true names (Some contents) index right) → IsRead Index index None i.first
@@ -126,6 +131,39 @@ quiet_by options names tops contents index right there i read walk fine n = reco
           p,
         )
 
+-- what the images of the index and of what is claimed agree on, those of the layout do
+agree_by : (options : Options) (tops contents : File) (index : List ℕ) (first claims : List Claim) (faults : List (Option Fault)) → tops (codes "index.json") ≡ Some index
+    → IsRead Index index None first → IsWalk (Shows false true options.limit (Some contents)) first claims faults → AreFine claims faults
+    → ImagesKeep options.strict options.limit contents index claims → AllAgree options.strict options.limit tops contents
+agree_by options tops contents index first claims faults there read walk fine (top, all) d (inl (bytes, here, reads)) =
+    top d (subst (λ b. ReadsAs b d) (some (sym here ∙ there)) reads)
+agree_by options tops contents index first claims faults there read walk fine (top, all) d (inr (c, reached, is, value)) =
+    All-contains (ClaimKeeps options.strict options.limit contents) claims c all
+    (contained options.limit contents first claims faults walk fine c (reached_from options.limit tops contents index first c there read reached)) is d value
+
+found_agree : (options : Options) (tops contents : File) (index : List ℕ) (first claims : List Claim) (faults : List (Option Fault)) → tops (codes "index.json") ≡ Some index
+    → IsRead Index index None first → IsWalk (Shows false true options.limit (Some contents)) first claims faults → AreFine claims faults
+    → AllAgree options.strict options.limit tops contents → ImagesKeep options.strict options.limit contents index claims
+found_agree options tops contents index first claims faults there read walk fine agree = (
+  λ d reads. agree d (inl (index, there, reads)),
+  λ k c below is d value.
+      agree d (inr (
+        get_or claims k c,
+        reached_record options.limit tops contents index first claims faults there read walk (get_or claims k c) (k, below, claim_itself claims k c below),
+        is,
+        value,
+      )),
+)
+
+agree_found : (options : Options) (names : List ℕ → Type 0) (tops contents : File) (index : List ℕ) (right : Bool) → tops (codes "index.json") ≡ Some index
+    → (i : IsJudgedIndex options true names (Some contents) index right) → IsTrue right → options.quick ≡ false → AllAgree options.strict options.limit tops contents
+agree_found options names tops contents index right there i is full =
+    let j = i.judged in
+    let (found, agree) = j.told.0 is in
+    let walk = full_walk options true names contents index i.before i.first right full j in
+    let read = subst (λ f. IsRead Index index f i.first) found.index i.read in
+    agree_by options tops contents index i.first j.claims j.faults there read walk found.fine ((j.images full).0 agree)
+
 -- what is right is found right
 found_right : (options : Options) (names : List ℕ → Type 0) (tops contents : File) (index : List ℕ) (right : Bool) → tops (codes "index.json") ≡ Some index
     → IsJudgedIndex options true names (Some contents) index right → options.quick ≡ false → IsRightIndex options names tops contents → IsTrue right
@@ -134,15 +172,18 @@ found_right options names tops contents index right there i full r =
     let same : r.sound.index ≡ index = some (sym r.sound.there ∙ there) in
     let once = document_once Index index i.before None i.first r.sound.claims i.read (subst (λ b. IsRead Index b None r.sound.claims) same r.sound.document) in
     let sound : AreSoundFrom options.limit contents i.first = subst (AreSoundFrom options.limit contents) (sym once.1) r.sound.reached in
-    let walk = full_walk options true names contents i.before i.first right full j in
+    let walk = full_walk options true names contents index i.before i.first right full j in
     let fine = fine_where_sound options.limit contents i.first j.claims j.faults walk sound in
     let read = subst (λ f. IsRead Index index f i.first) once.0 i.read in
-    j.told.1 (record {
-      index = once.0;
-      fine = fine;
-      whole = λ k d below. j.listing.whole refl (get_or j.listed k d) (k, below, at_itself j.listed k d below);
-      quiet = λ strict. quiet_by options names tops contents index right there i read walk fine (r.notes strict);
-    })
+    j.told.1 (
+      record {
+        index = once.0;
+        fine = fine;
+        whole = λ k d below. j.listing.whole refl (get_or j.listed k d) (k, below, at_itself j.listed k d below);
+        quiet = λ strict. quiet_by options names tops contents index right there i read walk fine (r.notes strict);
+      },
+      (j.images full).1 (found_agree options tops contents index i.first j.claims j.faults there read walk fine r.agree),
+    )
 
 -- ---- where all is known
 
@@ -160,6 +201,7 @@ pub right_index : (options : Options) (steady : Bool) (names : List ℕ → Type
 right_index options true names (Some tops) (Some contents) bytes right full t i = (
   λ is. record {
     sound = sound_by options true names tops contents bytes.items right t.0 t.1 i is full;
+    agree = agree_found options names tops contents bytes.items right t.0 i is full;
     notes = no_note options names tops contents bytes.items right t.0 i is full;
   },
   found_right options names tops contents bytes.items right t.0 i full,
@@ -221,8 +263,8 @@ pub right_layout : (options : Options) (steady : Bool) (names : List ℕ → Typ
     → OverSteady steady tops contents (λ t c. IsTrue marker ↔ HasMarker options.limit t) → OverSteady steady tops contents (λ t c. IsTrue index ↔ IsRightIndex options names t c)
     → OverSteady steady tops contents (λ t c. IsTrue both ↔ IsRightLayout options names t c)
 right_layout options true names (Some t) (Some c) marker index both and m i = (
-  λ is. record { marker = m.0 (and.0 is).0; sound = (i.0 (and.0 is).1).sound; notes = (i.0 (and.0 is).1).notes },
-  λ r. and.1 (m.1 r.marker, i.1 (record { sound = r.sound; notes = r.notes })),
+  λ is. record { marker = m.0 (and.0 is).0; sound = (i.0 (and.0 is).1).sound; agree = (i.0 (and.0 is).1).agree; notes = (i.0 (and.0 is).1).notes },
+  λ r. and.1 (m.1 r.marker, i.1 (record { sound = r.sound; agree = r.agree; notes = r.notes })),
 )
 right_layout options true names (Some t) None marker index both and m i = tt
 right_layout options true names None contents marker index both and m i = tt
@@ -237,7 +279,7 @@ answer_none false tops contents P = tt
 -- ---- the steps in which it is found
 
 pub judged_index : {E : Type 0} (options : Options) (steady : Bool) (names : List ℕ → Type 0) (contents : Contents) (index : List ℕ) (before : Option Fault) (first : List Claim)
-    (r : Result Bool E) → IsRead Index index before first → IfOk r (IsJudged options steady names contents before first) → IfOk r (IsJudgedIndex options steady names contents index)
+    (r : Result Bool E) → IsRead Index index before first → IfOk r (IsJudged options steady names contents index before first) → IfOk r (IsJudgedIndex options steady names contents index)
 judged_index options steady names contents index before first (Ok right) read j = record { before = before; first = first; read = read; judged = j }
 judged_index options steady names contents index before first (Err e) read j = tt
 
@@ -298,6 +340,9 @@ sound_layout limit tops contents quick marker index both and m i is full = recor
 pub one_wrong : (marker index both : Bool) → IsTrue both ↔ (IsTrue marker × IsTrue index) → index ≡ false → both ≡ false
 one_wrong marker index true and wrong = absurd (true≢false (sym (and.0 refl).1 ∙ wrong))
 one_wrong marker index false and wrong = refl
+
+pub told_both : (right agree both : Bool) (P : Type 0) → IsTrue both ↔ (IsTrue right × IsTrue agree) → IsTrue right ↔ P → IsTrue both ↔ (P × IsTrue agree)
+told_both right agree both P and is = (λ told. (is.0 (and.0 told).0, (and.0 told).1), λ h. and.1 (is.1 h.0, h.1))
 
 -- ---- notes
 

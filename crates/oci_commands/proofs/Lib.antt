@@ -1,9 +1,11 @@
+pub mod Agreeing
 pub mod Archives
 pub mod CheckIsFormat
 pub mod Entries
 pub mod Faults
 pub mod Forms
 pub mod Held
+pub mod Kept
 pub mod KeptRecords
 pub mod Layouts
 pub mod Lines

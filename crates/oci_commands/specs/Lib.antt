@@ -3,6 +3,7 @@ pub mod Books
 pub mod Compared
 pub mod Done
 pub mod Formats
+pub mod Images
 pub mod Kept
 pub mod Kinds
 pub mod Laws

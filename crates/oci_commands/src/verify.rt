@@ -2,6 +2,9 @@
 //! found, and an exit status (image specification, "Image Layout").
 
 pub mod archive;
+pub mod disagreements;
+pub mod documents;
+pub mod images;
 pub mod marker;
 pub mod options;
 pub mod output;

@@ -5,6 +5,7 @@ index=application/vnd.oci.image.index.v1+json
 config=application/vnd.oci.image.config.v1+json
 docker=application/vnd.docker.distribution.manifest.v2+json
 list=application/vnd.docker.distribution.manifest.list.v2+json
+plain=application/vnd.oci.image.layer.v1.tar
 
 # blob DIR TYPE TEXT: keeps a text of ASCII in a layout, and prints its descriptor
 blob() {
@@ -19,4 +20,12 @@ layout() {
     mkdir -p "$1/blobs"
     printf '{"imageLayoutVersion":"1.0.0"}' > "$1/oci-layout"
     printf '{"schemaVersion":2,%s}' "$2" > "$1/index.json"
+}
+
+# image DIR LAYERS CONFIG MANIFEST DESCRIPTOR: keeps an image in a layout, by the descriptors of its layers and its configuration, and prints its
+# descriptor; the last two are more members of the manifest and of that descriptor, each behind a comma
+image() {
+    told=$(blob "$1" $config "$3")
+    told=$(blob "$1" $manifest '{"schemaVersion":2,"mediaType":"'$manifest'","config":'"$told"',"layers":['"$2"']'"$4"'}')
+    printf '%s%s}' "${told%\}}" "$5"
 }

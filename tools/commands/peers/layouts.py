@@ -2,7 +2,7 @@
 
 Makes layouts with umoci, skopeo and buildah (packages of Debian), and faulty ones from those, runs `ciderglen verify` on each, and
 `skopeo copy`, `skopeo inspect`, `umoci stat` and `umoci raw unpack` beside it, and prints a table. A row says what should be found:
-the rules of errors, and behind a `+` those of notes. It ends with status 1 where ours says anything else; what the others say is
+the rules of errors, and behind a `+` those of warnings and notes. It ends with status 1 where ours says anything else; what the others say is
 printed alone. The program is crates/ciderglen/out/ciderglen if none is named: `rt run` makes it.
 """
 import json
@@ -20,7 +20,7 @@ HEAD = ["layout", "skopeo copy", "skopeo inspect", "umoci stat", "umoci unpack",
 
 
 def ours(program, root):
-    """What ours finds: the rules of errors, a plus and those of notes; the same by the lines, by the log and by the status."""
+    """What ours finds: the rules of errors, a plus and those of warnings and notes; the same by the lines, by the log and by the status."""
     def run(*options):
         return subprocess.run([program, "verify", *options, root], capture_output=True, text=True, errors="replace", timeout=120)
 
@@ -29,7 +29,7 @@ def ours(program, root):
         return "status 3"
     *listed, last = [json.loads(line) for line in as_json.stdout.splitlines()]
     errors = sorted(it["rule"] for it in listed if it["level"] == "error")
-    notes = sorted(it["rule"] for it in listed if it["level"] == "note")
+    notes = sorted(it["rule"] for it in listed if it["level"] != "error")
     plain, strict, log = run(), run("--strict"), run("--format", "sarif")
     if (plain.returncode, log.returncode, strict.returncode) != (1 if errors else 0, 1 if errors else 0, 1 if listed else 0):
         return "status and JSON differ"

@@ -7,6 +7,7 @@ ghost use Rattle.oci_layout.specs.Marker.{HasMarker, IsMarked};
 ghost use Rattle.oci_layout.specs.Sound.{IsLarger, IsSoundIndex, IsSoundLayout};
 ghost use Rattle.oci_layout.specs.Walk.{IsWalk};
 
+use crate::verify::images::images_agree;
 use crate::verify::marker::{Marked, marker_report};
 use crate::verify::options::Options;
 use crate::verify::output::Output;
@@ -31,7 +32,8 @@ const PIECE: usize = 65536;
 /// standard error then says which, but where the reader of what is written has gone away.
 ///
 /// Of a layout whose reads cannot fail, as one in memory, 0 says that it is right, and 1 that it is not: its marker, its index, what the
-/// index reaches, and, where notes count, that all of it is there and reached. Of a quick look nothing is said.
+/// index reaches, what the documents of each image agree on, and, where notes count, that all of it is there and reached. Of a quick look
+/// nothing is said.
 pub fn run<L: ImageLayout, C: Watch, W: Write, E: Write>(
     layout: &L,
     options: &Options,
@@ -237,7 +239,7 @@ impl<'a, L: ImageLayout, C: Watch> Verification<'a, L, C> {
             detail,
         } = read_document(self.alloc, Kind::Index, index)?;
         self.report_index(fault, &detail, output)?;
-        self.verify_claims(fault, claims, buffer, output)
+        self.verify_claims(index, fault, claims, buffer, output)
     }
 
     /// Reports what stands against `index.json` itself.
@@ -255,13 +257,14 @@ impl<'a, L: ImageLayout, C: Watch> Verification<'a, L, C> {
     /// The same, from what was found in `index.json` and the first claims on.
     fn verify_claims<W: Write, E: Write>(
         &self,
+        index: &[u8],
         fault: Option<Fault>,
         first: Vec<Claim>,
         buffer: &mut [u8],
         output: &mut Output<'_, W, E>,
     ) -> Result<bool>
         requires { 0 < length buffer.old }
-        ensures { IfOk result (IsJudged self.now.options.now (L.steady self.now.layout.now) (L.names self.now.layout.now) (L.contents self.now.layout.now) fault first.items) }
+        ensures { IfOk result (IsJudged self.now.options.now (L.steady self.now.layout.now) (L.names self.now.layout.now) (L.contents self.now.layout.now) index.now fault first.items) }
     {
         let shown = Layout {
             store: self.layout,
@@ -270,11 +273,13 @@ impl<'a, L: ImageLayout, C: Watch> Verification<'a, L, C> {
         };
         let walk = self.look_at_all(&shown, first, buffer, output)?;
         output.report_progress()?;
+        let agree = images_agree(self.layout, self.options, index, &walk, buffer, output)?;
         let listed = self.layout.list(self.alloc)?;
         let reached = paths_of(&walk, self.alloc)?;
         self.report_unreferenced(listed.as_slice(), &reached, output)?;
         output.finish(walk.claims.len() as u64, bytes_of(&walk))?;
-        Ok(self.is_right(fault, &walk, listed.as_slice(), &reached))
+        let is_right = self.is_right(fault, &walk, listed.as_slice(), &reached);
+        Ok(are_both(is_right, agree))
     }
 
     /// Whether nothing that was found stands against the layout; where notes count, whether nothing is worth one.
@@ -383,7 +388,7 @@ impl<'a, L: ImageLayout, C: Watch> Verification<'a, L, C> {
 }
 
 /// Whether both are so.
-fn are_both(first: bool, second: bool) -> bool
+pub(crate) fn are_both(first: bool, second: bool) -> bool
     ensures { IsTrue result ↔ (IsTrue first × IsTrue second) }
 {
     first && second
