@@ -79,9 +79,10 @@ placed_archive o bytes places index h =
     let es = placed_in bytes places in
     let same : h.entries ≡ es = one_list h.holds index in
     let plain = subst (λ (l : List (Member × List ℕ)). IsPlainArchive l) same h.plain in
-    let right = subst (λ (l : List (Member × List ℕ)). IsRightLayout o (names_in l) (tops_in l) (contents_in l)) same h.right in
-    ((plain_alike bytes places).1 plain,
-     right_as o (names_in es) (names_in (extents places)) (tops_in es) (contents_in es) (λ path is. (same_names bytes es places index index path).0 is) right)
+    let right = subst (λ (l : List (Member × List ℕ)). IsRightLayout o (names_in l) (tops_in l) (contents_in l)) same h.right in (
+      (plain_alike bytes places).1 plain,
+      right_as o (names_in es) (names_in (extents places)) (tops_in es) (contents_in es) (λ path is. (same_names bytes es places index index path).0 is) right,
+    )
 
 archive_is : (o : Options) (bytes : List ℕ) (places : List Place) → IsIndexOf bytes places
     → IsRightPlaced o places (tops_in (placed_in bytes places)) (contents_in (placed_in bytes places)) ↔ IsRightArchive o bytes
@@ -117,7 +118,7 @@ pub answer_broken : (o : Options) (steady : Bool) (source read : Option (List �
     → OverBytes steady source read (λ bytes. IsAnswer status (IsRightArchive o bytes))
 answer_broken o true (Some bytes) (Some read) status is broken = λ same.
     answer_wrong status (IsRightArchive o bytes) is
-      (λ one right. let (f, breaks) = broken one in never_both (subst (λ b. Holds nothing_said b right.entries) same right.holds) breaks)
+    (λ one right. let (f, breaks) = broken one in never_both (subst (λ b. Holds nothing_said b right.entries) same right.holds) breaks)
 answer_broken o true (Some bytes) None status is broken = tt
 answer_broken o true None read status is broken = tt
 answer_broken o false source read status is broken = tt
