@@ -1,3 +1,4 @@
+pub mod Bounded
 pub mod Elements
 pub mod Failed
 pub mod Found

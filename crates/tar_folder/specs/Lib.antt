@@ -1,3 +1,5 @@
+pub mod Bounds
+pub mod Compressions
 pub mod Errors
 pub mod Folders
 pub mod Marks

@@ -2,6 +2,7 @@
 //! differently denotes nothing: a path that stands twice or leads out of the folder, a link to what is no file before it, a sparse file.
 #![tactic(auto)]
 
+pub mod compression;
 pub mod extent;
 pub mod finding;
 pub mod index;
@@ -10,6 +11,7 @@ pub mod mark;
 pub mod path;
 pub mod read;
 
+pub use compression::{Compression, compression_of};
 pub use extent::Extent;
 pub use finding::{EntryFault, EntryFinding, entry_findings};
 pub use index::Index;
