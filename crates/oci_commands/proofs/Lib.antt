@@ -5,10 +5,10 @@ pub mod Entries
 pub mod Faults
 pub mod Forms
 pub mod Held
-pub mod Kept
 pub mod KeptRecords
 pub mod Layouts
 pub mod Lines
+pub mod Rereading
 pub mod Rows
 pub mod Sides
 pub mod Targets

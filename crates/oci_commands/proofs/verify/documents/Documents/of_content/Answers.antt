@@ -1,7 +1,7 @@
 use Rattle.std.proofs.Common.{sym, subst, ◌∙◌, true≢false, arith}
 use Rattle.std.specs.Prelude.{option_map}
 use Rattle.oci_commands.specs.Images.{IsFound, IsKept, OverContents}
-use Rattle.oci_commands.proofs.Kept.{value_large, value_unnamed, value_missing, value_read}
+use Rattle.oci_commands.proofs.Rereading.{value_large, value_unnamed, value_missing, value_read}
 use Rattle.oci_commands.proofs.verify.documents.Documents.of_content.Goals as goal
 
 pub returns-then-size-gt-limit : goal.returns-then-size-gt-limit

@@ -1,7 +1,7 @@
 use Rattle.std.specs.Prelude.{option_map}
 use Rattle.serde_json.specs.View.{view}
 use Rattle.oci_agreement.specs.Descriptors.{mention_of}
-use Rattle.oci_commands.proofs.Kept.{led_nowhere, led_to}
+use Rattle.oci_commands.proofs.Rereading.{led_nowhere, led_to}
 use Rattle.oci_commands.proofs.verify.documents.Documents.of_descriptor.Goals as goal
 
 pub returns-in-Some : goal.returns-in-Some
