@@ -14,7 +14,7 @@ use oci_findings::{Cause, Claims, Finding, Report, Severity};
 use oci_layout::{Walk, blob_path};
 use oci_rules::{Level, Platforms, Rule, Test};
 use oci_text::Digest;
-use serde_json::Value;
+use serde_json::{Map, Value};
 use std::alloc::{AllocError, Global};
 use std::io::Write;
 
@@ -112,21 +112,39 @@ fn rule_of(description: Description) -> Rule<'static> {
 
 /// What was found, and what another document lets expect there.
 fn found_text(one: &Broken<'_>, alloc: Global) -> std::result::Result<String, AllocError> {
-    let found = shown_text(&one.found, alloc)?;
-    let expected = shown_text(&one.expected, alloc)?;
+    let pointer = one.pointer.as_str();
+    let found = shown_text(&one.found, pointer, alloc)?;
+    let expected = shown_text(&one.expected, pointer, alloc)?;
     format!(in alloc; "{found}, not {expected}")
 }
 
-fn shown_text(shown: &Shown<'_>, alloc: Global) -> std::result::Result<String, AllocError> {
+/// A number, or a value as it is shown at a pointer.
+fn shown_text(
+    shown: &Shown<'_>,
+    pointer: &str,
+    alloc: Global,
+) -> std::result::Result<String, AllocError> {
     let value = match shown {
         Shown::Count(count) => return count.to_string(alloc),
         Shown::Text(text) => Value::String(String::from_str(alloc, text)?),
         Shown::Texts(texts) => Value::Array((*texts).clone()?),
     };
-    match shown_at(&value, "", alloc)? {
+    let shown = if is_media_type(pointer) {
+        let mut members = Map::new(alloc);
+        drop(members.insert(String::from_str(alloc, "mediaType")?, value)?);
+        shown_at(&Value::Object(members), "/mediaType", alloc)?
+    } else {
+        shown_at(&value, "", alloc)?
+    };
+    match shown {
         Some(text) => Ok(text),
         None => Ok(String::new(alloc)),
     }
+}
+
+/// Whether a media type stands at a pointer, which is shown whole.
+fn is_media_type(pointer: &str) -> bool {
+    pointer.ends_with("/mediaType") || pointer.ends_with("/artifactType")
 }
 
 /// Whether none of these counts.
