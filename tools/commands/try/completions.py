@@ -36,9 +36,11 @@ CASES = [
     ("check --quiet ow", ["check", "--quiet", "own.toml"]),
     ("fmt -o ow", ["fmt", "-o", "own.toml"]),
     ("verify --format=sa", ["verify", "--format=sarif"]),
-    # beside the folder there is a file of the same beginning; zsh takes the slash away again
-    ("verify im", ["verify", "image"]),
-    ("verify --strict im", ["verify", "--strict", "image"]),
+    # zsh takes the slash of a folder away again
+    ("verify ima", ["verify", "image"]),
+    ("verify --strict imp", ["verify", "--strict", "imprint.json"]),
+    # beside the folder there is a file of the same beginning
+    ("pin --layout im", ["pin", "--layout", "image"]),
     ("rules layout-v", ["rules", "layout-version"]),
     ("rules image-c", ["rules", "image-config"]),
     ("schema feat", ["schema", "features"]),
