@@ -59,7 +59,7 @@ complete -c ciderglen -n '__ciderglen_is verify' -l strict -d 'Notes are wrong t
 complete -c ciderglen -n '__ciderglen_is verify' -l quick -d 'Look at the sizes of layers alone, and do not read them'
 complete -c ciderglen -n '__ciderglen_is verify' -l progress -d 'Write a line a second of what was done on standard error'
 complete -c ciderglen -n '__ciderglen_is verify' -s h -l help -d 'Print help'
-complete -c ciderglen -n '__ciderglen_is verify' -f -a '(__fish_complete_directories)'
+complete -c ciderglen -n '__ciderglen_is verify' -F
 complete -c ciderglen -n '__ciderglen_is diff' -s k -l kind -x -a 'manifest index config image-config artifact layout descriptor error repositories tags reference spec runtime-config state process-state features' -d 'The kind of the documents; without it, it is found out'
 complete -c ciderglen -n '__ciderglen_is diff' -l format -x -a 'text json' -d 'How to write the result'
 complete -c ciderglen -n '__ciderglen_is diff' -l color -x -a 'auto always never' -d 'When lines have colors; auto, as without it, is on a terminal where'
