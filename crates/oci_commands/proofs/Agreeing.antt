@@ -219,3 +219,9 @@ keeps_with steady contents strict limit d m config (Err e) found h = tt
 keeps_with steady contents strict limit d m config (Ok b) found h =
     over_map steady contents (λ c. IsFound (LeadsTo limit c (get (codes "config") m)) config) (λ c. IsTrue b ↔ KeepsWith strict limit c d m)
     (λ c k. let one = keeps_one strict limit c d m config k in (λ is. one.0 (h.0 is), λ keeps. h.1 (one.1 keeps))) found
+
+pub both_keep : (steady : Bool) (contents : Contents) (P Q : File → Type 0) (first others both : Bool) → IsTrue both ↔ (IsTrue first × IsTrue others)
+    → OverContents steady contents (λ c. IsTrue first ↔ P c) → OverContents steady contents (λ c. IsTrue others ↔ Q c) → OverContents steady contents (λ c. IsTrue both ↔ (P c × Q c))
+both_keep steady contents P Q first others both and h k =
+    over_both steady contents (λ c. IsTrue first ↔ P c) (λ c. IsTrue others ↔ Q c) (λ c. IsTrue both ↔ (P c × Q c))
+    (λ c p q. (λ is. (p.0 (and.0 is).0, q.0 (and.0 is).1), λ it. and.1 (p.1 it.0, q.1 it.1))) h k

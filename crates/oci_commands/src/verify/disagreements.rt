@@ -22,7 +22,7 @@ use std::io::Write;
 #[derive(Clone, Copy)]
 pub struct Texts<'d> {
     pub manifest: &'d Document,
-    pub config: Option<&'d Document>,
+    pub config: &'d Option<Document>,
     pub walk: &'d Walk,
 }
 

@@ -3,7 +3,6 @@ ghost use Rattle.std.specs.Prelude.{◌≡◌, ◌↔◌, ◌<◌, false, length
 ghost use Rattle.std.specs.List.{All};
 ghost use Rattle.serde_json.specs.Find.{as_array, get};
 ghost use Rattle.serde_json.specs.View.{items_view, view};
-ghost use Rattle.oci_agreement.specs.Images.{image_of};
 ghost use Rattle.oci_commands.specs.Images as images;
 ghost use Rattle.oci_commands.specs.Images.{AllKeep, BytesKeep, ClaimKeeps, ImagesKeep, Keeps, KeepsFrom, KeepsWith, OverContents};
 
@@ -198,7 +197,7 @@ impl<'a, S: Store> Images<'a, S> {
         let config = self
             .documents
             .of_descriptor(manifest.value.get("config"), buffer)?;
-        self.image_agrees(descriptor, manifest, config.as_ref(), output)
+        self.image_agrees(descriptor, manifest, &config, output)
     }
 
     /// The same of an image with this manifest and this configuration, if it has one.
@@ -206,11 +205,11 @@ impl<'a, S: Store> Images<'a, S> {
         &self,
         descriptor: &Value,
         manifest: &Document,
-        config: Option<&Document>,
+        config: &Option<Document>,
         output: &mut Output<'_, W, E>,
     ) -> Result<bool>
         ensures { IfOk result (λ agree. IsTrue agree ↔ Keeps self.now.strict
-            (record { descriptor = Some (view descriptor.now); manifest = view manifest.now.value; config = option_map (λ d. view d.now.value) config.entry })) }
+            (record { descriptor = Some (view descriptor.now); manifest = view manifest.now.value; config = option_map (λ d. view d.value) config.now })) }
     {
         let image = Image {
             descriptor: Some(descriptor),
@@ -228,8 +227,8 @@ impl<'a, S: Store> Images<'a, S> {
     }
 }
 
-fn value_of<'d>(document: Option<&'d Document>) -> Option<&'d Value>
-    ensures { option_map (λ v. view v.now) result ≡ option_map (λ d. view d.now.value) document.entry }
+fn value_of(document: &Option<Document>) -> Option<&Value>
+    ensures { option_map (λ v. view v.now) result ≡ option_map (λ d. view d.value) document.now }
 {
     match document {
         Some(document) => Some(&document.value),

@@ -4,8 +4,8 @@ use Rattle.oci_commands.specs.Images.{IsFound, IsKept, OverContents}
 use Rattle.oci_commands.proofs.Rereading.{value_large, value_unnamed, value_missing, value_read}
 use Rattle.oci_commands.proofs.verify.documents.Documents.of_content.Goals as goal
 
-pub returns-then-size-gt-limit : goal.returns-then-size-gt-limit
-returns-then-size-gt-limit g c =
+pub returns-then-size-self : goal.returns-then-size-self
+returns-then-size-self g c =
     let store = c.args.self.now.store.now in
     value_large (g.S.Store.steady store) (g.S.Store.contents store) c.args.self.now.limit c.args.digest.now c.args.size (omega arith)
 

@@ -24,7 +24,7 @@ each-preserved g c =
     let more : take (i + 1) items ≡ take i items ++ x ∷ [] = take_more items i x (omega arith) ∙ ap (λ y. take i items ++ y ∷ []) (sym c.claim-item.is) in
     let all = c.args.self.now.walk.now.claims.items in
     let same : take (i + 1) all ≡ take i all ++ x ∷ [] = subst (λ l. take (i + 1) l ≡ take i l ++ x ∷ []) c.deref-claim-items.ensures.value more in
-    each_more (g.S.Store.steady store) (g.S.Store.contents store) (ClaimKeeps strict limit) all i x c.each.agree c.in_ok-of_claim.of_claim c.are_both.result same c.are_both.ensures
+    each_more (g.S.Store.steady store) (g.S.Store.contents store) (ClaimKeeps strict limit) all i x c.each.agree c.in_ok-of_claim.of_claim c.are_both-agree.result same c.are_both-agree.ensures
     c.each.invariant c.in_ok-of_claim.ensures
 
 pub returns : goal.returns

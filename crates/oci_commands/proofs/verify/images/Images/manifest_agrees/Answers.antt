@@ -1,5 +1,7 @@
-use Rattle.std.specs.Prelude.{option_map, Some, ℕ}
+use Rattle.std.proofs.Common.{Some, subst}
+use Rattle.std.specs.Prelude.{option_map}
 use Rattle.serde_json.specs.View.{view}
+use Rattle.oci_commands.specs.Images.{IsFound, LeadsTo, OverContents}
 use Rattle.oci_commands.proofs.Agreeing.{keeps_with}
 use Rattle.oci_commands.proofs.verify.images.Images.manifest_agrees.Goals as goal
 
@@ -13,4 +15,5 @@ returns g c =
     let d = view c.args.descriptor.now in
     let m = view c.args.manifest.now.value in
     let config = option_map (λ x. view x.value) c.in_ok-config.config in
-    keeps_with steady contents strict limit d m config c.image_agrees.result c.in_ok-config.ensures c.image_agrees.ensures
+    keeps_with steady contents strict limit d m config c.image_agrees.result
+    (subst (λ o. OverContents steady contents (λ k. IsFound (LeadsTo limit k o) config)) c.get.ensures c.in_ok-config.ensures) c.image_agrees.ensures

@@ -25,7 +25,7 @@ each-preserved g c =
     let more : take (i + 1) items ≡ take i items ++ x ∷ [] = take_more items i x (omega arith) ∙ ap (λ y. take i items ++ y ∷ []) (sym c.descriptor-item.is) in
     let all = c.args.manifests.now.items in
     let same : take (i + 1) all ≡ take i all ++ x ∷ [] = subst (λ l. take (i + 1) l ≡ take i l ++ x ∷ []) c.deref-descriptor-items.ensures.value more in
-    each_more (g.S.Store.steady store) (g.S.Store.contents store) (λ k v. KeepsFrom strict limit k (view v)) all i x c.each.agree c.in_ok-of_image.of_image c.are_both.result same c.are_both.ensures
+    each_more (g.S.Store.steady store) (g.S.Store.contents store) (λ k v. KeepsFrom strict limit k (view v)) all i x c.each.agree c.in_ok-of_image.of_image c.are_both-agree.result same c.are_both-agree.ensures
     c.each.invariant c.in_ok-of_image.ensures
 
 pub returns : goal.returns
