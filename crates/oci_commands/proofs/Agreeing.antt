@@ -1,5 +1,5 @@
 -- What the images of a layout agree on, by the steps in which it is found.
-use Rattle.std.proofs.Common.{◌≡◌, ℕ, ◌+◌, ◌<◌, Bool, true, false, not, Result, Ok, Err, IfOk, List, [], ◌∷◌, ◌++◌, length, get_or, map, take, Option, None, Some, refl, sym, ap, subst, ◌∙◌, true≢false}
+use Rattle.std.proofs.Common.{◌≡◌, ℕ, ◌+◌, Bool, true, false, Result, Ok, Err, IfOk, List, [], ◌∷◌, ◌++◌, get_or, map, take, Option, None, Some, refl, sym, ap, subst, ◌∙◌, true≢false}
 use Rattle.std.specs.Prelude.{◌↔◌, codes, unwrap_or, IsTrue}
 use Rattle.std.specs.List.{All, Contains}
 use Rattle.std.proofs.lemmas.List.Elements.{All-append, All-nil, All-cons, All-head, All-tail, All-map, All-contains, Contains-get_or}
@@ -19,7 +19,7 @@ use Rattle.oci_agreement.specs.Listed.{Told, told_of, told_by, IsToldBy}
 use Rattle.oci_agreement.specs.declared.agreement.Agreement.{Agreement}
 use Rattle.oci_agreement.specs.declared.broken.Broken.{Broken}
 use Rattle.oci_agreement.proofs.Laws.{law}
-use Rattle.oci_commands.specs.Images.{AllKeep, BytesKeep, ClaimKeeps, IsDocumentOf, IsFound, IsImageOf, IsValueOf, Keeps, KeepsFrom, KeepsWith, LeadsTo, OverContents, counts, is_image, is_index}
+use Rattle.oci_commands.specs.Images.{AllKeep, BytesKeep, ClaimKeeps, IsDocumentOf, IsFound, IsValueOf, Keeps, KeepsFrom, KeepsWith, LeadsTo, OverContents, counts, is_image, is_index}
 
 abbrev File : Type 0
 File = List ℕ → Option (List ℕ)

@@ -1,6 +1,6 @@
 -- What documents are read of the contents of a layout, by the steps in which they are read.
-use Rattle.std.proofs.Common.{◌≡◌, ℕ, ◌<◌, ◌≤◌, Bool, true, false, Vec, Global, Result, Ok, Err, IfOk, List, length, Option, None, Some, IfSome, inl, inr, refl, sym, ap, subst, ◌∙◌, true≢false, arith}
-use Rattle.std.specs.Prelude.{◌↔◌, option_map, option_and_then, IsTrue}
+use Rattle.std.proofs.Common.{◌≡◌, ℕ, ◌<◌, ◌≤◌, Bool, true, false, Result, Ok, Err, IfOk, List, Option, None, Some, IfSome, inl, inr, refl, sym, ap, subst, ◌∙◌, true≢false, arith}
+use Rattle.std.specs.Prelude.{option_map, option_and_then}
 use Rattle.serde_json.specs.Data.{Data}
 use Rattle.serde_json.specs.View.{view}
 use Rattle.oci_base.specs.Digest.{IsDigestText}
@@ -58,9 +58,6 @@ pub whole_other : (known : Option (List ℕ)) (bytes digest : List ℕ) (size : 
     → IfSome known (λ all. IsFound (IsWhole all digest size) None)
 whole_other None bytes digest size v cut tells not = tt
 whole_other (Some all) bytes digest size v cut tells not = λ b h. no_whole bytes all digest size v cut tells not (subst (IsContentOf digest size) h.0 h.1)
-
-pub whole_never : (known : Option (List ℕ)) (P : List ℕ → Type 0) → ⊥ → IfSome known P
-whole_never known P never = absurd never
 
 -- ---- what is kept under a digest
 

@@ -2,7 +2,7 @@ use Rattle.std.proofs.Common.{subst}
 use Rattle.std.specs.Prelude.{option_map}
 use Rattle.oci_layout.specs.Looks.{Gives}
 use Rattle.oci_layout.specs.declared.store.Opened.TheVariants.{Content}
-use Rattle.oci_commands.proofs.Kept.{kept_missing, kept_unreadable, kept_read}
+use Rattle.oci_commands.proofs.Rereading.{kept_missing, kept_unreadable, kept_read}
 use Rattle.oci_commands.proofs.verify.documents.Documents.bytes_of.Goals as goal
 
 pub returns-in-Missing : goal.returns-in-Missing

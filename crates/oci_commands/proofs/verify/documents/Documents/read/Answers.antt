@@ -1,7 +1,7 @@
 use Rattle.std.proofs.Common.{subst, IfSome, ◌∙◌, sym}
 use Rattle.oci_content.specs.Content.{Tells}
 use Rattle.oci_layout.specs.Looks.{IsCut}
-use Rattle.oci_commands.proofs.Rereading.{whole_same, whole_other, whole_never}
+use Rattle.oci_commands.proofs.Rereading.{whole_same, whole_other}
 use Rattle.oci_commands.proofs.verify.documents.Documents.read.Goals as goal
 
 pub returns-then-is_same : goal.returns-then-is_same

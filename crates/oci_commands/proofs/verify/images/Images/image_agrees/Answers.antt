@@ -1,7 +1,6 @@
 use Rattle.std.proofs.Common.{Some, subst}
 use Rattle.std.specs.Prelude.{◌↔◌, IsTrue}
 use Rattle.serde_json.specs.View.{view}
-use Rattle.oci_agreement.specs.Images.{image_of}
 use Rattle.oci_commands.specs.Images.{Keeps}
 use Rattle.oci_commands.proofs.Agreeing.{keeps_broken}
 use Rattle.oci_commands.proofs.verify.images.Images.image_agrees.Goals as goal

@@ -1,4 +1,4 @@
-use Rattle.std.proofs.Common.{Some, subst}
+use Rattle.std.proofs.Common.{subst}
 use Rattle.std.specs.Prelude.{option_map}
 use Rattle.serde_json.specs.View.{view}
 use Rattle.oci_commands.specs.Images.{IsFound, LeadsTo, OverContents}
