@@ -1,12 +1,15 @@
 pub mod Agreeing
+pub mod Archives
 pub mod CheckIsFormat
 pub mod Entries
 pub mod Faults
 pub mod Forms
 pub mod Held
+pub mod KeptRecords
 pub mod Layouts
 pub mod Lines
 pub mod Rereading
+pub mod Rows
 pub mod Sides
 pub mod Targets
 pub mod Written
