@@ -4,6 +4,7 @@ pub mod CheckIsFormat
 pub mod Entries
 pub mod Faults
 pub mod Forms
+pub mod FoundKinds
 pub mod Held
 pub mod KeptRecords
 pub mod Layouts

@@ -17,18 +17,20 @@ use Rattle.oci_base.specs.Digest.{IsDigest}
 abbrev pub AreReferenceLines : List ℕ → List ℕ → Type 0
 AreReferenceLines text lines = (parts : Parts) × Accepted text parts × (lines ≡ reference_lines parts)
 
--- the object of a text that is a reference of these parts
-abbrev pub reference_tokens : List ℕ → Parts → List Token
-reference_tokens text r =
-    begin_object ∷ []
+-- behind these tokens, the members of a text that is a reference of these parts
+abbrev pub part_tokens : List Token → List ℕ → Parts → List Token
+part_tokens before text r =
+    before
     ++ text_member (codes "input") text
     ++ text_member (codes "registry") r.registry
     ++ text_member (codes "repository") r.repository
     ++ text_member_if (codes "tag") r.tag
     ++ text_member_if (codes "digest") r.digest
-    ++ text_member (codes "whole") (whole r)
-    ++ text_member (codes "resolve") (resolved r)
-    ++ end_object ∷ []
+
+-- its object
+abbrev pub reference_tokens : List ℕ → Parts → List Token
+reference_tokens text r =
+    part_tokens (begin_object ∷ []) text r ++ text_member (codes "whole") (whole r) ++ text_member (codes "resolve") (resolved r) ++ end_object ∷ []
 
 abbrev pub IsReferenceObject : List ℕ → List ℕ → Type 0
 IsReferenceObject text line = (parts : Parts) × Accepted text parts × (line ≡ line_of (reference_tokens text parts))

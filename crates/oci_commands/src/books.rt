@@ -68,7 +68,7 @@ pub(crate) fn has_text(texts: &Vec<String>, text: &str) -> bool
     ensures { result ≡ is_listed (map string_bytes texts.now.items) text.now }
 {
     for it in texts {
-        if it.as_str() == text {
+        if text == it.as_str() {
             return true;
         }
     }

@@ -1,5 +1,5 @@
 //! The commands on references and digests, and what is said on standard error.
-ghost use Rattle.std.specs.Prelude.{◌≡◌, ◌⊎◌, ℕ, List, true, false, [], Some, IfOk, IfSome, string_bytes};
+ghost use Rattle.std.specs.Prelude.{◌≡◌, ◌⊎◌, ℕ, List, true, false, [], Some, IfOk, IfSome, OnOk, string_bytes};
 ghost use Rattle.std.specs.Io.KnownBytes.{Appends};
 ghost use Rattle.oci_findings.specs.Checks.{IsAllowed};
 ghost use Rattle.oci_base.specs.Digest.{IsDigestText};
@@ -9,11 +9,12 @@ ghost use Rattle.oci_doc_run.specs.Outputs.{Writes, WritesPinned};
 ghost use Rattle.oci_commands.specs.Done.{IsStatus, AppendsEach};
 ghost use Rattle.oci_commands.specs.Objects.{line_of as line_of_tokens};
 ghost use Rattle.oci_commands.specs.Refused.{IsAtFault, IsFault, IsNoReference, IsNoDigest, IsNoDescriptor, HasNone};
-ghost use Rattle.oci_commands.specs.Texts.{AreReferenceLines, AreDigestLines, IsDigestObject, IsReferenceObject, IsShownDigest, IsShownReference, reference_tokens};
+ghost use Rattle.oci_commands.specs.Texts.{AreReferenceLines, AreDigestLines, IsDigestObject, IsReferenceObject, IsShownDigest, IsShownReference, part_tokens, reference_tokens};
 
 use crate::asked::Style;
 use crate::files::Files;
 use crate::objects::{begun, ended, text_member, text_member_if};
+use json::Writer;
 use oci_base::{OciSpecError, Result, line_of};
 use oci_doc_run::{Command, Refusal};
 use oci_findings::Report;
@@ -212,14 +213,27 @@ fn reference_object(text: &str, reference: &Reference, alloc: Global) -> Result<
 {
     let whole = reference.whole()?;
     let mut out = begun(alloc)?;
-    text_member(&mut out, "input", text)?;
-    text_member(&mut out, "registry", reference.registry())?;
-    text_member(&mut out, "repository", reference.repository())?;
-    text_member_if(&mut out, "tag", reference.tag())?;
-    text_member_if(&mut out, "digest", reference.digest())?;
+    put_parts(&mut out, text, reference)?;
     text_member(&mut out, "whole", whole.as_str())?;
     text_member(&mut out, "resolve", reference.resolve_registry())?;
-    Ok(ended(out, alloc)?)
+    let line = ended(out, alloc)?;
+    Ok(line)
+}
+
+/// Adds the text of a reference and its parts.
+fn put_parts(
+    out: &mut Writer,
+    text: &str,
+    reference: &Reference,
+) -> std::result::Result<(), AllocError>
+    ensures before { OnOk result (out.new.before ≡ out.old.before) }
+    ensures tokens { OnOk result (out.new.tokens ≡ part_tokens out.old.tokens text.now reference.now) }
+{
+    text_member(out, "input", text)?;
+    text_member(out, "registry", reference.registry())?;
+    text_member(out, "repository", reference.repository())?;
+    text_member_if(out, "tag", reference.tag())?;
+    text_member_if(out, "digest", reference.digest())
 }
 
 /// Writes the parts of each digest, as `references` does.

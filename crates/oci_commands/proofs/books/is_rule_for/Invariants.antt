@@ -6,4 +6,4 @@ use Rattle.oci_commands.proofs.books.is_rule_for.Given as goal
 
 abbrev pub invariant-loop-book : goal.invariant-loop-book
 invariant-loop-book g l =
-    has_rule l.name (flat_map (λ b. map rule_of b.now) l.found.items) ≡ has_rule l.name (flat_map (λ b. map rule_of b.now) (drop l.book-index l.found.items))
+    has_rule l.name (flat_map (λ b. map rule_of b.now) l.book-items) ≡ has_rule l.name (flat_map (λ b. map rule_of b.now) (drop l.book-index l.book-items))

@@ -5,4 +5,4 @@ use Rattle.oci_commands.specs.Books.{Rows}
 use Rattle.oci_commands.proofs.books.rules_of_kind.Given as goal
 
 abbrev pub invariant-loop-book : goal.invariant-loop-book
-invariant-loop-book g l = Rows (flat_map (λ b. map rule_of b.now) (take l.book-index l.found.items)) [] (map string_bytes l.rows.items)
+invariant-loop-book g l = Rows (flat_map (λ b. map rule_of b.now) (take l.book-index l.book-items)) [] (map string_bytes l.rows.items)

@@ -1,8 +1,11 @@
-use Rattle.std.proofs.Common.{◌≡◌, Some, inr, sym, subst}
+use Rattle.std.proofs.Common.{◌≡◌, Some, inl, inr, sym, subst}
 use Rattle.std.proofs.lemmas.Result.{IfOk-weaker}
 use Rattle.oci_findings.specs.Checks.{IsKindIn}
 use Rattle.oci_commands.proofs.Held.{put_kept}
 use Rattle.oci_commands.proofs.canonical.Formatting.finish.Goals as goal
+
+pub returns-then-changes-clause-refused : goal.returns-then-changes-clause-refused
+returns-then-changes-clause-refused g c = λ one. inr (inl (c.in_ok-changes.ensures.changed c.if-changes.true))
 
 pub returns-clause-refused : goal.returns-clause-refused
 returns-clause-refused g c = IfOk-weaker c.put.result _ _ (λ s differs one. inr (inr (differs one))) c.put.ensures.differs
