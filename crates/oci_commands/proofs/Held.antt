@@ -125,4 +125,4 @@ put_then holds output P Q f h = IfSome_then output h (λ name known. IfSome_then
 -- the same, with what holds if there is an output
 pub put_kept : (holds : List ℕ → Option (List ℕ)) (output : Option (Bor (List ℕ))) (P Q : List ℕ → Type 0) → (IsSome output → (bytes : List ℕ) → P bytes → Q bytes) → HoldsPut holds output P → HoldsPut holds output Q
 put_kept holds None P Q f h = tt
-put_kept holds (Some name) P Q f h = IfSome_then (holds name.now) h (f tt)
+put_kept holds (Some name) P Q f h = IfSome_then (holds name.now) h (f refl)

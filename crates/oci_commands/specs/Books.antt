@@ -31,19 +31,18 @@ Rows (r ∷ rs) before after = (row : List ℕ) × IsRow r row × Rows rs (with_
 abbrev pub IsSection : List Rule → List ℕ → Type 0
 IsSection rules text = (title : List ℕ) × (rows : List (List ℕ)) × Rows rules [] rows × (text ≡ title ++ 10 ∷ flat_map (λ row. row) rows)
 
--- a section behind others, with an empty line between them
-abbrev pub apart : List ℕ → List ℕ → List ℕ
-apart [] section = section
-apart (x ∷ xs) section = (x ∷ xs) ++ 10 ∷ section
+-- behind what there is, a section and an empty line
+abbrev pub with_section : List ℕ → List ℕ → List ℕ
+with_section before section = before ++ (section ++ 10 ∷ [])
 
 -- the sections of these kinds in their order, behind what there is
 abbrev pub Sections : (Kind → List Rule) → List Kind → List ℕ → List ℕ → Type 0
 Sections books [] before after = after ≡ before
-Sections books (kind ∷ kinds) before after = (section : List ℕ) × IsSection (books kind) section × Sections books kinds (apart before section) after
+Sections books (kind ∷ kinds) before after = (section : List ℕ) × IsSection (books kind) section × Sections books kinds (with_section before section) after
 
--- those of all kinds, an empty line, and the line of the versions
+-- those of all kinds, and the line of the versions
 abbrev pub AreAllRules : (Kind → List Rule) → List ℕ → Type 0
-AreAllRules books text = (sections : List ℕ) × (versions : List ℕ) × Sections books all_kinds [] sections × (text ≡ sections ++ 10 ∷ (versions ++ 10 ∷ []))
+AreAllRules books text = (sections : List ℕ) × (versions : List ℕ) × Sections books all_kinds [] sections × (text ≡ sections ++ (versions ++ 10 ∷ []))
 
 -- a rule of the list has the name; a rule for some kind of documents has
 abbrev pub has_rule : List ℕ → List Rule → Bool

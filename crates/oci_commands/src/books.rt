@@ -3,7 +3,7 @@ ghost use Rattle.std.specs.Prelude.{◌≡◌, ◌++◌, ◌∷◌, List, ℕ, N
 ghost use Rattle.std.specs.List.{flat_map};
 ghost use Rattle.oci_base.specs.Names.{is_listed};
 ghost use Rattle.oci_rules.specs.Tables.{rule_of};
-ghost use Rattle.oci_commands.specs.Books.{apart, AreAllRules, has_rule as has_rule_of, is_rule as is_rule_of, IsRow, IsSection, Rows, with_new};
+ghost use Rattle.oci_commands.specs.Books.{AreAllRules, has_rule as has_rule_of, is_rule as is_rule_of, IsRow, IsSection, Rows, with_new, with_section};
 
 use oci_findings::RuleBooks;
 use oci_rules::{Platforms, Rule, RuntimePlatform, Step};
@@ -95,26 +95,25 @@ pub fn all_rules<B: RuleBooks + Versions>(books: &B, alloc: Global) -> Result<St
     for kind in &KINDS {
         push_rules(&mut text, books, *kind, alloc)?;
     }
-    text.push_str("\n")?;
-    text.push_str(books.versions())?;
-    text.push_str("\n")?;
+    let versions = books.versions();
+    let last = format!(in alloc; "{versions}\n")?;
+    text.push_str(last.as_str())?;
     Ok(text)
 }
 
-/// Adds the rules of a kind, behind an empty line unless they are the first.
+/// Adds the rules of a kind, and an empty line.
 fn push_rules<B: RuleBooks>(
     text: &mut String,
     books: &B,
     kind: Kind,
     alloc: Global,
 ) -> Result<(), AllocError>
-    ensures { OnOk result ((section : List ℕ) × IsSection (B.rules books.now kind) section × (string_bytes text.new ≡ apart (string_bytes text.old) section)) }
+    ensures { OnOk result ((section : List ℕ) × IsSection (B.rules books.now kind) section × (string_bytes text.new ≡ with_section (string_bytes text.old) section)) }
 {
     let rules = rules_of_kind(books, kind, alloc)?;
-    if !text.is_empty() {
-        text.push_str("\n")?;
-    }
-    text.push_str(rules.as_str())
+    let rules = format!(in alloc; "{rules}\n")?;
+    text.push_str(rules.as_str())?;
+    Ok(())
 }
 
 fn push_rule(text: &mut String, rule: &Rule<'_>, alloc: Global) -> Result<(), AllocError> {

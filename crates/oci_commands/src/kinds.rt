@@ -138,7 +138,8 @@ fn put_candidate(out: &mut Writer, word: &str) -> std::result::Result<(), AllocE
     out.key("candidates")?;
     out.begin_array()?;
     out.string(word)?;
-    out.end_array()
+    out.end_array()?;
+    Ok(())
 }
 
 /// The line of a document of which no kind was found, for this reason.

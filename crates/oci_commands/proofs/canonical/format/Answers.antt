@@ -1,9 +1,17 @@
-use Rattle.std.proofs.Common.{Some, subst}
+use Rattle.std.proofs.Common.{◌≡◌, Some, subst}
 use Rattle.std.specs.Io.KnownBytes.{Appends}
 use Rattle.std.proofs.lemmas.Result.{IfOk-weaker}
 use Rattle.oci_commands.specs.Formats.{Formats, FormatsTo, IsUnformatted}
 use Rattle.oci_commands.proofs.Held.{formats_held, held, put_then, to_held}
 use Rattle.oci_commands.proofs.canonical.format.Goals as goal
+
+pub returns-in-Ok-clause-canonical : goal.returns-in-Ok-clause-canonical
+returns-in-Ok-clause-canonical g c =
+    let a = c.args.asked.now in
+    IfOk-weaker c.format.result _ _
+    (λ s made zero checks. held (λ bytes. Formats a (Some bytes) (λ t. t ≡ bytes)) (g.S.Files.holds c.args.store.now a.file.now) c.in-Ok.bytes.items c.in-Ok.ensures.bytes
+    (subst (λ b. Formats a (Some b) (λ t. t ≡ b)) c.as_slice.ensures.value (made zero checks)))
+    c.format.ensures.canonical
 
 pub returns-in-Ok-clause-written : goal.returns-in-Ok-clause-written
 returns-in-Ok-clause-written g c =
