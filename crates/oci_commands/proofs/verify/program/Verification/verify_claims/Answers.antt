@@ -16,6 +16,6 @@ returns g c =
       listing = c.in_ok-listed.ensures;
       agree = c.in_ok-agree.agree;
       images = c.in_ok-agree.ensures;
-      told = told_both c.is_right.result c.in_ok-agree.agree c.are_both.result (IsFoundRight strict c.args.fault walk.claims.items walk.faults.items c.in_ok-listed.listed.items) c.are_both.ensures
-          (subst (λ l. IsTrue c.is_right.result ↔ IsFoundRight strict c.args.fault walk.claims.items walk.faults.items l) c.as_slice-2.ensures.value c.is_right.ensures);
+      told = told_both c.is_right-is_right.result c.in_ok-agree.agree c.are_both.result (IsFoundRight strict c.args.fault walk.claims.items walk.faults.items c.in_ok-listed.listed.items) c.are_both.ensures
+          (subst (λ l. IsTrue c.is_right-is_right.result ↔ IsFoundRight strict c.args.fault walk.claims.items walk.faults.items l) c.as_slice-2.ensures.value c.is_right-is_right.ensures);
     }
