@@ -1,5 +1,5 @@
 -- What is listed of the entries of an archive.
-use Rattle.std.proofs.Common.{◌≡◌, ℕ, ◌+◌, ◌<◌, Bool, true, false, List, [], ◌∷◌, ◌++◌, length, map, take, get_or, Option, Some, None, string_bytes, inl, inr, refl, sym, ap, ◌∙◌, subst, append-nil, arith}
+use Rattle.std.proofs.Common.{◌≡◌, ℕ, ◌+◌, ◌<◌, ◌≤◌, Bool, true, false, List, [], ◌∷◌, ◌++◌, length, map, take, get_or, Option, Some, None, string_bytes, inl, inr, refl, sym, ap, ◌∙◌, subst, append-nil, arith}
 use Rattle.std.specs.Prelude.{◌⊎◌}
 use Rattle.std.specs.List.{All, Contains, filter_map, cons_option}
 use Rattle.std.proofs.lemmas.List.{take_more, take_all, map-append}
@@ -18,6 +18,9 @@ abbrev name_at : Place → Option (List ℕ)
 name_at p = name_of (member_of p.entry)
 
 -- ---- one entry more
+
+pub one_added : (name : Option (List ℕ)) (old new : List Listed) (l : Listed) → new ≡ old ++ l ∷ [] → l.cut ≡ false → Some (string_bytes l.path) ≡ name → AddsName name old new
+one_added name old new l more whole e = subst (λ o. AddsName o old new) e (record { one = l; whole = whole; path = refl; more = more })
 
 added : (old new : List Listed) (names : List (List ℕ)) (p : Place) → AddsName (name_at p) old new → paths_of old ≡ names → All (λ l. l.cut ≡ false) old
     → (paths_of new ≡ names ++ filter_map name_at (p ∷ [])) × All (λ l. l.cut ≡ false) new

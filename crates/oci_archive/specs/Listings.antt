@@ -10,10 +10,10 @@ abbrev pub paths_of : List Listed → List (List ℕ)
 paths_of listed = map (λ l. string_bytes l.path) listed
 
 -- one more is listed, with this path
-pub record IsOneMore (path : List ℕ) (old new : List Listed) : Type 0 where
+pub record IsOneMore (name : List ℕ) (old new : List Listed) : Type 0 where
   pub one : Listed
   pub whole : one.cut ≡ false
-  pub path : string_bytes one.path ≡ path
+  pub path : string_bytes one.path ≡ name
   pub more : new ≡ old ++ one ∷ []
 
 -- the entry that is put at this path is listed, if there is such a path

@@ -1,5 +1,7 @@
 //! An archive as an image layout.
-ghost use Rattle.std.specs.Prelude.{IfOk};
+ghost use Rattle.std.specs.Prelude.{◌≡◌, ℕ, List, Some, IfOk};
+ghost use Rattle.tar_folder.specs.Folders.{file_at};
+ghost use Rattle.tar_folder.specs.Marks.{extents};
 ghost use Rattle.oci_layout.specs.Looks.{Gives};
 ghost use Rattle.oci_archive.specs.Layouts.{tops_at};
 
@@ -10,7 +12,7 @@ use oci_layout::{ImageLayout, Listed, Opened, Store, blob_path};
 use oci_text::Digest;
 use std::alloc::{AllocError, Global};
 use std::io;
-use tar_folder::Index;
+use tar_folder::{Extent, Index};
 
 /// The image layout that an archive holds: its index, and the bytes in which its contents lie.
 pub struct Packed<'a, S> {
@@ -29,12 +31,21 @@ impl<'a, S: Source> Packed<'a, S> {
     fn open_path(&self, alloc: Global, path: &str) -> Result<Opened<S::Part>, AllocError>
         ensures { IfOk result (Gives S.Part.remaining (S.steady self.now.source.now) (tops_at self.now.index.now.places.items (S.bytes self.now.source.now)) path.now) }
     {
-        let Some(extent) = self.index.extent_at(alloc, path)? else {
-            return Ok(Opened::Missing);
-        };
+        let found = self.index.extent_at(alloc, path)?;
+        match found {
+            None => Ok(Opened::Missing),
+            Some(extent) => Ok(self.opened(extent)),
+        }
+    }
+
+    /// What there is at a path whose content lies there.
+    fn opened(&self, extent: Extent) -> Opened<S::Part>
+        ensures { (path : List ℕ) → Some extent ≡ file_at (extents self.now.index.now.places.items) path
+            → Gives S.Part.remaining (S.steady self.now.source.now) (tops_at self.now.index.now.places.items (S.bytes self.now.source.now)) path result }
+    {
         match self.source.part(extent.offset, extent.size) {
-            Some((part, size)) => Ok(Opened::Content(part, Some(size))),
-            None => Ok(Opened::Unreadable),
+            None => Opened::Unreadable,
+            Some((part, size)) => Opened::Content(part, Some(size)),
         }
     }
 }
