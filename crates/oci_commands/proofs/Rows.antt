@@ -90,9 +90,9 @@ sections_end books kinds i now over = subst (λ q. Sections books q now now) (sy
 
 -- an element of which p does not hold is as none
 pub none_here : {X : Type 0} (p : X → Bool) (xs : List X) (i : ℕ) (d : X) (b : Bool) → i < length xs → p (get_or xs i d) ≡ false → b ≡ list_any p (drop i xs) → b ≡ list_any p (drop (i + 1) xs)
-none_here p xs i d b below no h =
+none_here p xs i d b below isnt h =
     let step : i + 1 ≡ suc i = omega arith in
-    h ∙ ap (list_any p) (drop-cons xs i d below) ∙ ap (λ y. y || list_any p (drop (suc i) xs)) no ∙ ap (λ n. list_any p (drop n xs)) (sym step)
+    h ∙ ap (list_any p) (drop-cons xs i d below) ∙ ap (λ y. y || list_any p (drop (suc i) xs)) isnt ∙ ap (λ n. list_any p (drop n xs)) (sym step)
 
 -- four texts, tokens or others put behind some
 pub four : {A : Type 0} (ts : List A) (a b c d : A) (t1 t2 t3 t4 : List A) → t1 ≡ ts ++ a ∷ [] → t2 ≡ t1 ++ b ∷ [] → t3 ≡ t2 ++ c ∷ [] → t4 ≡ t3 ++ d ∷ [] → t4 ≡ ts ++ a ∷ (b ∷ (c ∷ (d ∷ [])))
