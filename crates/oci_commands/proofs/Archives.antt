@@ -9,13 +9,11 @@ use Rattle.tar.specs.declared.index.Place.{Place}
 use Rattle.tar.proofs.OneReading.{never_both, one_list}
 use Rattle.tar_folder.specs.Marks.{extents}
 use Rattle.tar_folder.specs.Plain.{IsPlainArchive}
-use Rattle.tar_folder.specs.Errors.{OnFault}
-use Rattle.tar_folder.specs.declared.read.IndexError.{IndexError}
-use Rattle.tar_folder.specs.declared.read.IndexError.TheVariants as errors
 use Rattle.tar_folder.proofs.Natural.{plain_alike}
+use Rattle.oci_layout.specs.Looks.{Contents}
 use Rattle.oci_archive.specs.Layouts.{contents_at, contents_in, names_in, tops_at, tops_in}
 use Rattle.oci_archive.proofs.Denoted.{same_names}
-use Rattle.oci_commands.specs.Archives.{IsBroken, IsRightArchive, IsRightPlaced, IsSoundArchive, OverBytes}
+use Rattle.oci_commands.specs.Archives.{IsRightArchive, IsRightPlaced, IsSoundArchive, OverBytes}
 use Rattle.oci_commands.specs.Layouts.{HasNoNote, IsAnswer, IsRightLayout, OverSteady}
 use Rattle.oci_commands.specs.declared.verify.options.Options.{Options}
 
@@ -92,13 +90,6 @@ archive_is o bytes places index = (right_archive o bytes places index, placed_ar
 abbrev pub IfBroken : Option (List ℕ) → Type 0
 IfBroken read = IfSome read (λ bytes. (f : Fault) × Breaks nothing_said bytes f)
 
-pub broken_by : (read : Option (List ℕ)) (e : IndexError) → IsBroken e → OnFault e (λ f. IfSome read (λ bytes. Breaks nothing_said bytes f)) → IfBroken read
-broken_by None e is on = tt
-broken_by (Some bytes) errors.Memory is on = absurd is
-broken_by (Some bytes) (errors.Io e) is on = absurd is
-broken_by (Some bytes) (errors.Fault f) is on = (f, on)
-broken_by (Some bytes) errors.TooMany is on = absurd is
-
 abbrev IsPlacedAnswer : Options → Bool → Option (List ℕ) → List Place → ℕ → Type 0
 IsPlacedAnswer o steady source places status =
     OverSteady steady (tops_at places source) (contents_at places source) (λ tops contents. IsAnswer status (IsRightPlaced o places tops contents))
@@ -114,11 +105,38 @@ answer_read o true None read places status index h = tt
 answer_read o false source read places status index h = tt
 
 -- bytes that are no archive
-pub answer_broken : (o : Options) (steady : Bool) (source read : Option (List ℕ)) (status : ℕ) → (status ≡ 1) ⊎ (status ≡ 3) → (status ≡ 1 → IfBroken read)
+pub answer_broken : (o : Options) (steady : Bool) (source read : Option (List ℕ)) (status : ℕ) → (status ≡ 1) ⊎ (status ≡ 3) → IfBroken read
     → OverBytes steady source read (λ bytes. IsAnswer status (IsRightArchive o bytes))
 answer_broken o true (Some bytes) (Some read) status is broken = λ same.
     answer_wrong status (IsRightArchive o bytes) is
-    (λ one right. let (f, breaks) = broken one in never_both (subst (λ b. Holds nothing_said b right.entries) same right.holds) breaks)
+    (λ one right. let (f, breaks) = broken in never_both (subst (λ b. Holds nothing_said b right.entries) same right.holds) breaks)
 answer_broken o true (Some bytes) None status is broken = tt
 answer_broken o true None read status is broken = tt
 answer_broken o false source read status is broken = tt
+
+-- what could not be found out
+pub answer_three : (o : Options) (steady : Bool) (source read : Option (List ℕ)) → OverBytes steady source read (λ bytes. IsAnswer 3 (IsRightArchive o bytes))
+answer_three o true (Some bytes) (Some read) = λ same. inr (inr refl)
+answer_three o true (Some bytes) None = tt
+answer_three o true None read = tt
+answer_three o false source read = tt
+
+-- ---- by the places of its entries
+
+-- all tools unpack one folder, and this is found of its layout
+pub placed_right : (o : Options) (steady : Bool) (places : List Place) (tops contents : Contents) (status : ℕ) → IsPlainArchive (extents places)
+    → OverSteady steady tops contents (λ t c. IsAnswer status (IsRightLayout o (names_in (extents places)) t c))
+    → OverSteady steady tops contents (λ t c. IsAnswer status (IsRightPlaced o places t c))
+placed_right o true places (Some t) (Some c) status plain h =
+    answer_as status (IsRightLayout o (names_in (extents places)) t c) (IsRightPlaced o places t c) ((λ r. (plain, r)), (λ b. b.1)) h
+placed_right o true places (Some t) None status plain h = tt
+placed_right o true places None contents status plain h = tt
+placed_right o false places tops contents status plain h = tt
+
+-- they do not
+pub placed_wrong : (o : Options) (steady : Bool) (places : List Place) (tops contents : Contents) (status : ℕ) → (status ≡ 1) ⊎ (status ≡ 3) → ¬ IsPlainArchive (extents places)
+    → OverSteady steady tops contents (λ t c. IsAnswer status (IsRightPlaced o places t c))
+placed_wrong o true places (Some t) (Some c) status is other = answer_wrong status (IsRightPlaced o places t c) is (λ one b. other b.0)
+placed_wrong o true places (Some t) None status is other = tt
+placed_wrong o true places None contents status is other = tt
+placed_wrong o false places tops contents status is other = tt

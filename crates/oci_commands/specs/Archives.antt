@@ -1,12 +1,10 @@
 -- Whether an image layout in a tar archive is right (image specification, "Image Layout"; POSIX, pax, "ustar Interchange Format").
-use Rattle.std.specs.Prelude.{◌≡◌, ⊤, ⊥, ℕ, List, Bool, true, false, Option, Some, None}
+use Rattle.std.specs.Prelude.{◌≡◌, ⊤, ℕ, List, Bool, true, false, Option, Some, None}
 use Rattle.tar.specs.Archives.{Holds}
 use Rattle.tar.specs.Entries.{Member, nothing_said}
 use Rattle.tar.specs.declared.index.Place.{Place}
 use Rattle.tar_folder.specs.Marks.{extents}
 use Rattle.tar_folder.specs.Plain.{IsPlainArchive}
-use Rattle.tar_folder.specs.declared.read.IndexError.{IndexError}
-use Rattle.tar_folder.specs.declared.read.IndexError.TheVariants as errors
 use Rattle.oci_archive.specs.Layouts.{contents_in, names_in, tops_in}
 use Rattle.oci_commands.specs.Layouts.{IsRightLayout}
 use Rattle.oci_commands.specs.declared.verify.options.Options.{Options}
@@ -36,10 +34,3 @@ OverBytes false source read P = ⊤
 -- the entries are one folder to all that unpack them, and these files of it are a right layout
 abbrev pub IsRightPlaced : Options → List Place → (List ℕ → Option (List ℕ)) → (List ℕ → Option (List ℕ)) → Type 0
 IsRightPlaced options places tops contents = IsPlainArchive (extents places) × IsRightLayout options (names_in (extents places)) tops contents
-
--- the bytes are no archive
-abbrev pub IsBroken : IndexError → Type 0
-IsBroken errors.Memory = ⊥
-IsBroken (errors.Io e) = ⊥
-IsBroken (errors.Fault f) = ⊤
-IsBroken errors.TooMany = ⊥

@@ -4,6 +4,7 @@
 pub mod archive;
 pub mod disagreements;
 pub mod documents;
+pub mod entries;
 pub mod images;
 pub mod marker;
 pub mod options;
