@@ -1,5 +1,6 @@
 -- What is found of an archive by the places of its entries, and what that says of its bytes.
-use Rattle.std.proofs.Common.{◌≡◌, ℕ, Bool, true, false, List, map, Option, None, Some, inl, inr, refl, sym, subst, ◌∙◌}
+use Rattle.std.proofs.Common.{◌≡◌, ℕ, suc, Bool, true, false, List, [], ◌∷◌, length, map, Option, None, Some, inl, inr, refl, sym, ap, subst, ◌∙◌, ◌==◌, true≢false, arith}
+use Rattle.std.proofs.lemmas.Bool.Decides.{nat_tests}
 use Rattle.std.specs.Prelude.{◌≡◌, ◌↔◌, ◌⊎◌, IfSome}
 use Rattle.tar_header.specs.declared.fault.Fault.{Fault}
 use Rattle.tar.specs.Archives.{Breaks, Holds}
@@ -9,6 +10,9 @@ use Rattle.tar.specs.declared.index.Place.{Place}
 use Rattle.tar.proofs.OneReading.{never_both, one_list}
 use Rattle.tar_folder.specs.Marks.{extents}
 use Rattle.tar_folder.specs.Plain.{IsPlainArchive}
+use Rattle.tar_folder.specs.Errors.{OnFault}
+use Rattle.tar_folder.specs.declared.read.IndexError.{IndexError}
+use Rattle.tar_folder.specs.declared.read.IndexError.TheVariants as errors
 use Rattle.tar_folder.proofs.Natural.{plain_alike}
 use Rattle.oci_layout.specs.Looks.{Contents}
 use Rattle.oci_archive.specs.Layouts.{contents_at, contents_in, names_in, tops_at, tops_in}
@@ -86,9 +90,20 @@ archive_is : (o : Options) (bytes : List ℕ) (places : List Place) → IsIndexO
     → IsRightPlaced o places (tops_in (placed_in bytes places)) (contents_in (placed_in bytes places)) ↔ IsRightArchive o bytes
 archive_is o bytes places index = (right_archive o bytes places index, placed_archive o bytes places index)
 
+pub sound_read : (read : Option (List ℕ)) (places : List Place) → IfSome read (λ bytes. IsIndexOf bytes places) → IsPlainArchive (extents places) → IfSome read IsSoundArchive
+sound_read None places index plain = tt
+sound_read (Some bytes) places index plain = sound_archive bytes places index plain
+
 -- something breaks the bytes, where they are known
 abbrev pub IfBroken : Option (List ℕ) → Type 0
 IfBroken read = IfSome read (λ bytes. (f : Fault) × Breaks nothing_said bytes f)
+
+broken_by : (read : Option (List ℕ)) (f : Fault) → IfSome read (λ bytes. Breaks nothing_said bytes f) → IfBroken read
+broken_by None f h = tt
+broken_by (Some bytes) f h = (f, h)
+
+pub broken_of : (read : Option (List ℕ)) (e : IndexError) (f : Fault) → e ≡ errors.Fault f → OnFault e (λ g. IfSome read (λ bytes. Breaks nothing_said bytes g)) → IfBroken read
+broken_of read e f is h = broken_by read f (subst (λ x. OnFault x (λ g. IfSome read (λ bytes. Breaks nothing_said bytes g))) is h)
 
 abbrev IsPlacedAnswer : Options → Bool → Option (List ℕ) → List Place → ℕ → Type 0
 IsPlacedAnswer o steady source places status =
@@ -114,13 +129,6 @@ answer_broken o true (Some bytes) None status is broken = tt
 answer_broken o true None read status is broken = tt
 answer_broken o false source read status is broken = tt
 
--- what could not be found out
-pub answer_three : (o : Options) (steady : Bool) (source read : Option (List ℕ)) → OverBytes steady source read (λ bytes. IsAnswer 3 (IsRightArchive o bytes))
-answer_three o true (Some bytes) (Some read) = λ same. inr (inr refl)
-answer_three o true (Some bytes) None = tt
-answer_three o true None read = tt
-answer_three o false source read = tt
-
 -- ---- by the places of its entries
 
 -- all tools unpack one folder, and this is found of its layout
@@ -140,3 +148,12 @@ placed_wrong o true places (Some t) (Some c) status is other = answer_wrong stat
 placed_wrong o true places (Some t) None status is other = tt
 placed_wrong o true places None contents status is other = tt
 placed_wrong o false places tops contents status is other = tt
+
+-- ---- what was listed
+
+not_zero : (n : ℕ) → (suc n == 0) ≡ false
+not_zero n = grind (arith, nat_tests)
+
+pub none_of : {X : Type 0} (xs : List X) (n : ℕ) (b : Bool) → n ≡ length xs → b ≡ (n == 0) → b ≡ true → xs ≡ []
+none_of [] n b counted e is = refl
+none_of (x ∷ xs) n b counted e is = absurd (true≢false (sym is ∙ e ∙ ap (λ k. k == 0) counted ∙ not_zero (length xs)))
