@@ -179,7 +179,7 @@ pub static IMAGES: [Described; 3] = [
             COLOR,
             Argument {
                 name: "strict",
-                help: "Notes are wrong too",
+                help: "Warnings and notes are wrong too",
                 ..PLAIN
             },
             Argument {

@@ -55,7 +55,7 @@ complete -c ciderglen -n '__ciderglen_is fmt' -s h -l help -d 'Print help'
 complete -c ciderglen -n '__ciderglen_is fmt' -F
 complete -c ciderglen -n '__ciderglen_is verify' -l format -x -a 'text json sarif github' -d 'How to write the result'
 complete -c ciderglen -n '__ciderglen_is verify' -l color -x -a 'auto always never' -d 'When lines have colors; auto, as without it, is on a terminal where'
-complete -c ciderglen -n '__ciderglen_is verify' -l strict -d 'Notes are wrong too'
+complete -c ciderglen -n '__ciderglen_is verify' -l strict -d 'Warnings and notes are wrong too'
 complete -c ciderglen -n '__ciderglen_is verify' -l quick -d 'Look at the sizes of layers alone, and do not read them'
 complete -c ciderglen -n '__ciderglen_is verify' -l progress -d 'Write a line a second of what was done on standard error'
 complete -c ciderglen -n '__ciderglen_is verify' -s h -l help -d 'Print help'
