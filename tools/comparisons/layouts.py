@@ -224,14 +224,24 @@ def zstd(layout):
     pass
 
 
-@faulty("unknown types of layer and configuration", "", types=(MANIFEST, "application/x-config", "application/x-layer"))
+@faulty("unknown types of layer and configuration", "+ unread", types=(MANIFEST, "application/x-config", "application/x-layer"))
 def unknown(layout):
     pass
 
 
-@faulty("unknown type in the index", "")
+@faulty("unknown type in the index", "+ unread")
 def unknown_in_index(layout):
     layout.index(layout.manifest, layout.blob(b"anything", "application/x-thing"))
+
+
+@faulty("media type of the manifest in capitals", "")
+def capitals(layout):
+    layout.index({**layout.manifest, "mediaType": MANIFEST.upper()})
+
+
+@faulty("media type of the manifest with a parameter", "+ unread unreferenced unreferenced")
+def parameter(layout):
+    layout.index({**layout.manifest, "mediaType": f"{MANIFEST}; charset=utf-8"})
 
 
 def embedding(layout, data, keep=True):

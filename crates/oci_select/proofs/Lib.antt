@@ -1,0 +1,4 @@
+pub mod Tables
+pub mod Members
+pub mod Slashes
+pub mod Places
