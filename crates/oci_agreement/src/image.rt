@@ -62,13 +62,15 @@ impl<'a> Image<'a> {
         part_in(self.descriptor, "platform")
     }
 
-    pub(crate) fn layers(&self) -> Option<&'a Vec<Value>>
+    /// The descriptors of the layers in the manifest, if it has a list of them.
+    pub fn layers(&self) -> Option<&'a Vec<Value>>
         ensures { option_map (λ v. items_view v.now.items) result ≡ images.layers_of (image_of self.now) }
     {
         items_at(self.manifest, "layers")
     }
 
-    pub(crate) fn diff_ids(&self) -> Option<&'a Vec<Value>>
+    /// The DiffIDs in the configuration, if that is an image's and has a list of them.
+    pub fn diff_ids(&self) -> Option<&'a Vec<Value>>
         ensures { option_map (λ v. items_view v.now.items) result ≡ images.diff_ids_of (image_of self.now) }
     {
         items_in(part_in(self.image_config(), "rootfs"), "diff_ids")

@@ -17,3 +17,4 @@ pub use agreement::{Agreement, Description};
 pub use broken::{Broken, Document, Shown};
 pub use find::{AGREEMENTS, broken_agreements};
 pub use image::Image;
+pub use layers::is_filesystem_image;

@@ -1,5 +1,5 @@
 -- What is listed of the entries of an archive.
-use Rattle.std.proofs.Common.{◌≡◌, ℕ, ◌+◌, ◌<◌, ◌≤◌, Bool, true, false, List, [], ◌∷◌, ◌++◌, length, map, take, get_or, Option, Some, None, string_bytes, inl, inr, refl, sym, ap, ◌∙◌, subst, append-nil, arith}
+use Rattle.std.proofs.Common.{◌≡◌, ℕ, ◌+◌, ◌<◌, ◌≤◌, Bool, true, List, [], ◌∷◌, ◌++◌, length, map, take, get_or, Option, Some, None, string_bytes, inl, inr, refl, sym, ap, ◌∙◌, subst, append-nil, arith}
 use Rattle.std.specs.Prelude.{◌⊎◌}
 use Rattle.std.specs.List.{All, Contains, filter_map, cons_option}
 use Rattle.std.proofs.lemmas.List.{take_more, take_all, map-append}
@@ -19,19 +19,19 @@ name_at p = name_of (member_of p.entry)
 
 -- ---- one entry more
 
-pub one_added : (name : Option (List ℕ)) (old new : List Listed) (l : Listed) → new ≡ old ++ l ∷ [] → l.cut ≡ false → Some (string_bytes l.path) ≡ name → AddsName name old new
+pub one_added : (name : Option (List ℕ)) (old new : List Listed) (l : Listed) → new ≡ old ++ l ∷ [] → l.fault ≡ None → Some (string_bytes l.path) ≡ name → AddsName name old new
 one_added name old new l more whole e = subst (λ o. AddsName o old new) e (record { one = l; whole = whole; path = refl; more = more })
 
-added : (old new : List Listed) (names : List (List ℕ)) (p : Place) → AddsName (name_at p) old new → paths_of old ≡ names → All (λ l. l.cut ≡ false) old
-    → (paths_of new ≡ names ++ filter_map name_at (p ∷ [])) × All (λ l. l.cut ≡ false) new
+added : (old new : List Listed) (names : List (List ℕ)) (p : Place) → AddsName (name_at p) old new → paths_of old ≡ names → All (λ l. l.fault ≡ None) old
+    → (paths_of new ≡ names ++ filter_map name_at (p ∷ [])) × All (λ l. l.fault ≡ None) new
 added old new names p h same whole = go (name_at p) h
   where
-    go : (o : Option (List ℕ)) → AddsName o old new → (paths_of new ≡ names ++ cons_option o []) × All (λ l. l.cut ≡ false) new
-    go None h = (ap paths_of h ∙ same ∙ sym (append-nil names), All-same (λ l. l.cut ≡ false) new old h whole)
+    go : (o : Option (List ℕ)) → AddsName o old new → (paths_of new ≡ names ++ cons_option o []) × All (λ l. l.fault ≡ None) new
+    go None h = (ap paths_of h ∙ same ∙ sym (append-nil names), All-same (λ l. l.fault ≡ None) new old h whole)
     go (Some path) h = (
       ap paths_of h.more ∙ map-append (λ l. string_bytes l.path) old (h.one ∷ []) ∙ ap (λ (ns : List (List ℕ)). ns ++ string_bytes h.one.path ∷ []) same
           ∙ ap (λ (n : List ℕ). names ++ n ∷ []) h.path,
-      All-same (λ l. l.cut ≡ false) new (old ++ h.one ∷ []) h.more (All-push (λ l. l.cut ≡ false) old h.one whole h.whole),
+      All-same (λ l. l.fault ≡ None) new (old ++ h.one ∷ []) h.more (All-push (λ l. l.fault ≡ None) old h.one whole h.whole),
     )
 
 pub list_more : (all : List Place) (i : ℕ) (d : Place) (old new : List Listed) → i < length all → IsListOf (take i all) old → AddsName (name_at (get_or all i d)) old new → IsListOf (take (i + 1) all) new
@@ -50,7 +50,7 @@ list_whole all i listed past h = subst (λ (l : List Place). IsListOf l listed) 
 pub listing : (steady : Bool) (places : List Place) (listed : List Listed) → IsListOf places listed → IsListing steady (names_in (extents places)) listed
 listing steady places listed h = record {
   named = λ l held whole. named l held;
-  whole = λ sure l held. All-contains (λ l. l.cut ≡ false) listed l h.whole held;
+  whole = λ sure l held. All-contains (λ l. l.fault ≡ None) listed l h.whole held;
   all = λ sure path n. there path n;
 }
   where

@@ -1,5 +1,6 @@
 -- What a layout in an archive gives.
-use Rattle.std.proofs.Common.{◌≡◌, ℕ, Bool, false, List, ◌∷◌, ◌++◌, length, map, codes, Option, Some, None, option_map, refl, sym, ap, ◌∙◌, subst}
+use Rattle.std.proofs.Common.{◌≡◌, ℕ, Bool, false, List, ◌∷◌, ◌++◌, length, map, codes, Option, Some, None, Ok, Err, option_map, refl, sym, ap, ◌∙◌, subst}
+use Rattle.std.specs.declared.io.Error.{Error}
 use Rattle.oci_base.specs.Classes.{is_lower, is_joint, colon, slash, until, after, IsOneOf, IsSomeOf}
 use Rattle.oci_base.specs.Digest.{IsDigest}
 use Rattle.oci_base.proofs.Lacks.{lacks_joined, lacks_one, lacks_some}
@@ -25,13 +26,13 @@ pub nothing_there : {P : Type 0} (remaining : P → Option (List ℕ)) (steady :
 nothing_there remaining steady places None path e = tt
 nothing_there remaining steady places (Some bytes) path e = at_path bytes places path ∙ ap (option_map (bytes_at bytes)) (sym e)
 
-pub not_read : {P : Type 0} (remaining : P → Option (List ℕ)) (steady : Bool) (places : List Place) (known : Option (List ℕ)) (path : List ℕ) (at size : ℕ)
-    → GivesPart remaining steady known at size None → Gives remaining steady (tops_at places known) path Unreadable
-not_read remaining steady places None path at size h = tt
-not_read remaining steady places (Some bytes) path at size h = h
+pub not_read : {P : Type 0} (remaining : P → Option (List ℕ)) (steady : Bool) (places : List Place) (known : Option (List ℕ)) (path : List ℕ) (at size : ℕ) (why : Error)
+    → GivesPart remaining steady known at size (Err why) → Gives remaining steady (tops_at places known) path (Unreadable why)
+not_read remaining steady places None path at size why h = tt
+not_read remaining steady places (Some bytes) path at size why h = h
 
 pub read_there : {P : Type 0} (remaining : P → Option (List ℕ)) (steady : Bool) (places : List Place) (known : Option (List ℕ)) (path : List ℕ) (x : Extent) (part : P) (n : ℕ)
-    → Some x ≡ file_at (extents places) path → GivesPart remaining steady known x.offset x.size (Some (part, n)) → Gives remaining steady (tops_at places known) path (Content part (Some n))
+    → Some x ≡ file_at (extents places) path → GivesPart remaining steady known x.offset x.size (Ok (part, n)) → Gives remaining steady (tops_at places known) path (Content part (Some n))
 read_there remaining steady places None path x part n e h = tt
 read_there remaining steady places (Some bytes) path x part n e h = (bytes_at bytes x, h.0, at_path bytes places path ∙ ap (option_map (bytes_at bytes)) (sym e), h.1)
 
@@ -49,7 +50,7 @@ same_there : {P : Type 0} (remaining : P → Option (List ℕ)) (steady : Bool) 
     → Gives remaining steady (tops_at places known) (blob_path_of digest) opened → Gives remaining steady (contents_at places known) digest opened
 same_there remaining steady places None digest opened h = tt
 same_there remaining steady places (Some bytes) digest Missing h = h
-same_there remaining steady places (Some bytes) digest Unreadable h = h
+same_there remaining steady places (Some bytes) digest (Unreadable why) h = h
 same_there remaining steady places (Some bytes) digest (Content part size) h = h
 
 pub by_digest : {P : Type 0} (remaining : P → Option (List ℕ)) (steady : Bool) (places : List Place) (known : Option (List ℕ)) (digest path : List ℕ) (opened : Opened P)

@@ -1,5 +1,5 @@
 -- What is listed of the entries of an archive.
-use Rattle.std.specs.Prelude.{◌≡◌, ℕ, List, [], ◌∷◌, ◌++◌, map, Bool, false, Option, Some, None, string_bytes}
+use Rattle.std.specs.Prelude.{◌≡◌, ℕ, List, [], ◌∷◌, ◌++◌, map, Option, Some, None, string_bytes}
 use Rattle.std.specs.List.{All, filter_map}
 use Rattle.oci_layout.specs.declared.store.Listed.{Listed}
 use Rattle.tar.specs.Entries.{member_of}
@@ -12,7 +12,7 @@ paths_of listed = map (λ l. string_bytes l.path) listed
 -- one more is listed, with this path
 pub record IsOneMore (name : List ℕ) (old new : List Listed) : Type 0 where
   pub one : Listed
-  pub whole : one.cut ≡ false
+  pub whole : one.fault ≡ None
   pub path : string_bytes one.path ≡ name
   pub more : new ≡ old ++ one ∷ []
 
@@ -24,4 +24,4 @@ AddsName (Some path) old new = IsOneMore path old new
 -- the names of all entries that have one, none of a folder that is cut
 pub record IsListOf (places : List Place) (listed : List Listed) : Type 0 where
   pub paths : paths_of listed ≡ filter_map (λ p. name_of (member_of p.entry)) places
-  pub whole : All (λ l. l.cut ≡ false) listed
+  pub whole : All (λ l. l.fault ≡ None) listed

@@ -1,5 +1,5 @@
 //! A source in memory.
-ghost use Rattle.std.specs.Prelude.{◌≡◌, Some, true, take, drop, IfOk, IfSome, IsOk, IsSome};
+ghost use Rattle.std.specs.Prelude.{◌≡◌, Some, true, take, drop, IfOk, IsOk};
 ghost use Rattle.oci_content.specs.Content.{Tells};
 ghost use Rattle.oci_layout.specs.Looks.{IsCut};
 ghost use Rattle.oci_archive.specs.Sources.{part_of, GivesPart};
@@ -24,11 +24,11 @@ impl<'a> Source for InMemory<'a> {
 
     ghost steady = { λ _. true };
 
-    fn part(&self, at: u64, size: u64) -> Option<(&'a [u8], u64)>
+    fn part(&self, at: u64, size: u64) -> io::Result<(&'a [u8], u64)>
         ensures { GivesPart (λ part. Some part.now) true (Some self.now.bytes.now) at size result }
     {
         let part = part(self.bytes, at, size);
-        Some((part, part.len() as u64))
+        Ok((part, part.len() as u64))
     }
 
     fn verify(
@@ -50,11 +50,11 @@ impl<'a> Source for InMemory<'a> {
         part: &mut &'a [u8],
         size: u64,
         _buffer: &mut [u8],
-    ) -> Result<Option<Vec<u8>>, AllocError>
-        ensures cut { IfOk result (λ read. IfSome read (λ bytes. IsCut bytes.items part.old.now size)) }
-        ensures sure { IfOk result IsSome }
+    ) -> Result<io::Result<Vec<u8>>, AllocError>
+        ensures cut { IfOk result (λ read. IfOk read (λ bytes. IsCut bytes.items part.old.now size)) }
+        ensures sure { IfOk result IsOk }
     {
-        Ok(Some(Vec::from_slice(alloc, cut_off(*part, size))?))
+        Ok(Ok(Vec::from_slice(alloc, cut_off(*part, size))?))
     }
 }
 

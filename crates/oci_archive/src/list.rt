@@ -31,7 +31,7 @@ fn add_entry(alloc: Global, entry: &Entry, listed: &mut Vec<Listed>) -> Result<(
     listed.push(Listed {
         path,
         size,
-        cut: false,
+        fault: None,
     })?;
     Ok(())
 }

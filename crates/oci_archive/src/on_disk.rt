@@ -5,36 +5,55 @@ use crate::source::Source;
 use oci_content::{Verdict, verify_reader_bytes};
 use oci_layout::pieces::read_sized;
 use std::alloc::{AllocError, Global};
-use std::io::{Read, Seek, SeekFrom, Take};
-use std::rt::Files;
-use std::{fs, io};
+use std::io;
+use std::io::Read;
+use std::os::unix::fs::FileExt;
 
-/// A file, by its path. It is opened anew for each part.
+/// An open file. It is read at offsets, so its position is left where it is, and it may have no name any more.
 #[derive(Clone, Copy)]
-pub struct OnDisk<'a, R> {
-    pub rt: &'a R,
-    pub path: &'a str,
+pub struct OnDisk<'a, F> {
+    pub file: &'a F,
 }
 
-impl<'a, R: Files> Source for OnDisk<'a, R> {
+/// A part of a file: so many bytes from an offset on, as far as the file has them.
+#[derive(Drop)]
+pub struct Part<'a, F> {
+    file: &'a F,
+    offset: u64,
+    left: u64,
+}
+
+impl<'a, F: FileExt> Read for Part<'a, F> {
+    fn read(&mut self, buf: &mut [u8]) -> io::Result<usize> {
+        let most = (buf.len() as u64).min(self.left) as usize;
+        let count = self.file.read_at(&mut buf[..most], self.offset)?;
+        self.offset = self.offset.saturating_add(count as u64);
+        self.left = self.left.saturating_sub(count as u64);
+        Ok(count)
+    }
+}
+
+impl<'a, F: FileExt> Source for OnDisk<'a, F> {
     ghost use Rattle.std.specs.Prelude.{None, false};
 
-    type Part = Take<R::File>;
+    type Part = Part<'a, F>;
 
     ghost bytes = { λ _. None };
 
     ghost steady = { λ _. false };
 
-    fn part(&self, at: u64, size: u64) -> Option<(Take<R::File>, u64)> {
-        match open_at(self.rt, self.path, at) {
-            Ok(file) => Some((file.take(size), size)),
-            Err(_) => None,
-        }
+    fn part(&self, at: u64, size: u64) -> io::Result<(Part<'a, F>, u64)> {
+        let part = Part {
+            file: self.file,
+            offset: at,
+            left: size,
+        };
+        Ok((part, size))
     }
 
     fn verify(
         &self,
-        part: &mut Take<R::File>,
+        part: &mut Part<'a, F>,
         digest: &str,
         size: u64,
         buffer: &mut [u8],
@@ -45,17 +64,10 @@ impl<'a, R: Files> Source for OnDisk<'a, R> {
     fn read(
         &self,
         alloc: Global,
-        part: &mut Take<R::File>,
+        part: &mut Part<'a, F>,
         size: u64,
         buffer: &mut [u8],
-    ) -> Result<Option<Vec<u8>>, AllocError> {
+    ) -> Result<io::Result<Vec<u8>>, AllocError> {
         read_sized(alloc, part, size, buffer)
     }
-}
-
-/// A file that is read from this place on.
-fn open_at<R: Files>(rt: &R, path: &str, at: u64) -> io::Result<R::File> {
-    let mut file = fs::open(rt, path)?;
-    file.seek(SeekFrom::Start(at))?;
-    Ok(file)
 }

@@ -44,8 +44,8 @@ impl<'a, S: Source> Packed<'a, S> {
             → Gives S.Part.remaining (S.steady self.now.source.now) (tops_at self.now.index.now.places.items (S.bytes self.now.source.now)) path result }
     {
         match self.source.part(extent.offset, extent.size) {
-            None => Opened::Unreadable,
-            Some((part, size)) => Opened::Content(part, Some(size)),
+            Err(fault) => Opened::Unreadable(fault),
+            Ok((part, size)) => Opened::Content(part, Some(size)),
         }
     }
 }
@@ -80,7 +80,7 @@ impl<'a, S: Source> Store for Packed<'a, S> {
         blob: &mut S::Part,
         size: u64,
         buffer: &mut [u8],
-    ) -> Result<Option<Vec<u8>>, AllocError> {
+    ) -> Result<io::Result<Vec<u8>>, AllocError> {
         self.source.read(alloc, blob, size, buffer)
     }
 }

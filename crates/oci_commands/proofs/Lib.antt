@@ -1,5 +1,3 @@
-pub mod Agreeing
-pub mod Archives
 pub mod CheckIsFormat
 pub mod Entries
 pub mod Faults
@@ -7,10 +5,11 @@ pub mod Forms
 pub mod FoundKinds
 pub mod Held
 pub mod KeptRecords
-pub mod Layouts
 pub mod Lines
-pub mod Rereading
+pub mod Once
+pub mod Reached
 pub mod Rows
 pub mod Sides
 pub mod Targets
+pub mod Trees
 pub mod Written

@@ -1,5 +1,5 @@
 -- What is written of each item, one behind the other.
-use Rattle.std.proofs.Common.{◌≡◌, ◌<◌, ◌≤◌, ◌+◌, ℕ, suc, List, [], ◌∷◌, ◌++◌, Option, Some, None, length, take, get_or, refl, sym, ap, ◌∙◌, subst, arith}
+use Rattle.std.proofs.Common.{◌≡◌, ◌<◌, ◌≤◌, ◌+◌, ℕ, suc, List, [], ◌∷◌, ◌++◌, Option, Some, None, length, take, map, get_or, refl, sym, ap, ◌∙◌, subst, arith}
 use Rattle.std.specs.Io.KnownBytes.{Appends}
 use Rattle.std.proofs.lemmas.List.{append_assoc, append-nil, get_or_default, take_all}
 use Rattle.oci_content.specs.declared.algorithm.Algorithm.{Algorithm}
@@ -43,6 +43,10 @@ module _ {A : Type 0} (Is : A → List ℕ → Type 0) where
   joined_more xs i x text last new below same made before is =
       subst (Joins Is (take (i + 1) xs)) (sym made) (joins_more xs i x text last below before (subst (λ y. Is y last) same is))
 
+  -- the same of an element as a loop has it
+  pub joined_next : (xs : List A) (i : ℕ) (d : A) (text last new : List ℕ) → i < length xs → new ≡ text ++ last → Joins Is (take i xs) text → Is (get_or xs i d) last → Joins Is (take (i + 1) xs) new
+  joined_next xs i d text last new below made before is = subst (Joins Is (take (i + 1) xs)) (sym made) (joins_more xs i d text last below before is)
+
   pub joined_all : (xs : List A) (i : ℕ) (text : List ℕ) → length xs ≤ i → Joins Is (take i xs) text → Joins Is xs text
   joined_all xs i text over h = subst (λ q. Joins Is q text) (take_all i xs over) h
 
@@ -59,3 +63,8 @@ module _ {A : Type 0} (Is : A → List ℕ → Type 0) where
   -- no item is left
   pub appends_all : (xs : List A) (i : ℕ) (old new : Option (List ℕ)) → length xs ≤ i → AppendsEach Is (take i xs) old new → AppendsEach Is xs old new
   appends_all xs i old new over h = subst (λ q. AppendsEach Is q old new) (take_all i xs over) h
+
+-- what is written of things is written of what f makes of them
+pub joins_map : {A B : Type 0} (Is : B → List ℕ → Type 0) (f : A → B) (xs : List A) (text : List ℕ) → Joins (λ x. Is (f x)) xs text → Joins Is (map f xs) text
+joins_map Is f [] text none = none
+joins_map Is f (x ∷ xs) text (first, rest, whole, one, others) = (first, rest, whole, one, joins_map Is f xs rest others)

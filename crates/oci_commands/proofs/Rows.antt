@@ -5,7 +5,8 @@ use Rattle.std.specs.List.{flat_map, list_any}
 use Rattle.oci_rules.specs.Rules.{Rule}
 use Rattle.oci_schemas.specs.declared.kind.Kind.{Kind}
 use Rattle.oci_findings.proofs.Each.{map_both, one_more}
-use Rattle.oci_commands.specs.Books.{with_section, has_rule, IsRow, IsSection, Rows, Sections, with_new}
+use Rattle.oci_commands.specs.Books.{with_section, has_rule, IsSection, Rows, Sections}
+use Rattle.oci_commands.specs.RuleTexts.{IsRow, with_new}
 
 rows_both : (rs qs : List Rule) (a b c : List (List ℕ)) → Rows rs a b → Rows qs b c → Rows (rs ++ qs) a c
 rows_both [] qs a b c none more = subst (λ x. Rows qs x c) none more
@@ -97,3 +98,7 @@ none_here p xs i d b below isnt h =
 -- four texts, tokens or others put behind some
 pub four : {A : Type 0} (ts : List A) (a b c d : A) (t1 t2 t3 t4 : List A) → t1 ≡ ts ++ a ∷ [] → t2 ≡ t1 ++ b ∷ [] → t3 ≡ t2 ++ c ∷ [] → t4 ≡ t3 ++ d ∷ [] → t4 ≡ ts ++ a ∷ (b ∷ (c ∷ (d ∷ [])))
 four ts a b c d t1 t2 t3 t4 e1 e2 e3 e4 = e4 ∙ ap (λ q. q ++ d ∷ []) (e3 ∙ ap (λ q. q ++ c ∷ []) (e2 ∙ ap (λ q. q ++ b ∷ []) e1)) ∙ simp append_assoc
+
+-- five lists of tokens, each put behind what there is
+pub five : {A : Type 0} (ts a b c d e t1 t2 t3 t4 t5 : List A) → t1 ≡ ts ++ a → t2 ≡ t1 ++ b → t3 ≡ t2 ++ c → t4 ≡ t3 ++ d → t5 ≡ t4 ++ e → t5 ≡ ts ++ (a ++ (b ++ (c ++ (d ++ e))))
+five ts a b c d e t1 t2 t3 t4 t5 e1 e2 e3 e4 e5 = e5 ∙ ap (λ q. q ++ e) (e4 ∙ ap (λ q. q ++ d) (e3 ∙ ap (λ q. q ++ c) (e2 ∙ ap (λ q. q ++ b) e1))) ∙ simp append_assoc

@@ -9,14 +9,16 @@ use Rattle.oci_rules.specs.Rules.{Rule}
 use Rattle.oci_commands.specs.declared.asked.Asked.{Asked}
 use Rattle.oci_commands.specs.declared.asked.Asked.TheVariants.{Check, Format, Compare, Reference, Digest, FileDigests, CheckDigests, Pin, PinTo, Tree, Rules, Explain, Schema, Kinds}
 use Rattle.oci_findings.specs.Checks.{HasNoKind, IsRight, IsWrong}
-use Rattle.oci_commands.specs.Books.{is_rule, IsUnknown, WroteRules}
+use Rattle.oci_commands.specs.Books.{is_rule, IsUnknown, WroteRule, WroteRules}
 use Rattle.oci_commands.specs.Compared.{HoldSame, HoldUnequal}
 use Rattle.oci_commands.specs.Kinds.{IsKindLine}
 use Rattle.oci_commands.specs.Formats.{Formats, FormatsTo, HoldsPut, IsUnformatted, LosesNothing}
 use Rattle.oci_commands.specs.Pins.{HasNoTarget, PinsTo}
 use Rattle.oci_commands.specs.Refused.{IsNoReference, IsNoDigest, IsNoDescriptor, HasNone}
+use Rattle.oci_commands.specs.Schemas.{WroteSchema}
 use Rattle.oci_commands.specs.Sums.{AllMatch, OneDiffers}
 use Rattle.oci_commands.specs.Texts.{IsShownReference, IsShownDigest, IsFileLine, Joins}
+use Rattle.oci_commands.specs.Trees.{HasNoTree, WroteAlone}
 
 -- the exit statuses of a command: done, the input is wrong, something could not be read or written
 abbrev pub IsStatus : ℕ → Type 0
@@ -48,12 +50,14 @@ IsDone books holds old new (CheckDigests algorithm files) = All (λ f. IfSome (h
 IsDone books holds old new (Pin text file) = WritesPinned text.now (holds file.now) (Appends old new)
 -- or with the digest that was asked for
 IsDone books holds old new (PinTo text target) = PinsTo holds text.now target old new
-IsDone books holds old new (Tree file) = ⊤
+-- the lines of the document's descriptors were written
+IsDone books holds old new (Tree file) = IfSome (holds file.now) (λ bytes. WroteAlone file.now bytes old new)
 -- the rules of all kinds, or of one, were written
 IsDone books holds old new (Rules style name) = WroteRules books style name old new
--- there is a rule of this name
-IsDone books holds old new (Explain name) = is_rule books name.now ≡ true
-IsDone books holds old new (Schema outline kind) = ⊤
+-- there is a rule of this name, and what it asks was written
+IsDone books holds old new (Explain name) = WroteRule books name.now old new
+-- the table of the kind was written, or its JSON Schema
+IsDone books holds old new (Schema outline kind) = WroteSchema outline kind old new
 -- each document is of one kind, and its line was written
 IsDone books holds old new (Kinds style files) = AppendsEach (λ f. IsKindLine style (holds f.now) f.now) files.now old new
 
@@ -81,6 +85,8 @@ IsRejected books holds (Pin text file) = IsNoReference text.now ⊎ IfSome (hold
 -- one of the documents is no JSON, or of no kind, or possibly of several
 IsRejected books holds (Kinds style files) = (i : ℕ) × (i < length files.now) × HoldsAt (λ f. IfSome (holds f.now) (HasNoKind None f.now)) files.now i
 IsRejected books holds (PinTo text target) = IsNoReference text.now ⊎ HasNoTarget holds target
+-- the file holds no document of a kind that has a tree
+IsRejected books holds (Tree file) = IfSome (holds file.now) (HasNoTree file.now)
 -- the name is that of no kind of documents and of no rule, or of no rule
 IsRejected books holds (Rules style name) = IsUnknown books name
 IsRejected books holds (Explain name) = is_rule books name.now ≡ false

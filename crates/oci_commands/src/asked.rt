@@ -42,15 +42,6 @@ pub struct Compare<'a> {
     pub after: &'a str,
 }
 
-/// What `tree` is asked.
-#[derive(Clone, Copy)]
-pub struct Tree<'a> {
-    /// The document.
-    pub file: &'a str,
-    /// The image layout in which its contents are, if they are looked for.
-    pub layout: Option<&'a str>,
-}
-
 /// The digest to which a reference is pinned.
 #[derive(Clone, Copy)]
 pub enum Target<'a> {
@@ -92,8 +83,8 @@ pub enum Asked<'a> {
     Pin(&'a str, &'a str),
     /// `pin`: a reference with a digest.
     PinTo(&'a str, Target<'a>),
-    /// `tree`: a document as a tree.
-    Tree(Tree<'a>),
+    /// `tree`: the document in a file as a tree.
+    Tree(&'a str),
     /// `rules`: the rules of all kinds of documents, or those of a kind, or a rule, by its name.
     Rules(Style, Option<&'a str>),
     /// `explain`: a rule, by its name.

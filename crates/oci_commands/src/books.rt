@@ -1,29 +1,20 @@
 //! The books of rules, for people.
-ghost use Rattle.std.specs.Prelude.{◌≡◌, ◌++◌, ◌∷◌, List, ℕ, None, true, false, map, IfOk, IsSome, OnOk, string_bytes};
+ghost use Rattle.std.specs.Prelude.{◌≡◌, ◌++◌, ◌∷◌, List, ℕ, map, IfOk, OnOk, string_bytes};
 ghost use Rattle.std.specs.List.{flat_map};
 ghost use Rattle.oci_base.specs.Names.{is_listed};
 ghost use Rattle.oci_rules.specs.Tables.{rule_of};
-ghost use Rattle.oci_commands.specs.Books.{AreAllRules, has_rule as has_rule_of, is_rule as is_rule_of, IsRow, IsSection, Rows, with_new, with_section};
+ghost use Rattle.oci_commands.specs.Books.{AreAllRules, has_rule as has_rule_of, is_rule as is_rule_of, IsSection, Rows, with_section};
+ghost use Rattle.oci_commands.specs.RuleTexts.{IsRow, with_new};
 
 use oci_findings::RuleBooks;
-use oci_rules::{Platforms, Rule, RuntimePlatform, Step};
+use oci_rules::Rule;
 use oci_schemas::{KINDS, Kind};
 use std::alloc::{AllocError, Global};
-
-/// How many platforms there are.
-const PLATFORMS: usize = 6;
 
 /// What the rules hold to.
 pub trait Versions {
     /// The specifications of the rules, with their versions, on one line.
     fn versions(&self) -> &'static str;
-}
-
-/// What was last written of a rule: what it wants, and the line of a place.
-#[derive(Drop)]
-struct Last<'a> {
-    wanted: &'a str,
-    line: String,
 }
 
 /// The rules of a kind of documents: a line for each thing that one wants, with the rule's name, level and section.
@@ -54,7 +45,7 @@ fn add_rows(rows: &mut Vec<String>, book: &[Rule<'_>], alloc: Global) -> Result<
 }
 
 /// Adds a row, unless it is there.
-fn add_new(rows: &mut Vec<String>, row: String) -> Result<(), AllocError>
+pub(crate) fn add_new(rows: &mut Vec<String>, row: String) -> Result<(), AllocError>
     ensures { OnOk result (map string_bytes rows.new.items ≡ with_new (string_bytes row) (map string_bytes rows.old.items)) }
 {
     if !has_text(rows, row.as_str()) {
@@ -64,7 +55,7 @@ fn add_new(rows: &mut Vec<String>, row: String) -> Result<(), AllocError>
 }
 
 /// Whether a text is one of these.
-pub(crate) fn has_text(texts: &Vec<String>, text: &str) -> bool
+fn has_text(texts: &Vec<String>, text: &str) -> bool
     ensures { result ≡ is_listed (map string_bytes texts.now.items) text.now }
 {
     for it in texts {
@@ -116,13 +107,8 @@ fn push_rules<B: RuleBooks>(
     Ok(())
 }
 
-fn push_rule(text: &mut String, rule: &Rule<'_>, alloc: Global) -> Result<(), AllocError> {
-    let row = row_of(rule, alloc)?;
-    text.push_str(row.as_str())
-}
-
 /// The row of a rule: its name, its level and section, and what it wants.
-fn row_of(rule: &Rule<'_>, alloc: Global) -> Result<String, AllocError>
+pub(crate) fn row_of(rule: &Rule<'_>, alloc: Global) -> Result<String, AllocError>
     ensures { IfOk result (λ t. IsRow (rule_of rule.now) (string_bytes t)) }
 {
     let (name, wanted) = (rule.name, rule.wanted);
@@ -169,112 +155,4 @@ fn has_rule(book: &[Rule<'_>], name: &str) -> bool
         }
     }
     false
-}
-
-/// The rules of a name, each thing that they want with the places at which it is; none if there is no such rule.
-pub fn rules_of_name<B: RuleBooks>(
-    books: &B,
-    name: &str,
-    alloc: Global,
-) -> Result<Option<String>, AllocError>
-    ensures some { IfOk result (λ o. IsSome o → is_rule_of (B.rules books.now) name.now ≡ true) }
-    ensures none { IfOk result (λ o. o ≡ None → is_rule_of (B.rules books.now) name.now ≡ false) }
-{
-    if !is_rule(books, name, alloc)? {
-        return Ok(None);
-    }
-    let mut text = String::new(alloc);
-    for kind in &KINDS {
-        add_of_kind(books, name, *kind, &mut text, alloc)?;
-    }
-    Ok(Some(text))
-}
-
-fn add_of_kind<B: RuleBooks>(
-    books: &B,
-    name: &str,
-    kind: Kind,
-    text: &mut String,
-    alloc: Global,
-) -> Result<(), AllocError> {
-    let mut last = Last {
-        wanted: "",
-        line: String::new(alloc),
-    };
-    for book in books.books_of(kind, alloc)? {
-        for rule in book {
-            if rule.name == name {
-                add_place(rule, kind, &mut last, text, alloc)?;
-            }
-        }
-    }
-    Ok(())
-}
-
-/// Adds the place of a rule, unless it is the last one again. The kind is written before the first, and the rule before the places of each
-/// thing that it wants.
-fn add_place<'a>(
-    rule: &Rule<'a>,
-    kind: Kind,
-    last: &mut Last<'a>,
-    text: &mut String,
-    alloc: Global,
-) -> Result<(), AllocError> {
-    if last.line.is_empty() {
-        text.push_str(kind.title())?;
-        text.push_str("\n")?;
-    }
-    let wants_other = rule.wanted != last.wanted;
-    if wants_other {
-        push_rule(text, rule, alloc)?;
-        last.wanted = rule.wanted;
-    }
-    let line = place_line(rule, alloc)?;
-    if wants_other || line != last.line {
-        text.push_str(line.as_str())?;
-        last.line = line;
-    }
-    Ok(())
-}
-
-/// The line of a rule's place, and of the platforms that it is for, unless it is for all of them.
-fn place_line(rule: &Rule<'_>, alloc: Global) -> Result<String, AllocError> {
-    let mut line = String::from_str(alloc, "    at /")?;
-    push_place(&mut line, rule.place)?;
-    match rule.platforms {
-        Platforms::These(platforms) if platforms.len() < PLATFORMS => {
-            push_platforms(&mut line, platforms)?;
-        }
-        _ => {}
-    }
-    line.push_str("\n")?;
-    Ok(line)
-}
-
-fn push_platforms(line: &mut String, platforms: &[RuntimePlatform]) -> Result<(), AllocError> {
-    let mut mark = " on ";
-    for platform in platforms {
-        line.push_str(mark)?;
-        line.push_str(platform.word())?;
-        mark = ", ";
-    }
-    Ok(())
-}
-
-/// Adds a place: `*` is each item of an array, `{}` each member of an object, and `{name}` the name of each.
-pub(crate) fn push_place(line: &mut String, place: &[Step<'_>]) -> Result<(), AllocError> {
-    let mut mark = "";
-    for step in place {
-        let word = match step {
-            Step::Member(name) => *name,
-            Step::EachItem => "*",
-            Step::EachMember => "{}",
-            Step::EachName => "{name}",
-            Step::When(_) => continue,
-        };
-        line.push_str(mark)?;
-        line.push_str(word)?;
-        mark = "/";
-    }
-    Ok(())
 }

@@ -1,10 +1,10 @@
 //! The command `explain`.
-ghost use Rattle.std.specs.Prelude.{◌≡◌, true, false, IfOk};
-ghost use Rattle.oci_commands.specs.Books.{is_rule};
+ghost use Rattle.std.specs.Prelude.{◌≡◌, false, IfOk};
+ghost use Rattle.oci_commands.specs.Books.{is_rule, WroteRule};
 ghost use Rattle.oci_commands.specs.Done.{IsStatus};
 
-use crate::books::rules_of_name;
 use crate::nearest::nearest_rule;
+use crate::rules_named::rules_of_name;
 use crate::texts::complain_of;
 use oci_base::Result;
 use oci_findings::RuleBooks;
@@ -23,12 +23,13 @@ pub fn explain<B: RuleBooks, W: Write, E: Write>(
     errors: &mut E,
 ) -> Result<u8>
     ensures status { IfOk result IsStatus }
-    ensures done { IfOk result (λ s. s ≡ 0 → is_rule (B.rules books.now) name.now ≡ true) }
+    ensures done { IfOk result (λ s. s ≡ 0 → WroteRule (B.rules books.now) name.now (W.contents writer.old) (W.contents writer.new)) }
     ensures wrong { IfOk result (λ s. s ≡ 1 → is_rule (B.rules books.now) name.now ≡ false) }
 {
     match rules_of_name(books, name, alloc)? {
-        Some(mut text) => {
-            push_example(&mut text, name, alloc)?;
+        Some(told) => {
+            let example = example_of_rule(name, alloc)?;
+            let text = format!(in alloc; "{told}{example}")?;
             write_text(text.as_bytes(), writer)?;
             Ok(0)
         }
@@ -39,18 +40,11 @@ pub fn explain<B: RuleBooks, W: Write, E: Write>(
     }
 }
 
-/// Adds why a rule is asked and its example, if there is one.
-fn push_example(
-    text: &mut String,
-    name: &str,
-    alloc: Global,
-) -> std::result::Result<(), AllocError> {
+/// Why a rule is asked and its example; nothing if it has none.
+fn example_of_rule(name: &str, alloc: Global) -> std::result::Result<String, AllocError> {
     match example_of(name) {
-        Some(example) => {
-            let lines = example_lines(example, alloc)?;
-            text.push_str(lines.as_str())
-        }
-        None => Ok(()),
+        Some(example) => example_lines(example, alloc),
+        None => Ok(String::new(alloc)),
     }
 }
 

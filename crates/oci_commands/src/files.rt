@@ -6,17 +6,6 @@ use oci_content::{Algorithm, Checksum};
 use std::alloc::Global;
 use std::io;
 
-/// What there is under a name.
-#[derive(Clone, Copy, Debug, PartialEq, Eq)]
-pub enum Presence {
-    /// Nothing.
-    Missing,
-    /// Something that is no regular file, or that nothing is known of.
-    Unreadable,
-    /// A regular file.
-    File,
-}
-
 /// Files by name. The name `-` is that of standard input.
 pub trait Files {
     /// The bytes under a name, where they are known.
@@ -34,10 +23,8 @@ pub trait Files {
 
     /// Reads a document, all bytes of a regular file, of which there are `limit` at most. Fails if there are more, if it is no regular
     /// file, as a named pipe, or if it cannot be read.
-    fn read_document(&mut self, alloc: Global, name: &str, limit: u64) -> io::Result<Vec<u8>>;
-
-    /// Whether there is something of this name, and whether it is a regular file.
-    fn presence(&mut self, alloc: Global, name: &str) -> Presence;
+    fn read_document(&mut self, alloc: Global, name: &str, limit: u64) -> io::Result<Vec<u8>>
+        ensures { IfOk result (λ v. IfSome (holds self.old name.now) (λ bytes. v.items ≡ bytes)) };
 
     /// Puts these bytes under a name, in place of all that was there; nothing else is changed. Fails if they cannot be written, and
     /// then what was there is unchanged if the system allows.

@@ -1,8 +1,12 @@
 //! The schema of a kind of documents as a JSON Schema (draft 2020-12).
+ghost use Rattle.std.specs.Prelude.{◌≡◌, ◌++◌, ◌∷◌, [], List, ℕ, IfOk, string_bytes};
+ghost use Rattle.serde_json.specs.Data.{Data};
+ghost use Rattle.oci_json.specs.Engines.{IsPretty};
+
+use crate::records::records_of;
 use json::Writer;
 use oci_base::Result;
 use oci_findings::render::text_member;
-use oci_findings::table::records_of;
 use oci_model::JsonName;
 use oci_schema::{DefaultValue, Member, Part, Presence, Record, Records, Scalar, Schema};
 use oci_schemas::{Kind, OciRecords};
@@ -32,7 +36,9 @@ const NUMBERS_PLACE: &str = "#/$defs/values";
 type Written = std::result::Result<(), AllocError>;
 
 /// The JSON Schema of a kind of documents, indented, with a newline behind it. Fails if out of memory.
-pub fn json_schema_of(kind: Kind, alloc: Global) -> Result<String> {
+pub fn json_schema_of(kind: Kind, alloc: Global) -> Result<String>
+    ensures { IfOk result (λ t. (d : Data) × (json : List ℕ) × IsPretty d json × (string_bytes t ≡ json ++ 10 ∷ [])) }
+{
     let compact = compact_schema(kind, alloc)?;
     let value = Value::from_slice(alloc, compact.as_slice())?;
     let mut text = value.to_string_pretty(alloc)?;
@@ -42,22 +48,22 @@ pub fn json_schema_of(kind: Kind, alloc: Global) -> Result<String> {
 
 fn compact_schema(kind: Kind, alloc: Global) -> std::result::Result<Vec<u8>, AllocError> {
     let mut out = Writer::new(Vec::new(alloc));
-    let places = records_of(kind, alloc)?;
+    let records = records_of(&OciRecords, kind.schema(), alloc)?;
     out.begin_object()?;
     text_member(&mut out, "$schema", DIALECT)?;
     text_member(&mut out, "title", kind.title())?;
     text_member(&mut out, "$comment", COMMENT)?;
     put_schema(&mut out, kind.schema(), alloc)?;
-    put_definitions(&mut out, &places, alloc)?;
+    put_definitions(&mut out, &records, alloc)?;
     out.end_object()?;
     Ok(out.into_inner())
 }
 
-fn put_definitions(out: &mut Writer, places: &Vec<usize>, alloc: Global) -> Written {
+fn put_definitions(out: &mut Writer, records: &Vec<&'static Record>, alloc: Global) -> Written {
     out.key("$defs")?;
     out.begin_object()?;
-    for place in places {
-        put_record(out, OciRecords.record(*place), alloc)?;
+    for record in records {
+        put_record(out, record, alloc)?;
     }
     out.key(NUMBERS)?;
     put_numbers(out)?;

@@ -1,94 +1,89 @@
 //! The command `tree`: an index, a manifest or an image layout as a tree.
-ghost use Rattle.std.specs.Prelude.{IfOk};
+ghost use Rattle.std.specs.Prelude.{◌≡◌, ◌↔◌, ◌<◌, false, codes, length, map, string_bytes, IsTrue, IfOk, IfSome, OnOk};
+ghost use Rattle.oci_findings.specs.Outlines.{child_entry};
 ghost use Rattle.oci_commands.specs.Done.{IsStatus};
+ghost use Rattle.oci_commands.specs.Trees.{AreAlone, AreIndexTrees, AreSaid, HasNoTree, IsDrawn, IsWhole, TellsWhole, WroteAlone, WroteTree, content_of, tree_text as text_of};
 
-use crate::asked::Tree;
-use crate::files::{Files, Presence};
+use crate::drawing::{draw, row_of};
+use crate::files::Files;
+use crate::program::report;
 use crate::texts::{complain_of, is_wrong};
 use oci_base::Result;
 use oci_findings::inspect::kind_of;
-use oci_findings::outline::{Child, below, children_of, has_tree, heading, push_row};
+use oci_findings::outline::{Child, Mark, Row, children_of, heading, push_rows};
 use oci_json::write_text;
-use oci_layout::{DOCUMENT_LIMIT, Fault, Kind as ContentKind, blob_path, read_document};
+use oci_layout::{DOCUMENT_LIMIT, ImageLayout, Kind as ContentKind, Top, read_top};
 use oci_schemas::Kind;
-use oci_text::Digest;
 use serde_json::Value;
 use std::alloc::{AllocError, Global};
-use std::io::{ErrorKind, Write};
+use std::io::Write;
 
-/// How many lines are shown at most, and how deep: a stranger's documents may claim one another.
-const ROWS: usize = 100000;
+/// How many bytes are read at once.
+const PIECE: usize = 65536;
 
-const DEPTH: usize = 16;
-
-/// A line that is still to be drawn.
-#[derive(Drop)]
-struct Row {
-    child: Child,
-    before: String,
-    is_last: bool,
-    depth: usize,
-}
-
-/// Writes a document as a tree, and the documents in its image layout below their descriptors. Documents are regular files of at most
-/// 4 MiB. Returns 0 if that was done, 1 if the document is invalid or of a kind that has no tree, or if a content of the layout is marked
-/// as missing, unreadable, too large or no document of its media type, and 3 if the document could not be read.
+/// Writes a document as a tree of what it claims. Returns 0 if that was done, 1 if the document is invalid or of a kind that has no tree,
+/// and 3 if it is no regular file of at most 4 MiB that can be read.
 pub fn tree<S: Files, W: Write, E: Write>(
-    asked: &Tree<'_>,
+    file: &str,
     alloc: Global,
     store: &mut S,
     writer: &mut W,
     errors: &mut E,
 ) -> Result<u8>
-    ensures { IfOk result IsStatus }
+    ensures status { IfOk result IsStatus }
+    ensures wrote { IfOk result (λ s. s ≡ 0 → IfSome (S.holds store.old file.now) (λ bytes. WroteAlone file.now bytes (W.contents writer.old) (W.contents writer.new))) }
+    ensures wrong { IfOk result (λ s. s ≡ 1 → IfSome (S.holds store.old file.now) (HasNoTree file.now)) }
 {
-    match store.read_document(alloc, asked.file, DOCUMENT_LIMIT) {
-        Ok(bytes) => tree_of_bytes(asked, bytes.as_slice(), alloc, store, writer, errors),
+    match store.read_document(alloc, file, DOCUMENT_LIMIT) {
+        Ok(bytes) => {
+            let status = tree_of_bytes(file, bytes.as_slice(), alloc, writer, errors)?;
+            Ok(status)
+        }
         Err(fault) => {
-            complain_of(asked.file, &fault, alloc, errors);
+            complain_of(file, &fault, alloc, errors);
             Ok(3)
         }
     }
 }
 
-fn tree_of_bytes<S: Files, W: Write, E: Write>(
-    asked: &Tree<'_>,
+fn tree_of_bytes<W: Write, E: Write>(
+    file: &str,
     bytes: &[u8],
     alloc: Global,
-    store: &mut S,
     writer: &mut W,
     errors: &mut E,
 ) -> Result<u8>
-    ensures { IfOk result IsStatus }
+    ensures status { IfOk result IsStatus }
+    ensures wrote { IfOk result (λ s. s ≡ 0 → WroteAlone file.now bytes.now (W.contents writer.old) (W.contents writer.new)) }
+    ensures wrong { IfOk result (λ s. s ≡ 1 → HasNoTree file.now bytes.now) }
 {
-    if is_wrong(None, asked.file, bytes, alloc, errors)? {
+    if is_wrong(None, file, bytes, alloc, errors)? {
         return Ok(1);
     }
     let value = Value::from_slice(alloc, bytes)?;
-    match kind_of(None, asked.file, &value) {
-        Some(kind) if has_tree(kind) => tree_of_value(asked, kind, &value, alloc, store, writer),
-        Some(kind) => {
-            say_no_tree(asked.file, kind, alloc, errors)?;
-            Ok(1)
-        }
-        None => Ok(1),
-    }
+    let Some(kind) = kind_of(None, file, &value) else {
+        return Ok(1);
+    };
+    let Some(content) = content_kind(kind) else {
+        say_no_tree(file, kind, alloc, errors)?;
+        return Ok(1);
+    };
+    let children = children_of(content, &value, alloc)?;
+    let rows = rows_of(children, alloc)?;
+    write_tree(file, kind.title(), &rows, alloc, writer)?;
+    Ok(0)
 }
 
-fn tree_of_value<S: Files, W: Write>(
-    asked: &Tree<'_>,
-    kind: Kind,
-    value: &Value,
-    alloc: Global,
-    store: &mut S,
-    writer: &mut W,
-) -> Result<u8>
-    ensures { IfOk result IsStatus }
+/// As what a document of a kind has descriptors; none if the kind has no tree.
+fn content_kind(kind: Kind) -> Option<ContentKind>
+    ensures { result ≡ content_of kind }
 {
-    let mut text = heading(asked.file, kind, alloc)?;
-    let missing = draw(asked.layout, value, alloc, store, &mut text)?;
-    write_text(text.as_bytes(), writer)?;
-    Ok(if missing { 1 } else { 0 })
+    match kind {
+        Kind::Index => Some(ContentKind::Index),
+        Kind::Manifest => Some(ContentKind::Manifest),
+        Kind::Artifact => Some(ContentKind::Artifact),
+        _ => None,
+    }
 }
 
 fn say_no_tree<E: Write>(name: &str, kind: Kind, alloc: Global, errors: &mut E) -> Result<()> {
@@ -98,201 +93,142 @@ fn say_no_tree<E: Write>(name: &str, kind: Kind, alloc: Global, errors: &mut E) 
     Ok(())
 }
 
-/// Draws what is below a document, and returns whether something is missing.
-fn draw<S: Files>(
-    layout: Option<&str>,
-    value: &Value,
-    alloc: Global,
-    store: &mut S,
-    text: &mut String,
-) -> Result<bool> {
+/// The lines of these descriptors alone.
+fn rows_of(children: Vec<Child>, alloc: Global) -> std::result::Result<Vec<Row>, AllocError>
+    ensures { IfOk result (λ v. AreAlone (map child_entry children.items) v.items) }
+{
     let mut rows = Vec::new(alloc);
-    push_children(&mut rows, value, "", 0, alloc)?;
-    draw_rows(layout, &mut rows, alloc, store, text)
+    'each: for child in children {
+        let row = row_of(child, "", Mark::Plain, String::new(alloc), alloc)?;
+        rows.push(row)?;
+    }
+    Ok(rows)
 }
 
-/// Draws rows and those below them, and returns whether something is missing.
-fn draw_rows<S: Files>(
-    layout: Option<&str>,
-    rows: &mut Vec<Row>,
+/// Writes the lines of a document of this name and title.
+fn write_tree<W: Write>(
+    name: &str,
+    title: &str,
+    rows: &Vec<Row>,
     alloc: Global,
-    store: &mut S,
-    text: &mut String,
-) -> Result<bool> {
-    let mut missing = false;
-    for _ in 0..ROWS {
-        let Some(row) = rows.pop() else {
-            return Ok(missing);
-        };
-        if !draw_row(layout, &row, rows, alloc, store, text)? {
-            missing = true;
+    writer: &mut W,
+) -> Result<()>
+    ensures { OnOk result (WroteTree name.now title.now (W.contents writer.old) (W.contents writer.new) rows.now.items) }
+{
+    let text = tree_text(name, title, rows, alloc)?;
+    write_text(text.as_bytes(), writer)?;
+    Ok(())
+}
+
+fn tree_text(
+    name: &str,
+    title: &str,
+    rows: &Vec<Row>,
+    alloc: Global,
+) -> std::result::Result<String, AllocError>
+    ensures { IfOk result (λ t. string_bytes t ≡ text_of name.now title.now rows.now.items) }
+{
+    let mut text = heading(name, title, alloc)?;
+    push_rows(&mut text, rows, alloc)?;
+    Ok(text)
+}
+
+/// Writes an image layout as a tree, from its `index.json` on, which is shown under this name. Each document is opened once, where it is
+/// claimed first, below at most 16 others. Sizes and digests are not looked at. Returns 0 if the tree is whole, 1 if the index is no
+/// index, or if something is marked that is not there, cannot be read, is no document of its media type, or is not looked into; and 3 if
+/// the index cannot be read, if the tree cannot be written, or if out of memory.
+pub fn tree_of_layout<L: ImageLayout, W: Write, E: Write>(
+    layout: &L,
+    name: &str,
+    alloc: Global,
+    writer: &mut W,
+    errors: &mut E,
+) -> u8
+    ensures status { IsStatus result }
+    ensures drawn { IsDrawn DOCUMENT_LIMIT (L.steady layout.now) (L.tops layout.now) (L.contents layout.now) name.now (W.contents writer.old) (W.contents writer.new) result }
+{
+    match draw_layout(layout, name, alloc, writer, errors) {
+        Ok(status) => status,
+        Err(error) => {
+            report(&error, alloc, errors);
+            3
         }
     }
-    text.push_str("..\n")?;
-    Ok(missing)
 }
 
-/// Draws a row, adds those below it, and returns whether its content is there, as far as that is asked.
-fn draw_row<S: Files>(
-    layout: Option<&str>,
-    row: &Row,
-    rows: &mut Vec<Row>,
+fn draw_layout<L: ImageLayout, W: Write, E: Write>(
+    layout: &L,
+    name: &str,
     alloc: Global,
-    store: &mut S,
-    text: &mut String,
-) -> Result<bool> {
-    match path_of(layout, row, alloc)? {
-        Some(path) => draw_at(path.as_str(), row, rows, alloc, store, text),
-        None => draw_marked(row, "", alloc, text),
-    }
-}
-
-/// The same of a row whose content is under a path.
-fn draw_at<S: Files>(
-    path: &str,
-    row: &Row,
-    rows: &mut Vec<Row>,
-    alloc: Global,
-    store: &mut S,
-    text: &mut String,
-) -> Result<bool> {
-    let kind = kind_read(row);
-    if kind.schema().is_none() {
-        return draw_marked(row, mark_of(store.presence(alloc, path)), alloc, text);
-    }
-    match store.read_document(alloc, path, DOCUMENT_LIMIT) {
-        Ok(bytes) => draw_document(kind, bytes.as_slice(), row, rows, alloc, text),
-        Err(fault) => draw_marked(row, mark_of_fault(fault.kind()), alloc, text),
-    }
-}
-
-/// The kind of documents as which the content of a row is read, to be drawn below it.
-fn kind_read(row: &Row) -> ContentKind {
-    match &row.child.media_type {
-        Some(media_type) if row.child.is_document && row.depth < DEPTH => {
-            ContentKind::of_media_type(media_type.as_str())
+    writer: &mut W,
+    errors: &mut E,
+) -> Result<u8>
+    ensures status { IfOk result IsStatus }
+    ensures drawn { IfOk result (IsDrawn DOCUMENT_LIMIT (L.steady layout.now) (L.tops layout.now) (L.contents layout.now) name.now (W.contents writer.old) (W.contents writer.new)) }
+{
+    let mut buffer = vec![in alloc; 0u8; PIECE]?;
+    let buffer = buffer.as_mut_slice();
+    match read_top(layout, alloc, "index.json", DOCUMENT_LIMIT, buffer)? {
+        Top::Bytes(bytes) => {
+            if is_wrong(Some(Kind::Index), name, bytes.as_slice(), alloc, errors)? {
+                return Ok(1);
+            }
+            let rows = draw_index(layout, bytes.as_slice(), alloc, buffer)?;
+            write_rows(name, &rows, alloc, writer)
         }
-        _ => ContentKind::Opaque,
+        Top::Missing => {
+            complain_of(name, &"missing", alloc, errors);
+            Ok(3)
+        }
+        Top::TooLarge => {
+            complain_of(name, &"too large to be read as a document", alloc, errors);
+            Ok(3)
+        }
+        Top::Unreadable(why) => {
+            complain_of(name, &why, alloc, errors);
+            Ok(3)
+        }
     }
 }
 
-/// Draws the row of a document with these bytes, and adds those below it.
-fn draw_document(
-    kind: ContentKind,
+/// The lines of an index in a layout.
+fn draw_index<L: ImageLayout>(
+    layout: &L,
     bytes: &[u8],
-    row: &Row,
-    rows: &mut Vec<Row>,
     alloc: Global,
-    text: &mut String,
-) -> Result<bool> {
-    if !is_document(read_document(alloc, kind, bytes)?.fault) {
-        return draw_marked(row, " (no document of its media type)", alloc, text);
-    }
+    buffer: &mut [u8],
+) -> Result<Vec<Row>>
+    requires { 0 < length buffer.old }
+    ensures said { IfOk result (λ v. AreSaid DOCUMENT_LIMIT (L.steady layout.now) (L.contents layout.now) v.items) }
+    ensures trees { IfOk result (λ v. AreIndexTrees (L.contents layout.now) bytes.now v.items) }
+{
     let value = Value::from_slice(alloc, bytes)?;
-    push_inner(row, &value, rows, alloc)?;
-    draw_marked(row, "", alloc, text)
+    let children = children_of(ContentKind::Index, &value, alloc)?;
+    let rows = draw(layout, children, alloc, buffer)?;
+    Ok(rows)
 }
 
-/// Whether a document is one of its media type, whatever its descriptors hold themselves.
-fn is_document(fault: Option<Fault>) -> bool {
-    match fault {
-        None | Some(Fault::Embedded) => true,
-        Some(_) => false,
-    }
+/// Writes the lines of an index, and returns the status: 0 if they are whole, and else 1.
+fn write_rows<W: Write>(name: &str, rows: &Vec<Row>, alloc: Global, writer: &mut W) -> Result<u8>
+    ensures wrote { IfOk result (λ s. WroteTree name.now (codes "an image index") (W.contents writer.old) (W.contents writer.new) rows.now.items) }
+    ensures told { IfOk result (TellsWhole rows.now.items) }
+    ensures status { IfOk result IsStatus }
+{
+    write_tree(name, "an image index", rows, alloc, writer)?;
+    Ok(status_of(are_whole(rows)))
 }
 
-/// Draws a row with a mark, and returns whether there is none.
-fn draw_marked(row: &Row, mark: &str, alloc: Global, text: &mut String) -> Result<bool> {
-    push_row(
-        text,
-        row.before.as_str(),
-        row.is_last,
-        row.child.row.as_str(),
-        mark,
-        alloc,
-    )?;
-    Ok(mark.is_empty())
+/// Whether the tree is whole as far as its lines go.
+fn are_whole(rows: &Vec<Row>) -> bool
+    ensures { IsTrue result ↔ IsWhole rows.now.items }
+{
+    rows.iter().all(|row| row.mark.is_whole())
 }
 
-/// The mark of a content that is not read.
-fn mark_of(presence: Presence) -> &'static str {
-    match presence {
-        Presence::Missing => " (missing)",
-        Presence::Unreadable => " (unreadable)",
-        Presence::File => "",
-    }
-}
-
-/// The mark of a document that could not be read.
-fn mark_of_fault(kind: ErrorKind) -> &'static str {
-    match kind {
-        ErrorKind::NotFound => " (missing)",
-        ErrorKind::FileTooLarge => " (too large)",
-        _ => " (unreadable)",
-    }
-}
-
-/// Adds the rows below a row with this document.
-fn push_inner(row: &Row, value: &Value, rows: &mut Vec<Row>, alloc: Global) -> Result<()> {
-    let before = below(row.before.as_str(), row.is_last, alloc)?;
-    push_children(
-        rows,
-        value,
-        before.as_str(),
-        row.depth.saturating_add(1),
-        alloc,
-    )
-}
-
-/// Adds the descriptors in a document, the first on top.
-fn push_children(
-    rows: &mut Vec<Row>,
-    value: &Value,
-    before: &str,
-    depth: usize,
-    alloc: Global,
-) -> Result<()> {
-    let mut children = children_of(value, alloc)?;
-    let mut is_last = true;
-    for _ in 0..children.len() {
-        if let Some(child) = children.pop() {
-            push_child(rows, child, before, is_last, depth, alloc)?;
-            is_last = false;
-        }
-    }
-    Ok(())
-}
-
-fn push_child(
-    rows: &mut Vec<Row>,
-    child: Child,
-    before: &str,
-    is_last: bool,
-    depth: usize,
-    alloc: Global,
-) -> Result<()> {
-    rows.push(Row {
-        child,
-        before: String::from_str(alloc, before)?,
-        is_last,
-        depth,
-    })?;
-    Ok(())
-}
-
-/// Where the content of a row is in a layout, if there is one.
-fn path_of(layout: Option<&str>, row: &Row, alloc: Global) -> Result<Option<String>> {
-    match (layout, &row.child.digest) {
-        (Some(folder), Some(digest)) => path_in(folder, digest.as_str(), alloc),
-        _ => Ok(None),
-    }
-}
-
-/// Where the content of a digest is in a layout; none if the text is no digest.
-fn path_in(folder: &str, digest: &str, alloc: Global) -> Result<Option<String>> {
-    let Ok(digest) = Digest::from_str(alloc, digest) else {
-        return Ok(None);
-    };
-    let path = blob_path(alloc, &digest)?;
-    Ok(Some(format!(in alloc; "{folder}/{path}")?))
+fn status_of(is_whole: bool) -> u8
+    ensures status { IsStatus result }
+    ensures whole { IsTrue is_whole → result ≡ 0 }
+    ensures part { is_whole ≡ false → result ≡ 1 }
+{
+    if is_whole { 0 } else { 1 }
 }

@@ -76,7 +76,7 @@ fn perform<S: Files, B: RuleBooks + Versions, W: Write, E: Write>(
         }
         Asked::Pin(text, file) => pin(text, file, alloc, store, writer, errors),
         Asked::PinTo(text, target) => pin_to(text, target, alloc, store, writer, errors),
-        Asked::Tree(asked) => tree(asked, alloc, store, writer, errors),
+        Asked::Tree(file) => tree(file, alloc, store, writer, errors),
         Asked::Rules(style, name) => rules(books, *style, *name, alloc, writer, errors),
         Asked::Explain(name) => explain(books, name, alloc, writer, errors),
         Asked::Schema(outline, kind) => {
@@ -88,7 +88,7 @@ fn perform<S: Files, B: RuleBooks + Versions, W: Write, E: Write>(
 }
 
 /// Says why a command failed. Nothing is said of a reader that has gone away, as `head` does.
-fn report<E: Write>(error: &OciSpecError, alloc: Global, errors: &mut E) {
+pub(crate) fn report<E: Write>(error: &OciSpecError, alloc: Global, errors: &mut E) {
     match error {
         OciSpecError::Memory => complain("ciderglen: out of memory\n", errors),
         OciSpecError::Io(fault) if fault.kind() == io::ErrorKind::BrokenPipe => {}

@@ -1,16 +1,19 @@
 //! The commands `rules` and `schema`.
-ghost use Rattle.std.specs.Prelude.{◌≡◌, None, true, false, IfOk, IfSome, IsSome, string_bytes};
-ghost use Rattle.oci_commands.specs.Books.{AreRulesNamed, AreShownRules, is_rule as is_rule_of, IsKnown, IsUnknown, WroteRules};
+ghost use Rattle.std.specs.Prelude.{◌≡◌, None, Some, true, false, IfOk, IfSome, OnOk, string_bytes};
+ghost use Rattle.oci_commands.specs.Books.{AreObjectsNamed, AreRulesNamed, AreShownRules, is_rule as is_rule_of, IsKnown, IsUnknown, WroteRules};
+ghost use Rattle.oci_commands.specs.RuleTexts.{AreAllRuleObjects};
 ghost use Rattle.oci_commands.specs.Done.{IsStatus};
+ghost use Rattle.oci_commands.specs.Schemas.{IsSchemaOf, WroteSchema};
 
 use crate::asked::{Outline, Style};
-use crate::books::{Versions, all_rules, is_rule, rules_of_kind, rules_of_name};
+use crate::books::{Versions, all_rules, is_rule, rules_of_kind};
 use crate::json_schema::json_schema_of;
 use crate::nearest::nearest_rule_or_kind;
 use crate::rule_objects::{objects_of_kind, objects_of_rules};
+use crate::rules_named::rules_of_name;
+use crate::table::table_of;
 use crate::texts::complain_of;
 use oci_base::Result;
-use oci_findings::table::table_of;
 use oci_findings::{RuleBooks, kind_named};
 use oci_json::write_text;
 use oci_schemas::Kind;
@@ -87,7 +90,7 @@ fn objects<B: RuleBooks>(
     name: Option<&str>,
     alloc: Global,
 ) -> std::result::Result<Option<String>, AllocError>
-    ensures some { IfOk result (λ o. IsSome o → IsKnown (B.rules books.now) name.entry) }
+    ensures some { IfOk result (λ o. IfSome o (λ t. IsKnown (B.rules books.now) name.entry × AreObjectsNamed (B.rules books.now) name.entry (string_bytes t))) }
     ensures none { IfOk result (λ o. o ≡ None → IsUnknown (B.rules books.now) name.entry) }
 {
     match name {
@@ -105,7 +108,7 @@ fn objects_named<B: RuleBooks>(
     name: &str,
     alloc: Global,
 ) -> std::result::Result<Option<String>, AllocError>
-    ensures some { IfOk result (λ o. IsSome o → is_rule_of (B.rules books.now) name.now ≡ true) }
+    ensures some { IfOk result (λ o. IfSome o (λ t. (is_rule_of (B.rules books.now) name.now ≡ true) × AreAllRuleObjects (B.rules books.now) (Some name.now) (string_bytes t))) }
     ensures none { IfOk result (λ o. o ≡ None → is_rule_of (B.rules books.now) name.now ≡ false) }
 {
     if !is_rule(books, name, alloc)? {
@@ -133,11 +136,19 @@ fn text_of<B: RuleBooks + Versions>(
 }
 
 /// Writes the members of a kind of documents, and of each record that they name, or its JSON Schema.
-pub fn schema<W: Write>(outline: Outline, kind: Kind, alloc: Global, writer: &mut W) -> Result<()> {
-    let text = match outline {
-        Outline::Table => table_of(kind, alloc)?,
-        Outline::JsonSchema => json_schema_of(kind, alloc)?,
-    };
+pub fn schema<W: Write>(outline: Outline, kind: Kind, alloc: Global, writer: &mut W) -> Result<()>
+    ensures { OnOk result (WroteSchema outline kind (W.contents writer.old) (W.contents writer.new)) }
+{
+    let text = schema_text(outline, kind, alloc)?;
     write_text(text.as_bytes(), writer)?;
     Ok(())
+}
+
+fn schema_text(outline: Outline, kind: Kind, alloc: Global) -> Result<String>
+    ensures { IfOk result (λ t. IsSchemaOf outline kind (string_bytes t)) }
+{
+    match outline {
+        Outline::Table => Ok(table_of(kind, alloc)?),
+        Outline::JsonSchema => json_schema_of(kind, alloc),
+    }
 }

@@ -6,11 +6,12 @@ use Rattle.std.proofs.lemmas.List.{append_assoc, append-nil, get_or_default}
 use Rattle.std.proofs.lemmas.List.Elements.{filter-append}
 use Rattle.oci_base.specs.Escaped.{IsLine}
 use Rattle.std.specs.Prelude.{IfOk}
+use Rattle.oci_layout.specs.declared.claim.Claim.{Claim}
 use Rattle.oci_layout.specs.declared.claim.Detail.{Detail}
 use Rattle.oci_layout.specs.declared.claim.Fault.{Fault}
 use Rattle.oci_findings.specs.declared.finding.Finding.{Finding}
 use Rattle.oci_findings.specs.declared.report.Report.{Report}
-use Rattle.oci_findings.specs.Contents.{fact, document_facts, content_fault}
+use Rattle.oci_findings.specs.Contents.{fact, document_facts, content_fault, unread_fact}
 use Rattle.oci_findings.specs.Reports.{IsReportOn}
 use Rattle.oci_findings.specs.Lines.{AreLines, IsShownLine, WritesLines, is_error, is_no_error}
 use Rattle.oci_findings.specs.Lines.AreLines.{none, more, left_out}
@@ -90,7 +91,8 @@ line_left_out colored n text h = left_out h
 pub uncounted : (colored : Bool) (n : ℕ) (text : List ℕ) → AreLines colored n text → AreLines colored (n + 0) text
 uncounted colored n text h = let step : n ≡ n + 0 = omega arith in subst (λ k. AreLines colored k text) step h
 
-pub reported : {E : Type 0} (r : Result Report E) (all : List Finding) (found : Option Fault) (detail : Detail) → map fact all ≡ document_facts found detail ++ content_fault found
-    → IfOk r (λ x. x.errors.items ≡ filter is_error all) → IfOk r (λ x. x.warnings.items ≡ filter is_no_error all) → IfOk r (IsReportOn found detail)
-reported (Ok x) all found detail says e w = record { all = all; says = says; errors = e; warnings = w }
-reported (Err x) all found detail says e w = tt
+pub reported : {E : Type 0} (r : Result Report E) (all : List Finding) (claim : Claim) (found : Option Fault) (detail : Detail)
+    → map fact all ≡ document_facts found detail ++ content_fault claim found ++ unread_fact claim found
+    → IfOk r (λ x. x.errors.items ≡ filter is_error all) → IfOk r (λ x. x.warnings.items ≡ filter is_no_error all) → IfOk r (IsReportOn claim found detail)
+reported (Ok x) all claim found detail says e w = record { all = all; says = says; errors = e; warnings = w }
+reported (Err x) all claim found detail says e w = tt

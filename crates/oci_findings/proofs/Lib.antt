@@ -1,5 +1,6 @@
 pub mod Allowed
 pub mod Books
+pub mod Children
 pub mod Colored
 pub mod Commands
 pub mod Counted
@@ -10,7 +11,9 @@ pub mod FoundKinds
 pub mod Keys
 pub mod Listed
 pub mod Marks
+pub mod NoErrors
 pub mod OwnKinds
 pub mod OwnMembers
+pub mod Rows
 pub mod Told
 mod Unlisted

@@ -10,12 +10,17 @@ use Rattle.oci_layout.specs.declared.member.OtherMember.TheVariants as member
 use Rattle.oci_findings.specs.declared.file_fault.Absence.{Absence}
 use Rattle.oci_findings.specs.declared.file_fault.Absence.TheVariants as absence
 use Rattle.oci_findings.specs.declared.file_fault.FileFault.{FileFault}
-use Rattle.oci_findings.specs.declared.file_fault.FileFault.TheVariants.{Missing, Unreadable, TooLarge, Size, Digest, Unjudged, MediaType, Ambiguous, Held, Version, Unlisted, Unreferenced}
+use Rattle.oci_findings.specs.declared.file_fault.FileFault.TheVariants.{Missing, Unreadable, TooLarge, Size, Digest, Unjudged, MediaType, Ambiguous, Held, Version, Unlisted, Unread, Unreferenced}
 
 -- what was found, if it is shown
 abbrev pub found_words : Option (String Global) → List ℕ
 found_words None = []
 found_words (Some text) = codes ", found " ++ string_bytes text
+
+-- why, if that is known
+abbrev pub reason_words : Option (String Global) → List ℕ
+reason_words None = []
+reason_words (Some why) = codes ": " ++ string_bytes why
 
 abbrev pub absence_words : Absence → List ℕ
 absence_words absence.Wrong = codes "missing"
@@ -42,7 +47,7 @@ embedded_words _ = codes "the content that its descriptor says"
 -- what is wrong with a file, in a sentence
 abbrev pub file_words : FileFault → List ℕ
 file_words (Missing why) = absence_words why
-file_words Unreadable = codes "cannot be read"
+file_words (Unreadable why) = codes "cannot be read" ++ reason_words why
 file_words TooLarge = codes "too large to be read as a document"
 file_words (Size claimed found) = codes "expected " ++ (decimal claimed ++ (codes " bytes, found " ++ count_words found))
 file_words (Digest claimed found) = codes "expected " ++ (string_bytes claimed ++ (codes ", found " ++ checksum_text found))
@@ -51,13 +56,14 @@ file_words (MediaType said found) = (codes "expected " ++ said.now) ++ found_wor
 file_words (Ambiguous m) = codes "expected " ++ member_words m
 file_words (Held e) = codes "expected " ++ embedded_words e
 file_words (Version found) = (codes "expected " ++ codes "1.0.0") ++ found_words found
-file_words Unlisted = codes "cannot be listed to its end"
+file_words (Unlisted why) = codes "cannot be listed to its end" ++ reason_words why
+file_words Unread = codes "not looked into, since its media type is of no kind that is known"
 file_words Unreferenced = codes "nothing that is reached refers to it"
 
 -- the name of the rule
 abbrev pub file_rule : FileFault → List ℕ
 file_rule (Missing why) = codes "missing"
-file_rule Unreadable = codes "unreadable"
+file_rule (Unreadable why) = codes "unreadable"
 file_rule TooLarge = codes "too-large"
 file_rule (Size claimed found) = codes "size"
 file_rule (Digest claimed found) = codes "digest"
@@ -66,5 +72,6 @@ file_rule (MediaType said found) = codes "media-type"
 file_rule (Ambiguous m) = codes "ambiguous"
 file_rule (Held e) = codes "embedded"
 file_rule (Version found) = codes "layout-version"
-file_rule Unlisted = codes "unlisted"
+file_rule (Unlisted why) = codes "unlisted"
+file_rule Unread = codes "unread"
 file_rule Unreferenced = codes "unreferenced"

@@ -12,7 +12,9 @@ pub mod Kinds
 pub mod Known
 pub mod LeftOut
 pub mod Lines
+pub mod Outlines
 pub mod OwnKind
 pub mod Repeated
 pub mod Reports
+pub mod Totals
 pub mod Wording

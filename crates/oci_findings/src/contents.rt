@@ -1,6 +1,7 @@
 //! Findings on the contents of an image layout, by the facts that a walk over it gives.
-ghost use Rattle.std.specs.Prelude.{◌≡◌, ◌++◌, ◌∷◌, [], IfOk, OnOk, Some, map, string_bytes};
-ghost use Rattle.oci_findings.specs.Contents.{content_fault, document_fault, document_facts, fact, fact_in, file_facts, held_fact};
+ghost use Rattle.std.specs.Prelude.{◌≡◌, ◌++◌, ◌∷◌, [], IfOk, OnOk, Some, map, not, string_bytes};
+ghost use Rattle.oci_findings.specs.Contents.{content_fault, document_fault, document_facts, fact, fact_in, file_facts, held_fact, is_wrong, note_fact, unread_fact};
+ghost use Rattle.oci_findings.specs.Lines.{is_error_level};
 ghost use Rattle.oci_findings.specs.Reports.{IsReportOn};
 
 use crate::claimed::{Claims, pointer_of};
@@ -11,6 +12,7 @@ use crate::shown::{json_cause_of, shown_at, value_of, violation_findings};
 use oci_layout::{Claim, Detail, Fault, Held, Kind, OtherMember, Role, Walk};
 use serde_json::Value;
 use std::alloc::{AllocError, Global};
+use std::io;
 
 /// What was found at a place of a walk, which was looked at, and by which descriptors it was reached. Fails if out of memory.
 pub fn content_report(
@@ -43,24 +45,25 @@ pub fn report_on(
     claims: Claims,
     alloc: Global,
 ) -> Result<Report<'static>, AllocError>
-    ensures { IfOk result (IsReportOn fault detail.now) }
+    ensures { IfOk result (IsReportOn claim.now fault detail.now) }
 {
     let found = content_findings(claim, fault, detail, alloc)?;
     Report::of_file(found, &detail.text, claims, alloc)
 }
 
 /// A finding for each violation of the schema of a content's document, for what stands against each content that its descriptors hold
-/// themselves, and for what stands against the content, in this order. Fails if out of memory.
+/// themselves, for what stands against the content, and that it is not looked into, in this order. Fails if out of memory.
 pub fn content_findings<'a>(
     claim: &Claim,
     fault: Option<Fault>,
     detail: &Detail,
     alloc: Global,
 ) -> Result<Vec<Finding<'a>>, AllocError>
-    ensures { IfOk result (λ v. map fact v.items ≡ document_facts fault detail.now ++ content_fault fault) }
+    ensures { IfOk result (λ v. map fact v.items ≡ document_facts fault detail.now ++ content_fault claim.now fault ++ unread_fact claim.now fault) }
 {
     let mut found = document_findings(claim.kind, fault, detail, alloc)?;
-    add_content_fault(claim, fault, &mut found, alloc)?;
+    add_content_fault(claim, fault, detail, &mut found, alloc)?;
+    add_unread(claim, fault, &mut found, alloc)?;
     Ok(found)
 }
 
@@ -157,7 +160,7 @@ fn add<'a>(
     cause: Cause<'a>,
     found: &mut Vec<Finding<'a>>,
 ) -> Result<(), AllocError>
-    ensures { OnOk result (map fact found.new.items ≡ map fact found.old.items ++ (string_bytes pointer, fact_in cause.entry) ∷ []) }
+    ensures { OnOk result (map fact found.new.items ≡ map fact found.old.items ++ (string_bytes pointer, fact_in cause.entry, is_error_level severity) ∷ []) }
 {
     let finding = Finding {
         pointer,
@@ -172,15 +175,16 @@ fn add<'a>(
 fn add_content_fault<'a>(
     claim: &Claim,
     fault: Option<Fault>,
+    detail: &Detail,
     found: &mut Vec<Finding<'a>>,
     alloc: Global,
 ) -> Result<(), AllocError>
-    ensures { OnOk result (map fact found.new.items ≡ map fact found.old.items ++ content_fault fault) }
+    ensures { OnOk result (map fact found.new.items ≡ map fact found.old.items ++ content_fault claim.now fault) }
 {
     let Some(fault) = fault else {
         return Ok(());
     };
-    match file_fault(claim, fault, alloc)? {
+    match file_fault(claim, fault, detail, alloc)? {
         Some(cause) => {
             let severity = severity_of(claim, fault);
             add(severity, String::new(alloc), Cause::File(cause), found)
@@ -189,9 +193,51 @@ fn add_content_fault<'a>(
     }
 }
 
+/// Adds a note on a content against which nothing stands, and that is not looked into.
+fn add_unread<'a>(
+    claim: &Claim,
+    fault: Option<Fault>,
+    found: &mut Vec<Finding<'a>>,
+    alloc: Global,
+) -> Result<(), AllocError>
+    ensures { OnOk result (map fact found.new.items ≡ map fact found.old.items ++ unread_fact claim.now fault) }
+{
+    match fault {
+        None => add_note_if(claim.is_unread(), found, alloc),
+        Some(_) => Ok(()),
+    }
+}
+
+/// Adds a note that a content is not looked into, if it is not.
+fn add_note_if<'a>(
+    is_unread: bool,
+    found: &mut Vec<Finding<'a>>,
+    alloc: Global,
+) -> Result<(), AllocError>
+    ensures { OnOk result (map fact found.new.items ≡ map fact found.old.items ++ note_fact is_unread) }
+{
+    if !is_unread {
+        return Ok(());
+    }
+    let cause = Cause::File(FileFault::Unread);
+    add(Severity::Note, String::new(alloc), cause, found)
+}
+
 /// A content that is missing and may be is worth a note.
-fn severity_of(claim: &Claim, fault: Fault) -> Severity {
-    if fault == Fault::Missing && claim.may_be_missing() {
+fn severity_of(claim: &Claim, fault: Fault) -> Severity
+    ensures { is_error_level result ≡ is_wrong claim.now fault }
+{
+    match fault {
+        Fault::Missing => note_if(claim.may_be_missing()),
+        _ => Severity::Error,
+    }
+}
+
+/// A note, or else an error.
+fn note_if(is_note: bool) -> Severity
+    ensures { is_error_level result ≡ not is_note }
+{
+    if is_note {
         Severity::Note
     } else {
         Severity::Error
@@ -199,12 +245,17 @@ fn severity_of(claim: &Claim, fault: Fault) -> Severity {
 }
 
 /// What is wrong with a file that is not as it is claimed to be; nothing of a document that is.
-fn file_fault(claim: &Claim, fault: Fault, alloc: Global) -> Result<Option<FileFault>, AllocError>
-    ensures { IfOk result (λ f. content_fault (Some fault) ≡ file_facts f) }
+fn file_fault(
+    claim: &Claim,
+    fault: Fault,
+    detail: &Detail,
+    alloc: Global,
+) -> Result<Option<FileFault>, AllocError>
+    ensures { IfOk result (λ f. content_fault claim.now (Some fault) ≡ file_facts (is_wrong claim.now fault) f) }
 {
     Ok(Some(match fault {
         Fault::Missing => FileFault::Missing(absence_of(claim)),
-        Fault::Unreadable => FileFault::Unreadable,
+        Fault::Unreadable => FileFault::Unreadable(reason_in(detail, alloc)?),
         Fault::TooLarge => FileFault::TooLarge,
         Fault::Shorter(found) => FileFault::Size(claim.size, Some(found)),
         Fault::Longer => FileFault::Size(claim.size, None),
@@ -220,6 +271,19 @@ fn file_fault(claim: &Claim, fault: Fault, alloc: Global) -> Result<Option<FileF
             return Ok(None);
         }
     }))
+}
+
+/// Why a content cannot be read, as the system says it.
+fn reason_in(detail: &Detail, alloc: Global) -> Result<Option<String>, AllocError> {
+    match &detail.why {
+        Some(why) => reason_text(why, alloc),
+        None => Ok(None),
+    }
+}
+
+/// What the system says.
+pub fn reason_text(why: &io::Error, alloc: Global) -> Result<Option<String>, AllocError> {
+    Ok(Some(format!(in alloc; "{why}")?))
 }
 
 /// Why the content of a claim may be missing.

@@ -2,7 +2,7 @@
 ghost use Rattle.std.specs.Prelude.{◌≡◌, ◌++◌, codes, IfOk, OnOk, string_bytes};
 ghost use Rattle.std.specs.Fmt.{decimal};
 ghost use Rattle.oci_content.specs.Content.{checksum_text};
-ghost use Rattle.oci_findings.specs.Files.{absence_words, count_words, embedded_words, file_words, file_rule, found_words, member_words};
+ghost use Rattle.oci_findings.specs.Files.{absence_words, count_words, embedded_words, file_words, file_rule, found_words, member_words, reason_words};
 
 use crate::finding::{joined, with_found};
 use oci_content::{Checksum, Embedded};
@@ -25,8 +25,8 @@ pub enum Absence {
 pub enum FileFault {
     /// Nothing is there.
     Missing(Absence),
-    /// What is there cannot be read, or is no file.
-    Unreadable,
+    /// What is there cannot be read, or is no regular file, and what the system says.
+    Unreadable(Option<String>),
     /// It is larger than a document may be, and is not read.
     TooLarge,
     /// Its descriptor says that it has so many bytes, and it has so many, which are fewer, or it has more.
@@ -43,8 +43,10 @@ pub enum FileFault {
     Held(Embedded),
     /// The layout is of another version, which is shown.
     Version(Option<String>),
-    /// The folder cannot be listed to its end.
-    Unlisted,
+    /// The folder cannot be listed to its end, and why.
+    Unlisted(Option<String>),
+    /// Its media type is of no kind that is known, so it is not looked into.
+    Unread,
     /// No descriptor that is reached refers to it.
     Unreferenced,
 }
@@ -56,7 +58,7 @@ impl FileFault {
     {
         match self {
             FileFault::Missing(_) => "missing",
-            FileFault::Unreadable => "unreadable",
+            FileFault::Unreadable(_) => "unreadable",
             FileFault::TooLarge => "too-large",
             FileFault::Size(_, _) => "size",
             FileFault::Digest(_, _) => "digest",
@@ -65,7 +67,8 @@ impl FileFault {
             FileFault::Ambiguous(_) => "ambiguous",
             FileFault::Held(_) => "embedded",
             FileFault::Version(_) => "layout-version",
-            FileFault::Unlisted => "unlisted",
+            FileFault::Unlisted(_) => "unlisted",
+            FileFault::Unread => "unread",
             FileFault::Unreferenced => "unreferenced",
         }
     }
@@ -76,7 +79,7 @@ impl FileFault {
     {
         match self {
             FileFault::Missing(absence) => String::from_str(alloc, missing_text(*absence)),
-            FileFault::Unreadable => String::from_str(alloc, "cannot be read"),
+            FileFault::Unreadable(why) => reasoned("cannot be read", why, alloc),
             FileFault::TooLarge => String::from_str(alloc, "too large to be read as a document"),
             FileFault::Size(claimed, found) => size_message(*claimed, *found, alloc),
             FileFault::Digest(claimed, found) => digest_message(claimed.as_str(), found, alloc),
@@ -87,12 +90,31 @@ impl FileFault {
             FileFault::Ambiguous(member) => joined("expected ", member_text(*member), alloc),
             FileFault::Held(embedded) => joined("expected ", embedded_text(*embedded), alloc),
             FileFault::Version(found) => type_message("1.0.0", found, alloc),
-            FileFault::Unlisted => String::from_str(alloc, "cannot be listed to its end"),
+            FileFault::Unlisted(why) => reasoned("cannot be listed to its end", why, alloc),
+            FileFault::Unread => {
+                String::from_str(
+                    alloc,
+                    "not looked into, since its media type is of no kind that is known",
+                )
+            }
             FileFault::Unreferenced => String::from_str(
                 alloc,
                 "nothing that is reached refers to it",
             ),
         }
+    }
+}
+
+/// A text, and behind it the reason, if there is one.
+fn reasoned(text: &str, why: &Option<String>, alloc: Global) -> Result<String, AllocError>
+    ensures { IfOk result (λ t. string_bytes t ≡ text.now ++ reason_words why.now) }
+{
+    match why {
+        Some(why) => {
+            let text = joined(text, ": ", alloc)?;
+            joined(text.as_str(), why.as_str(), alloc)
+        }
+        None => String::from_str(alloc, text),
     }
 }
 

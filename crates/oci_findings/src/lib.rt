@@ -30,6 +30,7 @@ pub mod sarif;
 pub mod shown;
 pub mod style;
 pub mod table;
+pub mod totals;
 pub mod uri;
 pub mod wording;
 
@@ -43,3 +44,4 @@ pub use report::Report;
 pub use reporter::Reporter;
 pub use rulebooks::RuleBooks;
 pub use style::Style;
+pub use totals::Totals;

@@ -8,6 +8,7 @@ use crate::render::{json_line, lines_of, number_member, objects_of};
 use crate::report::Report;
 use crate::sarif::Log;
 use crate::style::Style;
+use crate::totals::Totals;
 use json::Writer;
 use oci_base::Result;
 use oci_json::write_text;
@@ -98,28 +99,26 @@ impl Reporter {
         Ok(())
     }
 
-    /// In JSON Lines, writes how many contents of an image layout were claimed, their bytes, and how many findings and notes there were.
-    /// Fails as `add`.
+    /// In JSON Lines, writes how much of an image layout was verified, and how many findings and notes there were. Fails as `add`.
     #[tactic(auto, using(crate::proofs::Facts::written, crate::proofs::Facts::one_line))]
-    pub fn add_summary<W: Write>(&self, claims: u64, bytes: u64, writer: &mut W) -> Result<()>
+    pub fn add_summary<W: Write>(&self, totals: &Totals, writer: &mut W) -> Result<()>
         ensures { OnOk result (WritesLines false 1 (W.contents writer.old) (W.contents writer.new)) }
     {
         if self.style == Style::Json {
-            let line = self.summary_line(claims, bytes)?;
+            let line = self.summary_line(totals)?;
             write_text(line.as_bytes(), writer)?;
         }
         Ok(())
     }
 
-    fn summary_line(&self, claims: u64, bytes: u64) -> std::result::Result<String, AllocError>
+    fn summary_line(&self, totals: &Totals) -> std::result::Result<String, AllocError>
         ensures { IfOk result (λ t. IsLine (string_bytes t)) }
     {
         let mut out = Writer::new(Vec::new(self.alloc));
         out.begin_object()?;
         out.key("summary")?;
         out.begin_object()?;
-        number_member(&mut out, "claims", claims)?;
-        number_member(&mut out, "bytes", bytes)?;
+        totals.add_members(&mut out)?;
         number_member(&mut out, "findings", self.errors)?;
         number_member(&mut out, "notes", self.others)?;
         out.end_object()?;

@@ -1,4 +1,5 @@
 pub mod Descriptors
+pub mod Details
 pub mod Findings
 pub mod Items
 pub mod Looks

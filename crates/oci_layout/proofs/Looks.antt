@@ -1,6 +1,7 @@
 -- What is found at a claim, by the steps in which it is found.
 use Rattle.std.proofs.Common.{◌≡◌, ℕ, ◌<◌, Bool, true, false, List, [], length, Option, None, Some, Result, Ok, Err, IfOk, IfSome, inl, inr, refl, sym, subst}
 use Rattle.std.specs.declared.alloc.AllocError.{AllocError}
+use Rattle.std.specs.declared.io.Error.{Error}
 use Rattle.oci_content.specs.Content.{Tells}
 use Rattle.oci_content.specs.declared.verdict.Verdict.{Verdict}
 use Rattle.oci_content.specs.declared.verdict.Verdict.TheVariants as verdict
@@ -97,10 +98,10 @@ missing_shown remaining true steady limit (Some contents) claim f claims g told 
 missing_shown remaining false steady limit (Some contents) claim f claims g told = inl (subst (λ o. IsShown limit o claim f claims) (sym g) told)
 
 pub unreadable_shown : {B : Type 0} (remaining : B → Option (List ℕ)) (quick steady : Bool) (limit : ℕ) (contents : Contents) (claim : Claim) (f : Option Fault) (claims : List Claim)
-    → Gives remaining steady contents claim.digest Unreadable → IsFault fault.Unreadable f claims → Shows quick steady limit contents claim f claims
-unreadable_shown remaining quick steady limit None claim f claims g told = tt
-unreadable_shown remaining true steady limit (Some contents) claim f claims g told = tt
-unreadable_shown remaining false steady limit (Some contents) claim f claims g told = inr (g, told)
+    (why : Error) → Gives remaining steady contents claim.digest (Unreadable why) → IsFault fault.Unreadable f claims → Shows quick steady limit contents claim f claims
+unreadable_shown remaining quick steady limit None claim f claims why g told = tt
+unreadable_shown remaining true steady limit (Some contents) claim f claims why g told = tt
+unreadable_shown remaining false steady limit (Some contents) claim f claims why g told = inr (g, told)
 
 shown : {B : Type 0} (remaining : B → Option (List ℕ)) (quick steady : Bool) (limit : ℕ) (contents : Contents) (claim : Claim) (blob : B) (size : Option ℕ)
     (f : Option Fault) (claims : List Claim) → Gives remaining steady contents claim.digest (Content blob size)

@@ -1,6 +1,6 @@
 -- What is listed of what is kept in memory.
-use Rattle.std.proofs.Common.{◌≡◌, ℕ, ◌+◌, ◌<◌, length, get_or, true, List, [], ◌∷◌, ◌++◌, take, inl, inr, sym, subst, ◌∙◌, arith}
-use Rattle.std.specs.Prelude.{string_bytes, false, ◌⊎◌}
+use Rattle.std.proofs.Common.{◌≡◌, ℕ, ◌+◌, ◌<◌, length, get_or, true, None, List, [], ◌∷◌, ◌++◌, take, inl, inr, sym, subst, ◌∙◌, arith}
+use Rattle.std.specs.Prelude.{string_bytes, ◌⊎◌}
 use Rattle.std.specs.List.{Contains}
 use Rattle.std.proofs.lemmas.List.{take_more}
 use Rattle.std.proofs.lemmas.List.Elements.{Contains-append_left, Contains-push, Contains-push_cases}
@@ -12,7 +12,7 @@ use Rattle.oci_layout.specs.declared.store.Listed.{Listed}
 
 -- these are the paths of what is kept
 pub record AreNamesOf (kept : List Kept) (listed : List Listed) : Type 0 where
-  pub named : (l : Listed) → Contains listed l → (l.cut ≡ false) × IsKeptAt kept (string_bytes l.path)
+  pub named : (l : Listed) → Contains listed l → (l.fault ≡ None) × IsKeptAt kept (string_bytes l.path)
   pub all : (path : List ℕ) → IsKeptAt kept path → IsListed listed path
 
 none_in : {X : Type 0} (x : X) → Contains [] x → ⊥
@@ -37,9 +37,9 @@ added kept k old new h o = record {
   all = λ path p. subst (λ ls. IsListed ls path) (sym o.more) (all path p);
 }
   where
-    named : (l : Listed) → Contains old l ⊎ (o.one ≡ l) → (l.cut ≡ false) × IsKeptAt (kept ++ k ∷ []) (string_bytes l.path)
+    named : (l : Listed) → Contains old l ⊎ (o.one ≡ l) → (l.fault ≡ None) × IsKeptAt (kept ++ k ∷ []) (string_bytes l.path)
     named l (inl i) = ((h.named l i).0, wider kept (k ∷ []) (string_bytes l.path) (h.named l i).1)
-    named l (inr e) = subst (λ x. (x.cut ≡ false) × IsKeptAt (kept ++ k ∷ []) (string_bytes x.path)) e (o.whole, (k, Contains-push kept k, o.path))
+    named l (inr e) = subst (λ x. (x.fault ≡ None) × IsKeptAt (kept ++ k ∷ []) (string_bytes x.path)) e (o.whole, (k, Contains-push kept k, o.path))
 
     all : (path : List ℕ) → IsKeptAt (kept ++ k ∷ []) path → IsListed (old ++ o.one ∷ []) path
     all path (x, i, p) = elim (Contains-push_cases kept k x i) [
@@ -72,7 +72,7 @@ pub one_more_at : (all : List Kept) (i : ℕ) (d : Kept) (old new : List Listed)
 one_more_at all i d old new below h a = one_more all i (get_or all i d) old new (take_more all i d below) h a
 
 -- a path was pushed
-pub one_added : (text digest : List ℕ) (old new : List Listed) (l : Listed) → digest ≡ text → new ≡ old ++ l ∷ [] → l.cut ≡ false → IsPathOf digest (string_bytes l.path)
+pub one_added : (text digest : List ℕ) (old new : List Listed) (l : Listed) → digest ≡ text → new ≡ old ++ l ∷ [] → l.fault ≡ None → IsPathOf digest (string_bytes l.path)
     → ((algorithm encoded : List ℕ) → IsDigest digest algorithm encoded → string_bytes l.path ≡ path_of algorithm encoded) → AddsName text old new
 one_added text digest old new l same more whole path parts =
     subst (λ t. AddsName t old new) same (inl (record {

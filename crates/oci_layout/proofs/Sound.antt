@@ -1,6 +1,6 @@
 -- What a walk without a finding says, and where there is one.
 use Rattle.std.proofs.Common.{◌≡◌, ℕ, ◌<◌, Bool, true, false, List, [], ◌∷◌, length, IsSome, Option, None, Some, inl, inr, refl, sym, ap, subst, ◌∙◌, get_or, slice_get, true≢false, arith}
-use Rattle.std.specs.Prelude.{bytes_eq, codes, option_and_then, if◌then◌else◌}
+use Rattle.std.specs.Prelude.{codes, option_and_then, if◌then◌else◌}
 use Rattle.std.specs.List.{All, Contains}
 use Rattle.std.proofs.lemmas.Option.{slice_get-get_or}
 use Rattle.serde_json.specs.Data.{Data}
@@ -9,6 +9,7 @@ use Rattle.oci_model.specs.Shape.{Shape}
 use Rattle.oci_content.specs.Content.{Tells}
 use Rattle.oci_content.specs.declared.verdict.Verdict.{Verdict}
 use Rattle.oci_content.specs.declared.verdict.Verdict.TheVariants as verdict
+use Rattle.oci_layout.specs.Kinds.{is_same_type}
 use Rattle.oci_layout.specs.Documents.{compared, IsReadBy, IsAgainst, IsTypedAgainst, type_fault}
 use Rattle.oci_layout.specs.Kinds.{document_shape, own_type}
 use Rattle.oci_layout.specs.Looks.{fault_of, IsJudgedBy, IsShown, IsShownIn, IsSmall, Shows}
@@ -42,7 +43,7 @@ inner x y h k e = true≢false (sym h ∙ ap outer (some e) ∙ k)
 compared_there : (x : Fault) (a b : Option (List ℕ)) → outer x ≡ true → Some x ≡ compared a b → ⊥
 compared_there x None b h e = cc e
 compared_there x (Some said) None h e = cc e
-compared_there x (Some said) (Some own) h e = by (bytes_eq own said) e
+compared_there x (Some said) (Some own) h e = by (is_same_type own said) e
   where
     by : (b : Bool) → Some x ≡ (if b then None else Some fault.OtherType) → ⊥
     by true k = cc k

@@ -1,5 +1,5 @@
 -- What is found in the bytes of a document.
-use Rattle.std.specs.Prelude.{◌≡◌, ◌⊎◌, ℕ, List, [], ◌∷◌, bytes_eq, codes, if◌then◌else◌, Option, Some, None, IsSome, option_and_then}
+use Rattle.std.specs.Prelude.{◌≡◌, ◌⊎◌, ℕ, List, [], ◌∷◌, codes, if◌then◌else◌, Option, Some, None, IsSome, option_and_then}
 use Rattle.std.specs.List.{All}
 use Rattle.serde_json.specs.Data.{Data}
 use Rattle.serde_json.specs.Find.{as_str, get}
@@ -7,7 +7,7 @@ use Rattle.oci_model.specs.Plain.{Plain}
 use Rattle.oci_model.specs.Shape.{Shape}
 use Rattle.oci_model.specs.Means.{Means, unless_null}
 use Rattle.oci_json.specs.Engines.{ReadsAs, IsNoJson}
-use Rattle.oci_layout.specs.Kinds.{own_type, document_shape, member_name, other_members}
+use Rattle.oci_layout.specs.Kinds.{is_same_type, own_type, document_shape, member_name, other_members}
 use Rattle.oci_layout.specs.Claims.{claims_of}
 use Rattle.oci_layout.specs.Holds.{HoldContents}
 use Rattle.oci_layout.specs.declared.kind.Kind.{Kind}
@@ -24,7 +24,7 @@ IsValid s d = (p : Plain) × Means s d p
 abbrev pub compared : Option (List ℕ) → Option (List ℕ) → Option Fault
 compared None own = None
 compared (Some said) None = None
-compared (Some said) (Some own) = if bytes_eq own said then None else Some OtherType
+compared (Some said) (Some own) = if is_same_type own said then None else Some OtherType
 
 abbrev pub type_fault : Kind → Data → Option Fault
 type_fault k d = compared (own_type k) (option_and_then as_str (get (codes "mediaType") d))

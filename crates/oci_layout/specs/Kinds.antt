@@ -1,5 +1,6 @@
 -- What the contents of an image layout are read as (image specification, "Media Types", "Compatibility Matrix").
-use Rattle.std.specs.Prelude.{ℕ, List, [], ◌∷◌, codes, bytes_eq, Bool, ◌||◌, if◌then◌else◌, Option, Some, None}
+use Rattle.std.specs.Prelude.{ℕ, List, [], ◌∷◌, codes, Bool, ◌||◌, if◌then◌else◌, Option, Some, None}
+use Rattle.std.specs.Str.{str_eq_ignore_ascii_case}
 use Rattle.oci_model.specs.Shape.{Shape, free_map}
 use Rattle.oci_shapes.specs.ArtifactManifest.{artifact_manifest}
 use Rattle.oci_shapes.specs.ImageConfiguration.{image_configuration}
@@ -10,18 +11,30 @@ use Rattle.oci_layout.specs.declared.kind.Kind.TheVariants.{Index, DockerList, M
 use Rattle.oci_layout.specs.declared.member.OtherMember.{OtherMember}
 use Rattle.oci_layout.specs.declared.member.OtherMember.TheVariants as member
 
+-- two texts are one media type: its names are compared without regard to case (RFC 6838, section 4.2)
+unfoldable pub is_same_type : List ℕ → List ℕ → Bool
+is_same_type type other = str_eq_ignore_ascii_case type other
+
 -- what a content of this media type is read as
+abbrev pub part_kind_of : List ℕ → Kind
+part_kind_of type =
+    if is_same_type type (codes "application/vnd.oci.image.config.v1+json") then Config
+    else (if is_same_type type (codes "application/vnd.docker.container.image.v1+json") then DockerConfig
+    else (if is_same_type type (codes "application/vnd.oci.empty.v1+json") then Empty
+    else Opaque))
+
+abbrev pub manifest_kind_of : List ℕ → Kind
+manifest_kind_of type =
+    if is_same_type type (codes "application/vnd.oci.image.manifest.v1+json") then Manifest
+    else (if is_same_type type (codes "application/vnd.docker.distribution.manifest.v2+json") then DockerManifest
+    else (if is_same_type type (codes "application/vnd.oci.artifact.manifest.v1+json") then Artifact
+    else part_kind_of type))
+
 abbrev pub kind_of : List ℕ → Kind
 kind_of type =
-    if bytes_eq type (codes "application/vnd.oci.image.index.v1+json") then Index
-    else (if bytes_eq type (codes "application/vnd.docker.distribution.manifest.list.v2+json") then DockerList
-    else (if bytes_eq type (codes "application/vnd.oci.image.manifest.v1+json") then Manifest
-    else (if bytes_eq type (codes "application/vnd.docker.distribution.manifest.v2+json") then DockerManifest
-    else (if bytes_eq type (codes "application/vnd.oci.artifact.manifest.v1+json") then Artifact
-    else (if bytes_eq type (codes "application/vnd.oci.image.config.v1+json") then Config
-    else (if bytes_eq type (codes "application/vnd.docker.container.image.v1+json") then DockerConfig
-    else (if bytes_eq type (codes "application/vnd.oci.empty.v1+json") then Empty
-    else Opaque)))))))
+    if is_same_type type (codes "application/vnd.oci.image.index.v1+json") then Index
+    else (if is_same_type type (codes "application/vnd.docker.distribution.manifest.list.v2+json") then DockerList
+    else manifest_kind_of type)
 
 -- the media type of a document that can say it itself
 abbrev pub own_type : Kind → Option (List ℕ)
@@ -64,7 +77,7 @@ other_members _ = []
 -- a layer that may be had elsewhere alone
 abbrev pub is_nondistributable : List ℕ → Bool
 is_nondistributable type =
-    bytes_eq type (codes "application/vnd.oci.image.layer.nondistributable.v1.tar")
-    || bytes_eq type (codes "application/vnd.oci.image.layer.nondistributable.v1.tar+gzip")
-    || bytes_eq type (codes "application/vnd.oci.image.layer.nondistributable.v1.tar+zstd")
-    || bytes_eq type (codes "application/vnd.docker.image.rootfs.foreign.diff.tar.gzip")
+    is_same_type type (codes "application/vnd.oci.image.layer.nondistributable.v1.tar")
+    || is_same_type type (codes "application/vnd.oci.image.layer.nondistributable.v1.tar+gzip")
+    || is_same_type type (codes "application/vnd.oci.image.layer.nondistributable.v1.tar+zstd")
+    || is_same_type type (codes "application/vnd.docker.image.rootfs.foreign.diff.tar.gzip")

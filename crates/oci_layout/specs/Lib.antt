@@ -1,4 +1,5 @@
 pub mod Claims
+pub mod Details
 pub mod Documents
 pub mod Holds
 pub mod Kinds

@@ -1,13 +1,14 @@
 -- What is found at a claim, where the contents of a store are known.
-use Rattle.std.specs.Prelude.{◌≡◌, ◌⊎◌, ℕ, ◌<◌, ◌≤◌, length, List, Bool, true, false, ◌||◌, Option, Some, None, IsSome, IfSome, ⊤}
+use Rattle.std.specs.Prelude.{◌≡◌, ◌⊎◌, ℕ, ◌<◌, ◌≤◌, length, List, Bool, true, false, ◌&&◌, ◌||◌, Option, Some, None, IsSome, IfSome, ⊤}
 use Rattle.oci_content.specs.Content.{Tells}
 use Rattle.oci_content.specs.declared.verdict.Verdict.{Verdict}
 use Rattle.oci_content.specs.declared.verdict.Verdict.TheVariants as verdict
 use Rattle.oci_layout.specs.Documents.{IsFault, IsRead}
 use Rattle.oci_layout.specs.Kinds.{document_shape}
 use Rattle.oci_layout.specs.declared.kind.Kind.{Kind}
+use Rattle.oci_layout.specs.declared.kind.Kind.TheVariants.{Opaque}
 use Rattle.oci_layout.specs.declared.claim.Role.{Role}
-use Rattle.oci_layout.specs.declared.claim.Role.TheVariants.{Subject}
+use Rattle.oci_layout.specs.declared.claim.Role.TheVariants.{Manifest, Config, Subject}
 use Rattle.oci_layout.specs.declared.claim.Claim.{Claim}
 use Rattle.oci_layout.specs.declared.claim.Fault.{Fault}
 use Rattle.oci_layout.specs.declared.claim.Fault.TheVariants as fault
@@ -21,6 +22,20 @@ is_subject _ = false
 -- a claim whose content may be missing: a subject, and a nondistributable layer that may be had elsewhere
 abbrev pub may_miss : Claim → Bool
 may_miss claim = is_subject claim.role || claim.elsewhere
+
+-- a claim of a document by its role, whose media type is of no kind that is known
+abbrev pub is_document_role : Role → Bool
+is_document_role Manifest = true
+is_document_role Config = true
+is_document_role Subject = true
+is_document_role _ = false
+
+abbrev pub is_opaque : Kind → Bool
+is_opaque Opaque = true
+is_opaque _ = false
+
+abbrev pub is_unread : Claim → Bool
+is_unread claim = is_opaque claim.kind && is_document_role claim.role
 
 -- what stands against a content by its verdict
 abbrev pub fault_of : Verdict → Option Fault
@@ -80,10 +95,15 @@ Shows quick steady limit None claim found claims = ⊤
 Shows true steady limit (Some contents) claim found claims = ⊤
 Shows false steady limit (Some contents) claim found claims = IsShownOrFails steady limit (contents claim.digest) claim found claims
 
+-- what was opened can be read, as far as it is there
+abbrev pub IsReadable : {B : Type 0} → Opened B → Type 0
+IsReadable (Unreadable why) = ⊥
+IsReadable _ = ⊤
+
 -- what a store gives for a digest: nothing, or a reader of the content with its length, where that is known beforehand; or what cannot be read, unless it is steady
 abbrev pub Gives : {B : Type 0} → (B → Option (List ℕ)) → Bool → Contents → List ℕ → Opened B → Type 0
 Gives remaining steady None digest opened = ⊤
 Gives remaining steady (Some contents) digest Missing = contents digest ≡ None
-Gives remaining steady (Some contents) digest Unreadable = steady ≡ false
+Gives remaining steady (Some contents) digest (Unreadable why) = steady ≡ false
 Gives remaining steady (Some contents) digest (Content blob size) = (bytes : List ℕ) × (remaining blob ≡ Some bytes) × (contents digest ≡ Some bytes)
     × IfSome size (λ n. n ≡ length bytes)

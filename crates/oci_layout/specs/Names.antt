@@ -1,5 +1,5 @@
 -- What lies below `blobs` (image specification, "Image Layout", "Blobs").
-use Rattle.std.specs.Prelude.{◌≡◌, ◌⊎◌, ◌++◌, ◌∷◌, [], ℕ, List, Bool, true, false, string_bytes}
+use Rattle.std.specs.Prelude.{◌≡◌, ◌⊎◌, ◌++◌, ◌∷◌, [], ℕ, List, Bool, true, None, string_bytes}
 use Rattle.std.specs.List.{Contains}
 use Rattle.oci_base.specs.Digest.{IsDigest, IsDigestText}
 use Rattle.oci_layout.specs.Paths.{path_of}
@@ -16,8 +16,8 @@ IsListed listed path = (l : Listed) × Contains listed l × (string_bytes l.path
 
 -- these are names below `blobs`; where reads do not fail, all of them, and no folder is cut
 pub record IsListing (steady : Bool) (names : List ℕ → Type 0) (listed : List Listed) : Type 0 where
-  pub named : (l : Listed) → Contains listed l → l.cut ≡ false → names (string_bytes l.path)
-  pub whole : steady ≡ true → (l : Listed) → Contains listed l → l.cut ≡ false
+  pub named : (l : Listed) → Contains listed l → l.fault ≡ None → names (string_bytes l.path)
+  pub whole : steady ≡ true → (l : Listed) → Contains listed l → l.fault ≡ None
   pub all : steady ≡ true → (path : List ℕ) → names path → IsListed listed path
 
 -- the path of a digest under which something is kept in memory
@@ -27,7 +27,7 @@ IsKeptAt kept path = (k : Kept) × Contains kept k × IsPathOf k.name.now path
 -- the path of the digest is added, if it is one
 pub record IsOneMore (digest : List ℕ) (old new : List Listed) : Type 0 where
   pub one : Listed
-  pub whole : one.cut ≡ false
+  pub whole : one.fault ≡ None
   pub path : IsPathOf digest (string_bytes one.path)
   pub only : (path : List ℕ) → IsPathOf digest path → string_bytes one.path ≡ path
   pub more : new ≡ old ++ one ∷ []

@@ -63,10 +63,17 @@ pub record IsSoundLayout (limit : ℕ) (tops contents : Contents) : Type 0 where
 abbrev pub IsLarger : ℕ → Option (List ℕ) → Type 0
 IsLarger limit file = (bytes : List ℕ) × (file ≡ Some bytes) × (limit < length bytes)
 
--- what was read of a file beside `blobs`, where these are known; `steady` says that reads do not fail
+-- what was read of these bytes; `steady` says that reads do not fail
+abbrev pub IsReadOf : ℕ → Bool → List ℕ → Top → Type 0
+IsReadOf limit steady all top.Missing = ⊥
+IsReadOf limit steady all (Unreadable why) = steady ≡ false
+IsReadOf limit steady all TooLarge = limit < length all
+IsReadOf limit steady all (Bytes bytes) = (bytes.items ≡ all) × (length bytes.items ≤ limit)
+
+-- what was read of a file beside `blobs`, or of a content, where these are known; `steady` says that reads do not fail
 abbrev pub IsTop : ℕ → Bool → Contents → List ℕ → Top → Type 0
 IsTop limit steady None name top = ⊤
 IsTop limit steady (Some tops) name top.Missing = tops name ≡ None
-IsTop limit steady (Some tops) name Unreadable = steady ≡ false
+IsTop limit steady (Some tops) name (Unreadable why) = steady ≡ false
 IsTop limit steady (Some tops) name TooLarge = IsLarger limit (tops name)
 IsTop limit steady (Some tops) name (Bytes bytes) = (tops name ≡ Some bytes.items) × (length bytes.items ≤ limit)

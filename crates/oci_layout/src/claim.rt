@@ -1,5 +1,6 @@
 //! What a document claims of a content, and what is found there.
-ghost use Rattle.std.specs.Prelude.{IfOk};
+ghost use Rattle.std.specs.Prelude.{◌≡◌, [], true, IfOk};
+ghost use Rattle.oci_layout.specs.Details.{goes_with};
 
 use crate::kind::Kind;
 use crate::member::OtherMember;
@@ -7,6 +8,7 @@ use oci_content::{Checksum, Embedded};
 use oci_schema::Violation;
 use oci_text::Digest;
 use std::alloc::{AllocError, Global};
+use std::io;
 
 /// What a content is to the document that claims it.
 #[derive(Clone, Copy, Debug, PartialEq, Eq)]
@@ -36,7 +38,7 @@ pub struct Claim {
 
 impl Claim {
     ghost use Rattle.std.specs.Prelude.{◌≡◌};
-    ghost use Rattle.oci_layout.specs.Looks.{may_miss};
+    ghost use Rattle.oci_layout.specs.Looks.{may_miss, is_unread};
 
     /// Whether its content may be missing: a subject's, and that of a nondistributable layer that has URLs.
     pub fn may_be_missing(&self) -> bool
@@ -45,6 +47,20 @@ impl Claim {
         match self.role {
             Role::Subject => true,
             _ => self.elsewhere,
+        }
+    }
+
+    /// Whether it is one of `manifests`, a configuration or a subject whose media type is of no kind that is known: its content is
+    /// not looked into.
+    pub fn is_unread(&self) -> bool
+        ensures { result ≡ is_unread self.now }
+    {
+        match self.kind {
+            Kind::Opaque => match self.role {
+                Role::Manifest | Role::Config | Role::Subject => true,
+                Role::Layer | Role::Blob => false,
+            },
+            _ => false,
         }
     }
 }
@@ -97,15 +113,21 @@ pub struct Detail {
     pub violations: Vec<Violation>,
     /// Its bytes, if something stands against it or a part of it: they say where that is.
     pub text: Option<Vec<u8>>,
+    /// Why it cannot be read, if it cannot.
+    pub why: Option<io::Error>,
 }
 
 impl Detail {
     /// Nothing was seen.
-    pub fn nothing(alloc: Global) -> Detail {
+    pub fn nothing(alloc: Global) -> Detail
+        ensures held { result.held.items ≡ [] }
+        ensures violations { result.violations.items ≡ [] }
+    {
         Detail {
             held: Vec::new(alloc),
             violations: Vec::new(alloc),
             text: None,
+            why: None,
         }
     }
 
@@ -115,11 +137,15 @@ impl Detail {
         is_faulty: bool,
         alloc: Global,
         bytes: &[u8],
-    ) -> Result<Detail, AllocError> {
+    ) -> Result<Detail, AllocError>
+        ensures held { IfOk result (λ d. d.held ≡ self.held) }
+        ensures violations { IfOk result (λ d. d.violations ≡ self.violations) }
+    {
         let Detail {
             held,
             violations,
             text,
+            why,
         } = self;
         let text = if is_faulty || !held.is_empty() {
             Some(Vec::from_slice(alloc, bytes)?)
@@ -130,6 +156,7 @@ impl Detail {
             held,
             violations,
             text,
+            why,
         })
     }
 }
@@ -141,6 +168,7 @@ pub struct Seen {
     /// What its document claims, in the document's order.
     pub claims: Vec<Claim>,
     pub detail: Detail,
+    pub ghost goes: { goes_with fault detail ≡ true },
 }
 
 /// Where claims are looked at.

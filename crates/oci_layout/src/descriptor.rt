@@ -17,21 +17,21 @@ use serde_json::Value;
 use std::alloc::{AllocError, Global};
 
 /// The string under a name, the empty one where there is none.
-fn string_under<'a>(value: &'a Value, name: &str) -> &'a str
+pub fn string_under<'a>(value: &'a Value, name: &str) -> &'a str
     ensures { result.now ≡ string_at name.now (view value.now) }
 {
     value.get(name).and_then(Value::as_str).unwrap_or("")
 }
 
 /// The number under a name, 0 where there is none.
-fn number_under(value: &Value, name: &str) -> u64
+pub fn number_under(value: &Value, name: &str) -> u64
     ensures { result ≡ number_at name.now (view value.now) }
 {
     value.get(name).and_then(Value::as_u64).unwrap_or(0)
 }
 
 /// The claim of a descriptor, a value that its schema allows. Fails if out of memory.
-fn claim_of_value(alloc: Global, role: Role, value: &Value) -> Result<Claim, AllocError>
+pub fn claim_of_value(alloc: Global, role: Role, value: &Value) -> Result<Claim, AllocError>
     ensures { IfOk result (λ c. c ≡ claim_of role (view value.now)) }
 {
     let media_type = string_under(value, "mediaType");
@@ -49,14 +49,14 @@ fn claim_of_value(alloc: Global, role: Role, value: &Value) -> Result<Claim, All
 }
 
 /// The items of the array under a name.
-fn items_under<'a>(value: &'a Value, name: &str) -> Option<&'a Vec<Value>>
+pub fn items_under<'a>(value: &'a Value, name: &str) -> Option<&'a Vec<Value>>
     ensures { option_map (λ v. items_view v.now.items) result ≡ option_and_then as_array (get name.now (view value.now)) }
 {
     value.get(name).and_then(Value::as_array)
 }
 
-/// The descriptor under a name, if there is one.
-fn descriptor_under<'a>(value: &'a Value, name: &str) -> Option<&'a Value>
+/// The value under a name, if there is one and it is not null.
+pub fn descriptor_under<'a>(value: &'a Value, name: &str) -> Option<&'a Value>
     ensures { option_map (λ v. view v.now) result ≡ option_and_then unless_null (get name.now (view value.now)) }
 {
     match value.get(name) {

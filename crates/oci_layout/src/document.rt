@@ -8,18 +8,21 @@ ghost use Rattle.oci_layout.specs.Documents.{IsRead, IsJudged, IsAgainst, IsType
 
 use crate::claim::{Detail, Fault, Seen};
 use crate::descriptor::claims_of_document;
-use crate::kind::Kind;
+use crate::kind::{Kind, is_same_type};
 use crate::member::other_member;
 use oci_schema::{Schema, violations};
 use oci_schemas::OciRecords;
 use serde_json::Value;
 use std::alloc::{AllocError, Global};
+use std::io;
 
 impl Seen {
-    ghost use Rattle.std.specs.Prelude.{None, []};
+    ghost use Rattle.std.specs.Prelude.{None, [], true};
+    ghost use Rattle.oci_layout.specs.Details.{goes_alone};
     ghost use Rattle.oci_layout.specs.Documents.{IsFault};
 
     /// Nothing stands against it, and it claims nothing.
+    #[tactic(auto, using(crate::proofs::Details::nothing_goes))]
     pub fn nothing(alloc: Global) -> Seen
         ensures fault { result.fault ≡ None }
         ensures claims { result.claims.items ≡ [] }
@@ -31,8 +34,25 @@ impl Seen {
         }
     }
 
-    /// One that something stands against, and that claims nothing.
+    /// One that cannot be read, and why.
+    #[tactic(auto, using(crate::proofs::Details::alone_goes))]
+    pub fn unreadable(alloc: Global, why: io::Error) -> Seen
+        ensures { IsFault Fault.Unreadable result.fault result.claims.items }
+    {
+        Seen {
+            fault: Some(Fault::Unreadable),
+            claims: Vec::new(alloc),
+            detail: Detail {
+                why: Some(why),
+                ..Detail::nothing(alloc)
+            },
+        }
+    }
+
+    /// One that something stands against beside which nothing was seen, and that claims nothing.
+    #[tactic(auto, using(crate::proofs::Details::alone_goes))]
     pub fn of_fault(alloc: Global, fault: Fault) -> Seen
+        requires { goes_alone fault ≡ true }
         ensures { IsFault fault result.fault result.claims.items }
     {
         Seen {
@@ -44,6 +64,7 @@ impl Seen {
 }
 
 /// What is found in bytes that are as they are claimed to be, read as a kind says. Fails if out of memory.
+#[tactic(auto, using(crate::proofs::Details::kept_goes))]
 pub fn read_document(alloc: Global, kind: Kind, bytes: &[u8]) -> Result<Seen, AllocError>
     ensures { IfOk result (λ s. IsRead kind bytes.now s.fault s.claims.items) }
 {
@@ -89,6 +110,7 @@ fn read_value(alloc: Global, kind: Kind, schema: &Schema, value: &Value) -> Resu
                 held: Vec::new(alloc),
                 violations,
                 text: None,
+                why: None,
             },
         });
     }
@@ -100,6 +122,7 @@ fn read_value(alloc: Global, kind: Kind, schema: &Schema, value: &Value) -> Resu
             held: claimed.held,
             violations,
             text: None,
+            why: None,
         },
     })
 }
@@ -132,7 +155,7 @@ fn own_type_fault(kind: Kind, value: &Value) -> Option<Fault>
 {
     let said = kind.own_type()?;
     let own = value.get("mediaType").and_then(Value::as_str)?;
-    if own == said {
+    if is_same_type(own, said) {
         None
     } else {
         Some(Fault::OtherType)

@@ -1,6 +1,7 @@
 //! Whether nothing stands against the claims of a walk.
-ghost use Rattle.std.specs.Prelude.{◌≡◌, ◌↔◌, None, IsTrue};
+ghost use Rattle.std.specs.Prelude.{◌≡◌, ◌↔◌, None, false, IsTrue};
 ghost use Rattle.std.specs.List.{All};
+ghost use Rattle.oci_layout.specs.Looks.{is_unread};
 ghost use Rattle.oci_layout.specs.Sound.{IsFine, AreFine};
 
 use crate::claim::{Claim, Fault};
@@ -49,4 +50,11 @@ pub fn are_found(faults: &[Option<Fault>]) -> bool
         }
     }
     true
+}
+
+/// Whether the content of each claim is looked into, as far as its role asks.
+pub fn are_read(claims: &[Claim]) -> bool
+    ensures { IsTrue result ↔ All (λ c. is_unread c ≡ false) claims.now }
+{
+    claims.iter().all(|claim| !claim.is_unread())
 }

@@ -7,7 +7,7 @@ use crate::store::{ImageLayout, Listed, Opened, Store};
 use oci_content::{Verdict, verify_reader_bytes};
 use oci_text::Digest;
 use std::alloc::{AllocError, Global};
-use std::io::ErrorKind;
+use std::io::{Error, ErrorKind};
 use std::rt::Files;
 use std::{fs, io};
 
@@ -46,7 +46,7 @@ impl<'a, R: Files> Store for Folder<'a, R> {
         blob: &mut R::File,
         size: u64,
         buffer: &mut [u8],
-    ) -> Result<Option<Vec<u8>>, AllocError> {
+    ) -> Result<io::Result<Vec<u8>>, AllocError> {
         read_sized(alloc, blob, size, buffer)
     }
 }
@@ -63,6 +63,7 @@ impl<'a, R: Files + AllocGlobal + Clone + Drop> ImageLayout for Folder<'a, R> {
     fn list(&self, alloc: Global) -> Result<Vec<Listed>, AllocError> {
         let mut listed = Vec::new(alloc);
         list_folders(self.rt, alloc, self.root, &mut listed)?;
+        listed.sort_by(|a, b| a.path.cmp(&b.path))?;
         Ok(listed)
     }
 }
@@ -81,16 +82,17 @@ fn open_file<R: Files>(
             return Ok(if fault.kind() == ErrorKind::NotFound {
                 Opened::Missing
             } else {
-                Opened::Unreadable
+                Opened::Unreadable(fault)
             });
         }
     };
     if !about.is_file() {
-        return Ok(Opened::Unreadable);
+        let fault = Error::new(ErrorKind::InvalidInput, "not a regular file");
+        return Ok(Opened::Unreadable(fault));
     }
     match fs::open(rt, path.as_str()) {
         Ok(file) => Ok(Opened::Content(file, Some(about.len()))),
-        Err(_) => Ok(Opened::Unreadable),
+        Err(fault) => Ok(Opened::Unreadable(fault)),
     }
 }
 
@@ -102,13 +104,14 @@ fn list_folders<R: Files + AllocGlobal + Clone + Drop>(
     listed: &mut Vec<Listed>,
 ) -> Result<(), AllocError> {
     let blobs = format!(in alloc; "{root}/blobs")?;
-    let Ok(folders) = fs::read_dir(rt, blobs.as_str()) else {
-        return add_cut(alloc, "blobs", listed);
+    let folders = match fs::read_dir(rt, blobs.as_str()) {
+        Ok(folders) => folders,
+        Err(fault) => return add_cut(alloc, "blobs", fault, listed),
     };
     for folder in folders {
         match folder {
             Ok(folder) => list_entry(rt, alloc, root, &folder, listed)?,
-            Err(_) => add_cut(alloc, "blobs", listed)?,
+            Err(fault) => add_cut(alloc, "blobs", fault, listed)?,
         }
     }
     Ok(())
@@ -136,13 +139,14 @@ fn list_folder<R: Files + AllocGlobal + Clone + Drop>(
     listed: &mut Vec<Listed>,
 ) -> Result<(), AllocError> {
     let whole = format!(in alloc; "{root}/{folder}")?;
-    let Ok(files) = fs::read_dir(rt, whole.as_str()) else {
-        return add_cut(alloc, folder, listed);
+    let files = match fs::read_dir(rt, whole.as_str()) {
+        Ok(files) => files,
+        Err(fault) => return add_cut(alloc, folder, fault, listed),
     };
     for file in files {
         match file {
             Ok(file) => add_file(rt, alloc, folder, &file, listed)?,
-            Err(_) => add_cut(alloc, folder, listed)?,
+            Err(fault) => add_cut(alloc, folder, fault, listed)?,
         }
     }
     Ok(())
@@ -162,17 +166,27 @@ fn add_file<R: Files + AllocGlobal + Clone + Drop>(
     listed.push(Listed {
         path,
         size,
-        cut: false,
+        fault: None,
     })?;
     Ok(())
 }
 
-/// Adds a folder that was not read to its end.
-fn add_cut(alloc: Global, folder: &str, listed: &mut Vec<Listed>) -> Result<(), AllocError> {
+/// Adds a folder that was not read to its end, and why: that a name in it is not UTF-8, or what the system says.
+fn add_cut(
+    alloc: Global,
+    folder: &str,
+    fault: Error,
+    listed: &mut Vec<Listed>,
+) -> Result<(), AllocError> {
+    let fault = if fault.kind() == ErrorKind::InvalidFilename {
+        Error::new(ErrorKind::InvalidFilename, "a name in it is not UTF-8")
+    } else {
+        fault
+    };
     listed.push(Listed {
         path: String::from_str(alloc, folder)?,
         size: None,
-        cut: true,
+        fault: Some(fault),
     })?;
     Ok(())
 }

@@ -1,6 +1,6 @@
 //! What the contents of an image layout are read as.
 ghost use Rattle.std.specs.Prelude.{◌≡◌, option_map};
-ghost use Rattle.oci_layout.specs.Kinds.{kind_of, own_type, document_shape, other_members, is_nondistributable};
+ghost use Rattle.oci_layout.specs.Kinds.{kind_of, manifest_kind_of, part_kind_of, own_type, document_shape, other_members, is_nondistributable, is_same_type as same_type};
 ghost use Rattle.oci_schema.specs.Shapes.{schema_shape, shape_at};
 ghost use Rattle.oci_schemas.specs.Table.{shapes};
 ghost use Rattle.oci_model.specs.Shape.{free_map};
@@ -47,16 +47,48 @@ impl Kind {
     pub fn of_media_type(media_type: &str) -> Kind
         ensures { result ≡ kind_of media_type.now }
     {
-        match media_type {
-            "application/vnd.oci.image.index.v1+json" => Kind::Index,
-            "application/vnd.docker.distribution.manifest.list.v2+json" => Kind::DockerList,
-            "application/vnd.oci.image.manifest.v1+json" => Kind::Manifest,
-            "application/vnd.docker.distribution.manifest.v2+json" => Kind::DockerManifest,
-            "application/vnd.oci.artifact.manifest.v1+json" => Kind::Artifact,
-            "application/vnd.oci.image.config.v1+json" => Kind::Config,
-            "application/vnd.docker.container.image.v1+json" => Kind::DockerConfig,
-            "application/vnd.oci.empty.v1+json" => Kind::Empty,
-            _ => Kind::Opaque,
+        if is_same_type(media_type, "application/vnd.oci.image.index.v1+json") {
+            Kind::Index
+        } else if is_same_type(
+            media_type,
+            "application/vnd.docker.distribution.manifest.list.v2+json",
+        ) {
+            Kind::DockerList
+        } else {
+            Kind::of_manifest_type(media_type)
+        }
+    }
+
+    /// The same of one that is no index.
+    fn of_manifest_type(media_type: &str) -> Kind
+        ensures { result ≡ manifest_kind_of media_type.now }
+    {
+        if is_same_type(media_type, "application/vnd.oci.image.manifest.v1+json") {
+            Kind::Manifest
+        } else if is_same_type(
+            media_type,
+            "application/vnd.docker.distribution.manifest.v2+json",
+        ) {
+            Kind::DockerManifest
+        } else if is_same_type(media_type, "application/vnd.oci.artifact.manifest.v1+json") {
+            Kind::Artifact
+        } else {
+            Kind::of_part_type(media_type)
+        }
+    }
+
+    /// The same of one that is no manifest either.
+    fn of_part_type(media_type: &str) -> Kind
+        ensures { result ≡ part_kind_of media_type.now }
+    {
+        if is_same_type(media_type, "application/vnd.oci.image.config.v1+json") {
+            Kind::Config
+        } else if is_same_type(media_type, "application/vnd.docker.container.image.v1+json") {
+            Kind::DockerConfig
+        } else if is_same_type(media_type, "application/vnd.oci.empty.v1+json") {
+            Kind::Empty
+        } else {
+            Kind::Opaque
         }
     }
 
@@ -110,8 +142,24 @@ impl Kind {
 pub fn is_nondistributable_type(media_type: &str) -> bool
     ensures { result ≡ is_nondistributable media_type.now }
 {
-    media_type == "application/vnd.oci.image.layer.nondistributable.v1.tar"
-        || media_type == "application/vnd.oci.image.layer.nondistributable.v1.tar+gzip"
-        || media_type == "application/vnd.oci.image.layer.nondistributable.v1.tar+zstd"
-        || media_type == "application/vnd.docker.image.rootfs.foreign.diff.tar.gzip"
+    is_same_type(
+        media_type,
+        "application/vnd.oci.image.layer.nondistributable.v1.tar",
+    ) || is_same_type(
+        media_type,
+        "application/vnd.oci.image.layer.nondistributable.v1.tar+gzip",
+    ) || is_same_type(
+        media_type,
+        "application/vnd.oci.image.layer.nondistributable.v1.tar+zstd",
+    ) || is_same_type(
+        media_type,
+        "application/vnd.docker.image.rootfs.foreign.diff.tar.gzip",
+    )
+}
+
+/// Whether two texts are one media type: its names are compared without regard to case (RFC 6838, section 4.2).
+pub fn is_same_type(media_type: &str, other: &str) -> bool
+    ensures { result ≡ same_type media_type.now other.now }
+{
+    media_type.eq_ignore_ascii_case(other)
 }

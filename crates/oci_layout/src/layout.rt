@@ -35,7 +35,7 @@ impl<'a, S: Store> Shown for Layout<'a, S> {
     fn look(&self, alloc: Global, claim: &Claim, buffer: &mut [u8]) -> Result<Seen, AllocError> {
         match self.store.open(alloc, &claim.digest)? {
             Opened::Missing => Ok(Seen::of_fault(alloc, Fault::Missing)),
-            Opened::Unreadable => Ok(Seen::of_fault(alloc, Fault::Unreadable)),
+            Opened::Unreadable(fault) => Ok(Seen::unreadable(alloc, fault)),
             Opened::Content(mut blob, size) => {
                 self.look_into(alloc, claim, &mut blob, size, buffer)
             }
@@ -124,7 +124,7 @@ fn look_at_bytes<S: Store>(
 {
     match store.verify(blob, claim.digest.as_ref(), claim.size, buffer) {
         Ok(verdict) => judged(alloc, verdict, claim.kind, &[]),
-        Err(_) => Ok(Seen::of_fault(alloc, Fault::Unreadable)),
+        Err(fault) => Ok(Seen::unreadable(alloc, fault)),
     }
 }
 
@@ -139,11 +139,13 @@ fn look_at_document<S: Store>(
     requires { 0 < length buffer.old }
     ensures { IfOk result (λ s. IfSome (S.Blob.remaining blob.old) (λ bytes. IsVerifiedOrFails (S.steady store.now) bytes claim.now s.fault s.claims.items)) }
 {
-    let Some(bytes) = store.read(alloc, blob, claim.size, buffer)? else {
-        return Ok(Seen::of_fault(alloc, Fault::Unreadable));
-    };
-    let verdict = verify_bytes(claim.digest.as_ref(), claim.size, bytes.as_slice());
-    judged(alloc, verdict, claim.kind, bytes.as_slice())
+    match store.read(alloc, blob, claim.size, buffer)? {
+        Ok(bytes) => {
+            let verdict = verify_bytes(claim.digest.as_ref(), claim.size, bytes.as_slice());
+            judged(alloc, verdict, claim.kind, bytes.as_slice())
+        }
+        Err(fault) => Ok(Seen::unreadable(alloc, fault)),
+    }
 }
 
 /// What stands against a content by its verdict.
@@ -160,6 +162,7 @@ fn verdict_fault(verdict: Verdict) -> Option<Fault>
 }
 
 /// What is found in bytes with this verdict.
+#[tactic(auto, using(crate::proofs::Details::verdict_alone))]
 fn judged(alloc: Global, verdict: Verdict, kind: Kind, bytes: &[u8]) -> Result<Seen, AllocError>
     ensures { IfOk result (λ s. IsJudgedBy (fault_of verdict) kind bytes.now s.fault s.claims.items) }
 {

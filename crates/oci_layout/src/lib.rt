@@ -20,8 +20,9 @@ pub mod top;
 pub mod walk;
 
 pub use claim::{Claim, Detail, Fault, Held, Role, Seen, Shown};
+pub use descriptor::{claim_of_value, descriptor_under, items_under, number_under, string_under};
 pub use document::read_document;
-pub use fine::{are_found, is_sound_walk};
+pub use fine::{are_found, are_read, is_sound_walk};
 pub use folder::Folder;
 pub use kind::Kind;
 pub use layout::Layout;
@@ -30,5 +31,5 @@ pub use memory::{Kept, Memory};
 pub use path::blob_path;
 pub use shelf::Shelf;
 pub use store::{ImageLayout, Listed, Opened, Store};
-pub use top::{DOCUMENT_LIMIT, Top, read_top};
+pub use top::{DOCUMENT_LIMIT, Top, read_content, read_top};
 pub use walk::{Mention, Walk, walk_all};

@@ -1,7 +1,7 @@
 //! A store in memory.
-ghost use Rattle.std.specs.Prelude.{◌≡◌, ◌≢◌, Some, true, option_map, IfOk, IfSome, OnOk, IsOk, IsSome};
+ghost use Rattle.std.specs.Prelude.{◌≡◌, Some, true, option_map, IfOk, IfSome, OnOk, IsOk};
 ghost use Rattle.oci_content.specs.Content.{Tells};
-ghost use Rattle.oci_layout.specs.Looks.{Gives, IsCut};
+ghost use Rattle.oci_layout.specs.Looks.{Gives, IsCut, IsReadable};
 ghost use Rattle.oci_layout.specs.Memory.{content_of};
 ghost use Rattle.oci_layout.specs.Names.{AddsName, IsKeptAt, IsListing};
 
@@ -49,7 +49,7 @@ impl<'a> Store for Memory<'a> {
 
     fn open(&self, _alloc: Global, digest: &Digest) -> Result<Opened<&'a [u8]>, AllocError>
         ensures gives { IfOk result (Gives (λ blob. Some blob.now) true (Some (content_of self.now.kept.now)) digest.now) }
-        ensures readable { IfOk result (λ o. o ≢ Opened.Unreadable) }
+        ensures readable { IfOk result IsReadable }
     {
         match find(self.kept, digest.as_ref()) {
             Some(bytes) => Ok(Opened::Content(bytes, Some(bytes.len() as u64))),
@@ -76,11 +76,11 @@ impl<'a> Store for Memory<'a> {
         blob: &mut &'a [u8],
         size: u64,
         _buffer: &mut [u8],
-    ) -> Result<Option<Vec<u8>>, AllocError>
-        ensures cut { IfOk result (λ read. IfSome read (λ bytes. IsCut bytes.items blob.old.now size)) }
-        ensures sure { IfOk result IsSome }
+    ) -> Result<io::Result<Vec<u8>>, AllocError>
+        ensures cut { IfOk result (λ read. IfOk read (λ bytes. IsCut bytes.items blob.old.now size)) }
+        ensures sure { IfOk result IsOk }
     {
-        Ok(Some(Vec::from_slice(alloc, cut_off(*blob, size))?))
+        Ok(Ok(Vec::from_slice(alloc, cut_off(*blob, size))?))
     }
 }
 
@@ -105,7 +105,7 @@ impl<'a> ImageLayout for Memory<'a> {
 
     fn top(&self, _alloc: Global, name: &str) -> Result<Opened<&'a [u8]>, AllocError>
         ensures gives { IfOk result (Gives (λ blob. Some blob.now) true (Some (content_of self.now.kept.now)) name.now) }
-        ensures readable { IfOk result (λ o. o ≢ Opened.Unreadable) }
+        ensures readable { IfOk result IsReadable }
     {
         match find(self.kept, name) {
             Some(bytes) => Ok(Opened::Content(bytes, Some(bytes.len() as u64))),
@@ -144,7 +144,7 @@ fn add_listed(kept: &Kept<'_>, listed: &mut Vec<Listed>, alloc: Global) -> Resul
     listed.push(Listed {
         path,
         size,
-        cut: false,
+        fault: None,
     })?;
     Ok(())
 }

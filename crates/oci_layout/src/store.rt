@@ -1,5 +1,5 @@
 //! Stores of contents, and image layouts.
-ghost use Rattle.std.specs.Prelude.{◌≡◌, ◌<◌, true, length, IfOk, IfSome, IsOk, IsSome};
+ghost use Rattle.std.specs.Prelude.{◌≡◌, ◌<◌, true, length, IfOk, IfSome, IsOk};
 ghost use Rattle.oci_content.specs.Content.{Tells};
 ghost use Rattle.oci_layout.specs.Looks.{Gives, IsCut};
 ghost use Rattle.oci_layout.specs.Names.{IsListing};
@@ -14,8 +14,8 @@ use std::io::Read;
 pub enum Opened<B> {
     /// Nothing.
     Missing,
-    /// Something that cannot be read, or is no file.
-    Unreadable,
+    /// Something that cannot be read, or is no regular file, and why.
+    Unreadable(io::Error),
     /// A reader of the content, and the content's length where the store knows it beforehand.
     Content(B, Option<u64>),
 }
@@ -50,18 +50,18 @@ pub trait Store {
         ensures tells { IfOk result (λ v. IfSome (Self.Blob.remaining blob.old) (λ bytes. Tells digest.now size bytes v)) }
         ensures sure { steady self.now ≡ true → IsOk result };
 
-    /// All that is left to read of a content, or a beginning of it that is longer than `size`, read in pieces of the buffer's length; none
-    /// where a read fails. Fails if out of memory.
+    /// All that is left to read of a content, or a beginning of it that is longer than `size`, read in pieces of the buffer's length; why
+    /// not, where a read fails. Fails if out of memory.
     fn read(
         &self,
         alloc: Global,
         blob: &mut Self::Blob,
         size: u64,
         buffer: &mut [u8],
-    ) -> Result<Option<Vec<u8>>, AllocError>
+    ) -> Result<io::Result<Vec<u8>>, AllocError>
         requires { 0 < length buffer.old }
-        ensures cut { IfOk result (λ read. IfSome read (λ bytes. IfSome (Self.Blob.remaining blob.old) (λ all. IsCut bytes.items all size))) }
-        ensures sure { steady self.now ≡ true → IfOk result IsSome };
+        ensures cut { IfOk result (λ read. IfOk read (λ bytes. IfSome (Self.Blob.remaining blob.old) (λ all. IsCut bytes.items all size))) }
+        ensures sure { steady self.now ≡ true → IfOk result IsOk };
 }
 
 /// A name below `blobs`.
@@ -71,8 +71,8 @@ pub struct Listed {
     pub path: String,
     /// The size in bytes, if it is a file.
     pub size: Option<u64>,
-    /// Whether it is a folder that cannot be listed to its end.
-    pub cut: bool,
+    /// Why it is a folder that cannot be listed to its end, if it is one.
+    pub fault: Option<io::Error>,
 }
 
 /// A store that is an image layout (image specification, "Image Layout").

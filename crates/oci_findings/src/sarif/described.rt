@@ -118,6 +118,10 @@ fn asked_of_file(name: &str) -> (&'static str, Severity) {
         ),
         "layout-version" => ("The image layout is of version 1.0.0.", Severity::Error),
         "unreferenced" => ("What is there is referred to.", Severity::Note),
+        "unread" => (
+            "A manifest, a configuration or a subject is of a media type that is known.",
+            Severity::Note,
+        ),
         _ => ("The file is what refers to it says.", Severity::Error),
     }
 }

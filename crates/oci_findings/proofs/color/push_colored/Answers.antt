@@ -1,4 +1,4 @@
-use Rattle.std.proofs.Common.{◌∙◌, ◌++◌, ap, string_bytes}
+use Rattle.std.proofs.Common.{string_bytes}
 use Rattle.oci_findings.specs.declared.color.Color.TheVariants.{Plain}
 use Rattle.oci_findings.proofs.Colored.{code_added}
 use Rattle.oci_findings.proofs.color.push_colored.Goals as goal

@@ -12,5 +12,5 @@ returns-in-Ok g c = λ none.
 
 pub returns-in-Err : goal.returns-in-Err
 returns-in-Err g c = λ none.
-    failed_known (g.S.Store.steady c.args.store.now) (g.S.Blob.Read.remaining c.args.blob.now) c.args.claim.now c.of_fault.result.fault c.of_fault.result.claims.items
-    (λ sure. true≢false (sym (c.in-Err.ensures.sure sure))) c.of_fault.ensures
+    failed_known (g.S.Store.steady c.args.store.now) (g.S.Blob.Read.remaining c.args.blob.now) c.args.claim.now c.unreadable.result.fault c.unreadable.result.claims.items
+    (λ sure. true≢false (sym (c.in-Err.ensures.sure sure))) c.unreadable.ensures

@@ -16,8 +16,8 @@ returns-in-Unreadable g c =
     let contents = g.S.Store.contents c.args.self.now.store.now in
     let steady = g.S.Store.steady c.args.self.now.store.now in
     let remaining = g.S.Blob.Read.remaining in
-    unreadable_shown remaining c.args.self.now.quick steady c.args.self.now.limit contents c.args.claim.now c.of_fault-in-Unreadable.result.fault c.of_fault-in-Unreadable.result.claims.items
-    (subst (λ o. Gives remaining steady contents c.args.claim.now.digest o) c.in-Unreadable.is c.in_ok-open.ensures) c.of_fault-in-Unreadable.ensures
+    unreadable_shown remaining c.args.self.now.quick steady c.args.self.now.limit contents c.args.claim.now c.unreadable.result.fault c.unreadable.result.claims.items c.in-Unreadable.fault
+    (subst (λ o. Gives remaining steady contents c.args.claim.now.digest o) c.in-Unreadable.is c.in_ok-open.ensures) c.unreadable.ensures
 
 pub returns-in-Content : goal.returns-in-Content
 returns-in-Content g c =

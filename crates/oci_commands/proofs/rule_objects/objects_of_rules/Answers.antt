@@ -1,0 +1,12 @@
+use Rattle.std.proofs.Common.{◌∙◌, ◌++◌, List, ℕ, ap, string_bytes}
+use Rattle.std.specs.Prelude.{option_map}
+use Rattle.oci_findings.specs.FoundKind.{all_kinds}
+use Rattle.oci_commands.specs.RuleTexts.{AreRuleObjects, chosen}
+use Rattle.oci_commands.proofs.Lines.{joined_next}
+use Rattle.oci_commands.proofs.rule_objects.objects_of_rules.Goals as goal
+
+pub loop-kind-preserved : goal.loop-kind-preserved
+loop-kind-preserved g c =
+    joined_next (λ kind. AreRuleObjects kind (chosen (option_map (λ n. n.now) c.args.name) (g.B.RuleBooks.rules c.args.books.now kind))) all_kinds c.loop-kind.kind-index _
+    (string_bytes c.loop-kind.text) (string_bytes c.in_ok-of_kind.of_kind) _ c.loop-kind-test.true
+    (c.in_ok-push_str.ensures.bytes ∙ ap (λ (q : List ℕ). string_bytes c.loop-kind.text ++ q) c.as_str.ensures.value) c.loop-kind.invariant c.in_ok-of_kind.ensures

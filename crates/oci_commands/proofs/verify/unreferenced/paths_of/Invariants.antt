@@ -1,7 +1,0 @@
-use Rattle.std.proofs.Common.{take}
-use Rattle.std.specs.BTreeSet.{contains_text}
-use Rattle.oci_commands.specs.Layouts.{ArePathsOf}
-use Rattle.oci_commands.proofs.verify.unreferenced.paths_of.Given as goal
-
-abbrev pub invariant-each : goal.invariant-each
-invariant-each l = ArePathsOf (take l.claim-index l.walk.claims.items) (contains_text l.paths)

@@ -1,0 +1,11 @@
+use Rattle.std.proofs.Common.{take}
+use Rattle.std.specs.Prelude.{◌↔◌, IsTrue}
+use Rattle.std.specs.List.{All}
+use Rattle.serde_json.specs.View.{view}
+use Rattle.oci_verify.specs.Images.{KeepsFrom, OverContents}
+use Rattle.oci_verify.proofs.images.Images.manifests_agree.Given as goal
+
+abbrev pub invariant-each : goal.invariant-each
+invariant-each g l =
+    OverContents (g.S.Store.steady l.self.documents.store.now) (g.S.Store.contents l.self.documents.store.now)
+    (λ k. IsTrue l.agree ↔ All (λ v. KeepsFrom l.self.asked.now l.self.documents.limit k (view v)) (take l.descriptor-index l.manifests.items))
