@@ -59,8 +59,8 @@ fn check_files<'a>(
     }
 }
 
-/// What is asked, of no files yet. The error is the exit status after what is wrong was said.
-fn asked_of<'a>(
+/// What is asked of documents, of no files yet and in no colors. The error is the exit status after what is wrong was said.
+pub fn asked_of<'a>(
     rt: &HostRuntime,
     arena: &'a Bump,
     given: &ArgMatches<'_>,

@@ -143,3 +143,64 @@ pub const FILE: Argument = Argument {
     takes: Takes::Maybe,
     ..PLAIN
 };
+
+pub const RULES: Argument = Argument {
+    name: "rules",
+    help: "Check the rules of the specifications beside the schema",
+    ..PLAIN
+};
+
+pub const POLICY: Argument = Argument {
+    name: "policy",
+    help: "Check the rules of the policy in this TOML file too",
+    takes: Takes::Value("FILE"),
+    ..PLAIN
+};
+
+pub const LEVEL: Argument = Argument {
+    name: "level",
+    help: "The weakest level of rules that are checked, with --rules or --policy;
+without it, should. Levels are by the sentence that a rule is from:
+  must    it says MUST or REQUIRED
+  stated  it has no such word, and says what a document has
+  should  it says SHOULD or RECOMMENDED, or calls something deprecated
+  host    none asks it; the kernel or every runtime refuses it
+A broken rule of must or stated is an error, one of should or host a
+warning
+[possible values: must, stated, should, host]",
+    takes: Takes::Value("LEVEL"),
+    values: &["must", "stated", "should", "host"],
+    lists_values: true,
+    ..PLAIN
+};
+
+pub const UNKNOWN: Argument = Argument {
+    name: "unknown",
+    help: "What is done with members that the schema does not list;
+without it, allow
+[possible values: deny, warn, allow]",
+    takes: Takes::Value("UNKNOWN"),
+    values: &["deny", "warn", "allow"],
+    lists_values: true,
+    ..PLAIN
+};
+
+pub const ONLY: Argument = Argument {
+    name: "only",
+    help: "Of all rules check this one; may be given several times",
+    takes: Takes::Values("RULE"),
+    ..PLAIN
+};
+
+pub const IGNORE: Argument = Argument {
+    name: "ignore",
+    help: "Say nothing where this rule is broken; may be given several times",
+    takes: Takes::Values("RULE"),
+    ..PLAIN
+};
+
+pub const NO_CONFIG: Argument = Argument {
+    name: "no-config",
+    help: "Do not look for the file .ciderglen.toml of a folder",
+    ..PLAIN
+};

@@ -1,5 +1,6 @@
 //! The files of the system as a store.
-use oci_commands::{Files, Presence};
+use crate::archives::{open_any, open_file};
+use oci_commands::Files;
 use oci_content::{Algorithm, Checksum, digest_of_reader};
 use std::alloc::Global;
 use std::fs::Metadata;
@@ -57,7 +58,7 @@ impl Files for SystemFiles<'_> {
         if name == "-" {
             self.rt.stdin().read_to_end(&mut bytes)?;
         } else {
-            fs::open(self.rt, name)?.read_to_end(&mut bytes)?;
+            open_any(self.rt, name)?.read_to_end(&mut bytes)?;
         }
         Ok(bytes)
     }
@@ -67,25 +68,14 @@ impl Files for SystemFiles<'_> {
         if name == "-" {
             return digest_of_reader(algorithm, &mut self.rt.stdin(), &mut buffer);
         }
-        digest_of_reader(algorithm, &mut fs::open(self.rt, name)?, &mut buffer)
+        digest_of_reader(algorithm, &mut open_any(self.rt, name)?, &mut buffer)
     }
 
     fn read_document(&mut self, alloc: Global, name: &str, limit: u64) -> io::Result<Vec<u8>> {
         if name == "-" {
             return read_at_most(alloc, &mut self.rt.stdin(), limit);
         }
-        if !fs::metadata(self.rt, name)?.is_file() {
-            return Err(Error::new(ErrorKind::InvalidInput, "not a regular file"));
-        }
-        read_at_most(alloc, &mut fs::open(self.rt, name)?, limit)
-    }
-
-    fn presence(&mut self, _alloc: Global, name: &str) -> Presence {
-        match fs::metadata(self.rt, name) {
-            Ok(found) if found.is_file() => Presence::File,
-            Err(fault) if fault.kind() == ErrorKind::NotFound => Presence::Missing,
-            _ => Presence::Unreadable,
-        }
+        read_at_most(alloc, &mut open_file(self.rt, name)?, limit)
     }
 
     /// A regular file is replaced by renaming a new one, which has its mode, owner and group, and nothing is written where these

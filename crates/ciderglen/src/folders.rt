@@ -1,4 +1,5 @@
 //! The documents in folders.
+use crate::archives::{is_archive, paths_in};
 use crate::files::Unreadable;
 use crate::words::Words;
 use oci_commands::texts::complain_of;
@@ -56,6 +57,7 @@ impl<'a> Documents<'a> {
     fn add_named(&mut self, name: &str) -> Result<(), AllocError> {
         match fs::metadata(self.rt, name) {
             Ok(about) if about.is_dir() => self.add_below(name),
+            Ok(_) if !is_document(name) && is_archive(self.rt, name) => self.add_archive(name),
             _ => self.add(String::from_str(self.rt.alloc(), name)?),
         }
     }
@@ -82,6 +84,25 @@ impl<'a> Documents<'a> {
         }
         if self.files.len() == before {
             self.say(folder, &"there are no documents in this folder");
+        }
+        Ok(())
+    }
+
+    /// Adds the documents in an archive.
+    fn add_archive(&mut self, archive: &str) -> Result<(), AllocError> {
+        let alloc = self.rt.alloc();
+        let Ok(paths) = paths_in(self.rt, archive, alloc) else {
+            // why it cannot be read is said where the first document in it is
+            return self.add(joined(archive, "index.json", alloc)?);
+        };
+        let before = self.files.len();
+        for path in &paths {
+            if is_document(path.as_str()) {
+                self.add(joined(archive, path.as_str(), alloc)?)?;
+            }
+        }
+        if self.files.len() == before {
+            self.say(archive, &"there are no documents in this archive");
         }
         Ok(())
     }

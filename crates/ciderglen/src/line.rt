@@ -3,7 +3,6 @@ use crate::commands::ciderglen;
 use clap::error::ErrorKind;
 use clap::{ArgMatches, Error};
 use oci_base::escaped;
-use oci_commands::verify::Options;
 use oci_commands::{Asked, Compare, Format, Outline, Style, Target, Unknown};
 use oci_content::Algorithm;
 use oci_findings::kind_named;
@@ -89,16 +88,6 @@ pub fn escaped_words(words: &[String], alloc: Global) -> Result<Vec<String>, All
         shown.push(escaped(word.as_str(), alloc)?)?;
     }
     Ok(shown)
-}
-
-/// How `verify` is asked to verify.
-pub fn options_in(given: &ArgMatches<'_>, has_colors: bool) -> Options {
-    let mut options = Options::new();
-    options.style = style_in(given, has_colors);
-    options.strict = given.get_flag("strict");
-    options.quick = given.get_flag("quick");
-    options.progress = given.get_flag("progress");
-    options
 }
 
 /// The command of this name that its arguments ask for, beside `check`; what it names is kept in the arena. Fails if out of memory.

@@ -1,6 +1,7 @@
 //! The program `ciderglen`: checks, formats, compares and shows the documents of the Open Container Initiative.
 #![tactic(auto)]
 
+mod archives;
 mod check;
 mod colors;
 mod commands;
@@ -8,26 +9,31 @@ mod config;
 mod described;
 mod files;
 mod folders;
+mod images;
 mod line;
 mod names;
 mod rules;
+mod saved;
+mod spool;
 mod table;
+mod verify;
 mod watch;
 mod words;
 
+use archives::{Archive, is_archive};
 use check::{check, has_files_alone};
 use clap::{ArgMatches, Error};
 use colors::has_colors;
 use files::SystemFiles;
+use images::inspect_named;
 use line::{
     asked, escaped_words, fault_in_pin, formats_in, lack_in_digest, lack_of_files, matches_of,
-    options_in, status_of,
+    status_of,
 };
-use oci_archive::OnDisk;
+use oci_archive::{OnDisk, Packed};
 use oci_base::line_of;
 use oci_commands::texts::{complain, complain_of};
-use oci_commands::verify::{ArchiveFile, Options, run_archive};
-use oci_commands::{Asked, Format, Tree};
+use oci_commands::{Asked, Format, tree_of_layout};
 use oci_layout::Folder;
 use oci_policies::{Bump, Policy, PolicyError, Reason};
 use rules::Specifications;
@@ -35,8 +41,7 @@ use std::alloc::{AllocError, Global};
 use std::fmt::Display;
 use std::fs;
 use std::process::ExitCode;
-use tar::Seekable;
-use watch::Started;
+use verify::verify;
 use words::{Words, words_of};
 
 fn main(rt: HostRuntime) -> ExitCode {
@@ -99,10 +104,8 @@ fn perform(rt: &HostRuntime, arena: &Bump, matches: &ArgMatches<'_>, words: &Wor
         return 2;
     }
     match name {
-        "verify" => match given.get_str("IMAGE") {
-            Some(name) => verify(rt, &options_in(given, has_colors(rt, given)), name),
-            None => 2,
-        },
+        "verify" => verify(rt, arena, given),
+        "inspect" => inspect_named(rt, given),
         "tree" => tree(rt, given.get_str("FILE").unwrap_or("-")),
         "fmt" => match formats_in(given, arena, rt.alloc()) {
             Ok(formats) => format_files(rt, given, formats.as_slice()),
@@ -180,9 +183,11 @@ pub(crate) fn out_of_memory(rt: &HostRuntime) -> u8 {
 /// Shows a document or an image layout as a tree.
 fn tree(rt: &HostRuntime, file: &str) -> u8 {
     if is_folder(rt, file) {
-        show(rt, file)
+        show_folder(rt, file)
+    } else if is_archive(rt, file) {
+        show_archive(rt, file)
     } else {
-        run(rt, &Asked::Tree(Tree { file, layout: None }))
+        run(rt, &Asked::Tree(file))
     }
 }
 
@@ -284,84 +289,69 @@ pub(crate) fn run_over(rt: &HostRuntime, store: &mut SystemFiles<'_>, asked: &As
     )
 }
 
-/// Verifies an image layout: a folder, or a tar archive of one.
-fn verify(rt: &HostRuntime, options: &Options, name: &str) -> u8 {
-    if is_file(rt, name) {
-        return verify_archive(rt, options, name);
-    }
-    if let Err(fault) = fs::read_dir(rt, name) {
-        return cannot_read(rt, name, &fault);
-    }
-    let folder = Folder { rt, root: name };
-    let mut writer = rt.stdout();
-    let mut errors = rt.stderr();
-    oci_commands::verify::run(
-        &folder,
-        options,
-        rt.alloc(),
-        &Started::now(rt),
-        &mut writer,
-        &mut errors,
-    )
-}
-
-/// Verifies the image layout in a tar archive.
-fn verify_archive(rt: &HostRuntime, options: &Options, name: &str) -> u8 {
-    let file = match fs::open(rt, name) {
-        Ok(file) => file,
-        Err(fault) => return cannot_read(rt, name, &fault),
-    };
-    let reader = match Seekable::new(file) {
-        Ok(reader) => reader,
-        Err(fault) => return cannot_read(rt, name, &fault),
-    };
-    let archive = ArchiveFile {
-        name,
-        source: &OnDisk { rt, path: name },
-        reader,
-    };
-    let mut writer = rt.stdout();
-    let mut errors = rt.stderr();
-    run_archive(
-        archive,
-        options,
-        rt.alloc(),
-        &Started::now(rt),
-        &mut writer,
-        &mut errors,
-    )
-}
-
 /// Says why a file cannot be read, and returns the status for that.
-fn cannot_read<D: Display>(rt: &HostRuntime, name: &str, fault: &D) -> u8 {
+pub(crate) fn cannot_read<D: Display>(rt: &HostRuntime, name: &str, fault: &D) -> u8 {
     tell(rt, name, fault);
     3
 }
 
-fn is_file(rt: &HostRuntime, name: &str) -> bool {
+pub(crate) fn is_file(rt: &HostRuntime, name: &str) -> bool {
     match fs::metadata(rt, name) {
         Ok(found) => found.is_file(),
         Err(_) => false,
     }
 }
 
-fn is_folder(rt: &HostRuntime, name: &str) -> bool {
+pub(crate) fn is_folder(rt: &HostRuntime, name: &str) -> bool {
     match fs::metadata(rt, name) {
         Ok(found) => found.is_dir(),
         Err(_) => false,
     }
 }
 
-/// Shows an image layout as a tree.
-fn show(rt: &HostRuntime, folder: &str) -> u8 {
-    match format!(in rt.alloc(); "{folder}/index.json") {
-        Ok(file) => {
-            let tree = Tree {
-                file: file.as_str(),
-                layout: Some(folder),
-            };
-            run(rt, &Asked::Tree(tree))
-        }
-        Err(_) => 3,
+/// Shows the image layout in a folder as a tree.
+fn show_folder(rt: &HostRuntime, root: &str) -> u8 {
+    match index_of(rt, root) {
+        Ok(name) => tree_of_layout(
+            &Folder { rt, root },
+            name.as_str(),
+            rt.alloc(),
+            &mut rt.stdout(),
+            &mut rt.stderr(),
+        ),
+        Err(_) => out_of_memory(rt),
     }
+}
+
+/// Shows the image layout in a tar archive as a tree.
+fn show_archive(rt: &HostRuntime, name: &str) -> u8 {
+    match Archive::open(rt, name) {
+        Ok(archive) => show_packed(rt, &archive, name),
+        Err(fault) => cannot_read(rt, name, &fault),
+    }
+}
+
+fn show_packed(rt: &HostRuntime, archive: &Archive, name: &str) -> u8 {
+    let source = OnDisk {
+        file: &archive.file,
+    };
+    let packed = Packed {
+        source: &source,
+        index: &archive.index,
+    };
+    match index_of(rt, name) {
+        Ok(name) => tree_of_layout(
+            &packed,
+            name.as_str(),
+            rt.alloc(),
+            &mut rt.stdout(),
+            &mut rt.stderr(),
+        ),
+        Err(_) => out_of_memory(rt),
+    }
+}
+
+/// How the index of a layout is called.
+fn index_of(rt: &HostRuntime, root: &str) -> Result<String, AllocError> {
+    format!(in rt.alloc(); "{root}/index.json")
 }

@@ -1,10 +1,14 @@
 //! The names of rules that the command line may give.
 use crate::rules::Specifications;
 use clap::ArgMatches;
+use oci_agreement::AGREEMENTS;
 use oci_base::escaped;
 use oci_commands::nearest::{add_names, add_rules, nearest};
 use oci_rules::Rule;
 use std::alloc::{AllocError, Global};
+
+/// The rule on compressed layers, beside their DiffIDs.
+const LAYERS: &str = "layer-archive";
 
 /// What can be ignored beside rules of the specifications and of a policy.
 const OTHERS: [&str; 3] = ["schema", "unknown", "repeated"];
@@ -80,11 +84,15 @@ fn fault_of(
     Ok(None)
 }
 
-/// The names of all rules of the specifications, and of those of a policy.
+/// The names of all rules of the specifications, also of those on documents that belong together, and of those of a policy.
 fn names_of<'a>(policy: &'a [Rule<'_>], alloc: Global) -> Result<Vec<&'a str>, AllocError> {
     let mut names = Vec::new(alloc);
     add_rules(&Specifications, &mut names, alloc)?;
     add_names(policy, &mut names)?;
+    for agreement in AGREEMENTS {
+        names.push(agreement.description().name)?;
+    }
+    names.push(LAYERS)?;
     Ok(names)
 }
 

@@ -3,7 +3,8 @@ mod digests;
 
 use self::digests::{DIGEST, PIN};
 use crate::described::{
-    Argument, Bond, COLOR, Described, FILE, FINDINGS, FORMAT, KIND, KINDS, PLAIN, QUIET, Takes,
+    Argument, Bond, COLOR, Described, FILE, FINDINGS, FORMAT, IGNORE, KIND, KINDS, LEVEL,
+    NO_CONFIG, ONLY, PLAIN, POLICY, QUIET, RULES, Takes, UNKNOWN,
 };
 
 /// What checks documents.
@@ -13,33 +14,9 @@ pub static CHECKING: [Described; 1] = [Described {
     example: "Example: ciderglen check --kind manifest image/manifest.json",
     arguments: &[
         KIND,
-        Argument {
-            name: "rules",
-            help: "Check the rules of the specifications beside the schema",
-            ..PLAIN
-        },
-        Argument {
-            name: "policy",
-            help: "Check the rules of the policy in this TOML file too",
-            takes: Takes::Value("FILE"),
-            ..PLAIN
-        },
-        Argument {
-            name: "level",
-            help: "The weakest level of rules that are checked, with --rules or --policy;
-without it, should. Levels are by the sentence that a rule is from:
-  must    it says MUST or REQUIRED
-  stated  it has no such word, and says what a document has
-  should  it says SHOULD or RECOMMENDED, or calls something deprecated
-  host    none asks it; the kernel or every runtime refuses it
-A broken rule of must or stated is an error, one of should or host a
-warning
-[possible values: must, stated, should, host]",
-            takes: Takes::Value("LEVEL"),
-            values: &["must", "stated", "should", "host"],
-            lists_values: true,
-            ..PLAIN
-        },
+        RULES,
+        POLICY,
+        LEVEL,
         Argument {
             name: "platform",
             help: "The platform of the documents; without it, they say it
@@ -49,43 +26,20 @@ warning
             lists_values: true,
             ..PLAIN
         },
-        Argument {
-            name: "unknown",
-            help: "What is done with members that the schema does not list;
-without it, allow
-[possible values: deny, warn, allow]",
-            takes: Takes::Value("UNKNOWN"),
-            values: &["deny", "warn", "allow"],
-            lists_values: true,
-            ..PLAIN
-        },
+        UNKNOWN,
         Argument {
             name: "skip-unknown",
             help: "Say nothing of JSON of which no kind of documents is found",
             ..PLAIN
         },
-        Argument {
-            name: "only",
-            help: "Of all rules check this one; may be given several times",
-            takes: Takes::Values("RULE"),
-            ..PLAIN
-        },
-        Argument {
-            name: "ignore",
-            help: "Say nothing where this rule is broken; may be given several times",
-            takes: Takes::Values("RULE"),
-            ..PLAIN
-        },
+        ONLY,
+        IGNORE,
         Argument {
             name: "strict",
             help: "Warnings make a document wrong too",
             ..PLAIN
         },
-        Argument {
-            name: "no-config",
-            help: "Do not look for the file .ciderglen.toml of a folder",
-            ..PLAIN
-        },
+        NO_CONFIG,
         FINDINGS,
         COLOR,
         Argument {
@@ -169,19 +123,26 @@ unknown ones, and earlier ones of one name",
 }];
 
 /// What verifies, compares and shows images.
-pub static IMAGES: [Described; 3] = [
+pub static IMAGES: [Described; 4] = [
     Described {
         name: "verify",
         about: "Verifies that all that an image layout reaches is there and is what it claims to be",
         example: "Example: ciderglen verify image",
         arguments: &[
-            FINDINGS,
-            COLOR,
+            RULES,
+            POLICY,
+            LEVEL,
+            UNKNOWN,
+            ONLY,
+            IGNORE,
             Argument {
                 name: "strict",
                 help: "Warnings and notes are wrong too",
                 ..PLAIN
             },
+            NO_CONFIG,
+            FINDINGS,
+            COLOR,
             Argument {
                 name: "quick",
                 help: "Look at the sizes of layers alone, and do not read them",
@@ -193,8 +154,51 @@ pub static IMAGES: [Described; 3] = [
                 ..PLAIN
             },
             Argument {
+                name: "verbose",
+                help: "Write how much was verified on standard error",
+                ..PLAIN
+            },
+            Argument {
                 name: "IMAGE",
-                help: "The image layout: a folder, or a tar archive of one",
+                help: "The image layout: a folder, or a tar archive of one, which gzip may have
+compressed; - is one on standard input",
+                takes: Takes::Word,
+                ..PLAIN
+            },
+        ],
+    },
+    Described {
+        name: "inspect",
+        about: "Shows an image of an image layout, found by its name and platform",
+        example: "Example: ciderglen inspect --platform linux/arm64 image:latest",
+        arguments: &[
+            Argument {
+                name: "platform",
+                help: "The platform on which it is to run, as linux/arm64/v8;\nof several images the one is taken that runs there best",
+                takes: Takes::Value("PLATFORM"),
+                ..PLAIN
+            },
+            Argument {
+                name: "manifest",
+                help: "Write the bytes of the manifest",
+                ..PLAIN
+            },
+            Argument {
+                name: "config",
+                help: "Write the bytes of the configuration",
+                bond: Bond::Without(&["manifest"]),
+                ..PLAIN
+            },
+            Argument {
+                name: "digest",
+                help: "Write the digest of the manifest",
+                bond: Bond::Without(&["manifest", "config"]),
+                ..PLAIN
+            },
+            FORMAT,
+            Argument {
+                name: "IMAGE",
+                help: "The image layout, a folder or a tar archive, and behind a colon\nthe name of an image in it, where it has several",
                 takes: Takes::Word,
                 ..PLAIN
             },
@@ -231,7 +235,8 @@ pub static IMAGES: [Described; 3] = [
         about: "Shows an image index, a manifest or an image layout as a tree",
         example: "Example: ciderglen tree index.json",
         arguments: &[Argument {
-            help: "The file to read, or the folder of an image layout; - is standard input, and so is no FILE",
+            help: "The file to read, or an image layout: a folder, or a tar archive of one;
+- is standard input, and so is no FILE",
             ..FILE
         }],
     },

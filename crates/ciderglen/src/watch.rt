@@ -1,5 +1,5 @@
 //! The time since the program began.
-use oci_commands::verify::Watch;
+use oci_verify::Watch;
 use std::time::Instant;
 
 /// The seconds since the program began.

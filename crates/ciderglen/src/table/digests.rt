@@ -61,7 +61,7 @@ pub const PIN: &[Argument] = &[
     },
     Argument {
         name: "layout",
-        help: "The folder of an image layout, whose index has the digest",
+        help: "The image layout, a folder or a tar archive, whose index has the digest",
         takes: Takes::Value("DIR"),
         ..PLAIN
     },
