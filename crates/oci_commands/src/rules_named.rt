@@ -13,7 +13,7 @@ use oci_rules::Rule;
 use oci_schemas::{KINDS, Kind};
 use std::alloc::{AllocError, Global};
 
-/// What is told of a rule: its row, and the line of its place.
+/// What is printed of a rule: its row, and the line of its place.
 #[derive(Drop)]
 struct Told {
     row: String,
